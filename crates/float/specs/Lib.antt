@@ -1,0 +1,4 @@
+-- What the functions of the crate answer, and the laws of binary64 that every later proof uses.
+pub mod Functions
+pub mod Split
+pub mod Laws

@@ -1,0 +1,74 @@
+// What Rust's f64 has as methods, and a finite pattern taken apart.
+ghost use mathlib.Core.Path.{_≡_};
+ghost use Prim.Native.Nat.{ℕ, _+_, _*_, _<_, _≤_, _%_, _^_, _/_};
+ghost use lib.Ieee.Scale.{finite};
+ghost use Rattle.float.specs.Functions.{absOf, maxOf, minOf, truncOf, ceilOf, roundOf, remEuclid360Of};
+ghost use Rattle.float.specs.Split.{Split};
+
+// The size of a value. 0.0 - x gives +0.0 for either zero.
+pub fn abs(x: f64) -> f64
+    ensures { λ r. ⌜ r ≡ absOf x ⌝ }
+{
+    if x <= 0.0 { 0.0 - x } else { x }
+}
+
+// The larger of two. A NaN loses to the other operand; where both compare equal, x.
+pub fn max(x: f64, y: f64) -> f64
+    ensures { λ r. ⌜ r ≡ maxOf x y ⌝ }
+{
+    if x != x {
+        return y;
+    }
+    if x < y { y } else { x }
+}
+
+// The smaller of two. A NaN loses to the other operand; where both compare equal, x.
+pub fn min(x: f64, y: f64) -> f64
+    ensures { λ r. ⌜ r ≡ minOf x y ⌝ }
+{
+    if x != x {
+        return y;
+    }
+    if y < x { y } else { x }
+}
+
+// Neither an infinity nor a NaN: those give a NaN here.
+pub fn is_finite(x: f64) -> bool
+    ensures { λ r. ⌜ r ≡ finite x ⌝ }
+{
+    x * 0.0 == 0.0
+}
+
+// `%`, plus 360 where that is negative.
+pub fn rem_euclid_360(x: f64) -> f64
+    ensures { λ r. ⌜ r ≡ remEuclid360Of x ⌝ }
+{
+    let r = x % 360.0;
+    if r < 0.0 { r + 360.0 } else { r }
+}
+
+// m * 2^e
+pub struct Parts {
+    pub m: u64,
+    pub e: u64,
+}
+
+// The value of a finite pattern above zero as m * 2^e in units of 2^-2150, with all 53 digits of m in use.
+pub fn split(b: u64) -> Parts
+    requires { ⌜ (0 < b) × (b < 2047 * 2 ^ 52) ⌝ }
+    ensures { λ r. ⌜ Split b (r .m) (r .e) ⌝ }
+{
+    let f = b / 4503599627370496;
+    let t = b % 4503599627370496;
+    if f == 0 {
+        let z = (u64::leading_zeros(t) - 11) as u64;
+        return Parts {
+            m: t << z,
+            e: 1076 - z,
+        };
+    }
+    Parts {
+        m: 4503599627370496 + t,
+        e: 1075 + f,
+    }
+}
