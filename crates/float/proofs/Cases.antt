@@ -5,35 +5,15 @@ use Prim.Native.Nat.{ℕ, zero, suc, _+_, _*_, _^_, _≤_, _<_}
 use native.Mathlib.Nat.{one-mul, mul-pos, pow-suc, zero-lt-suc}
 use native.Mathlib.Omega.{arith}
 use lib.IntN.{ℤ, pos, negsuc}
-use lib.Dec.{T, eqb→eq, not-T}
+use lib.Dec.{T, eqb→eq}
 use lib.Pow.{pow-pos}
 use lib.Ieee.{Float, nan, inf, fin, binary64, unlike, up, down, round, sub, mul, lt, le, eq, ne, isNan, fits, ofBits}
-use lib.Ieee.Bits.{is-false}
-use lib.Ieee.Compare.{differs-from-itself}
 use lib.Ieee.Fits.{up-pos, down-pos}
 use lib.Ieee.Scale.{finite}
 use Rattle.float.specs.Functions.{pick, absOf, maxOf, minOf}
 use Rattle.float.specs.Laws.Signed.{leq, leq→, →leq, zero-at, zero-of}
+use Rattle.float.specs.Laws.Tests.{yes, no, taken, left, nan-test}
 use Rattle.float.specs.Laws.Exact.{own-round}
-
--- ---- the arms of a test
-pub taken : (b : Bool) (x y : Float) → b ≡ true → x ≡ pick b x y
-taken b x y h = sym (ap (λ (c : Bool). pick c x y) h)
-
-pub left : (b : Bool) (x y : Float) → b ≡ false → y ≡ pick b x y
-left b x y h = sym (ap (λ (c : Bool). pick c x y) h)
-
-nan-no : (x : Float) → T (not (isNan x)) → x ≡ nan → ⊥
-unfolding isNan
-nan-no x h e = subst (λ (v : Float). T (not (isNan v))) e h
-
--- a NaN is what differs from itself
-pub nan-test : (x : Float) → isNan x ≡ ne x x
-unfolding isNan ne
-nan-test nan = refl
-nan-test (inf true) = refl
-nan-test (inf false) = refl
-nan-test (fin s m e) = sym (is-false (ne (fin s m e) (fin s m e)) (not-T (ne (fin s m e) (fin s m e)) (λ t. nan-no (fin s m e) tt (differs-from-itself (fin s m e) t))))
 
 -- ---- abs
 only-zero : (k : ℕ) → 2 ^ k * 1 ≡ 1 → k ≡ 0
@@ -59,12 +39,6 @@ zero-form s (suc m) e t h = absurd (none m h)
 abs-zero : sub binary64 (ofBits binary64 0) (fin false 0 (pos 0)) ≡ absOf (fin false 0 (pos 0))
 unfolding absOf sub ofBits
 abs-zero = refl
-
-yes : (b : Bool) → b ≡ true → T b
-yes b h = subst (λ (c : Bool). T c) (sym h) tt
-
-no : (b : Bool) → b ≡ false → T b → ⊥
-no b h t = subst (λ (c : Bool). T c) h t
 
 fits-sign : (m : ℕ) (e : ℤ) → T (fits binary64 (fin true m e)) → T (fits binary64 (fin false m e))
 unfolding fits

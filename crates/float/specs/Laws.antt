@@ -10,3 +10,6 @@ pub mod Expressions
 pub mod Remainder
 pub mod Patterns
 pub mod Exact
+pub mod Units
+pub mod Tests
+pub mod Integers

@@ -1,5 +1,6 @@
 use mathlib.Core.Path.{_∙_}
-use Rattle.float.proofs.Cases.{taken, left, max-nan, max-first}
+use Rattle.float.specs.Laws.Tests.{taken, left}
+use Rattle.float.proofs.Cases.{max-nan, max-first}
 use Rattle.float.proofs.max.Statement.{statement}
 use Rattle.float.proofs.max.Tie as tie
 

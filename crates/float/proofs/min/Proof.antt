@@ -1,5 +1,6 @@
 use mathlib.Core.Path.{_∙_}
-use Rattle.float.proofs.Cases.{taken, left, min-nan, min-first}
+use Rattle.float.specs.Laws.Tests.{taken, left}
+use Rattle.float.proofs.Cases.{min-nan, min-first}
 use Rattle.float.proofs.min.Statement.{statement}
 use Rattle.float.proofs.min.Tie as tie
 

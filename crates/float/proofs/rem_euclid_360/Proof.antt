@@ -1,5 +1,5 @@
 use Rattle.float.specs.Functions.{remEuclid360Of}
-use Rattle.float.proofs.Cases.{taken, left}
+use Rattle.float.specs.Laws.Tests.{taken, left}
 use Rattle.float.proofs.rem_euclid_360.Statement.{statement}
 use Rattle.float.proofs.rem_euclid_360.Tie as tie
 

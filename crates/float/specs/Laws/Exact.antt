@@ -41,7 +41,7 @@ same-value (fin t m e) (fin u n d) s a c C f g h k =
         (div-same (m * up e * 2 ^ 1074) (down e) (n * up d * 2 ^ 1074) (down d) (down-pos e) (down-pos d) (cross (m * up e) (n * up d) (down e) (down d) a c C (h .1) (k .1)))
 
 -- below the format's end
-fits-top : (s : Bool) (m : ℕ) (e : ℤ) → T (fits binary64 (fin s m e)) → m * up e < 2 ^ 1024 * down e
+pub fits-top : (s : Bool) (m : ℕ) (e : ℤ) → T (fits binary64 (fin s m e)) → m * up e < 2 ^ 1024 * down e
 unfolding fits
 fits-top s zero e t = none (up e) (down e) (down-pos e)
   where

@@ -1,0 +1,48 @@
+use borrow.Author.Needs.{needs}
+use mathlib.Core.Path.{sym, subst, _∙_}
+use native.Mathlib.Omega.{arith}
+use lib.Dec.{T}
+use lib.Ieee.{binary64, fits}
+use Rattle.float.specs.Laws.Units.{positive-bits}
+use Rattle.elementary.proofs.Logarithm.{positive-number, pattern-no-nan, exponent-fits, ln-split}
+use Rattle.elementary.proofs.ln_positive.Statement.{statement}
+use Rattle.elementary.proofs.ln_positive.Tie as tie
+
+-- what owning an f64 tells: the format holds it
+held : (c : tie.Start) → T (fits binary64 (c .args .v))
+held c = subst T (sym (c .good .0 .1)) tt
+
+float-to-bits-split : tie.Need-float-to-bits-split
+float-to-bits-split c = positive-number (c .args .v) (c .pre)
+
+split-requires : tie.Need-split-requires
+split-requires c κs = positive-bits (c .args .v) (c .pre) (held c)
+
+add-m : tie.Need-add-m
+add-m c = search needs
+
+float-from-bits-m : tie.Need-float-from-bits-m
+float-from-bits-m c = pattern-no-nan (c .before .split .result .m) (c .before .split .ensures .full) (c .before .split .ensures .small)
+
+int-to-float-e : tie.Need-int-to-float-e
+int-to-float-e c = exponent-fits (c .before .before .split .result .e) (c .before .before .split .ensures .high)
+
+ln-at-requires : tie.Need-ln-at-requires
+ln-at-requires c κs = search needs
+
+returns : tie.Need-returns
+returns c =
+    let s = c .before .before .before in
+    c .ln-at .ensures ∙ ln-split (s .before .args .v) (s .split .result .m) (s .split .result .e) (s .before .pre) (held (s .before)) (s .split .ensures)
+
+pub ln-positive-spec : {M : Type 1} → statement M
+ln-positive-spec =
+    tie.close
+    (tie.spec
+    float-to-bits-split
+    split-requires
+    add-m
+    float-from-bits-m
+    int-to-float-e
+    ln-at-requires
+    returns)

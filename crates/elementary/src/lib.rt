@@ -1,0 +1,280 @@
+// The elementary functions of document 01, for every f64.
+ghost use mathlib.Core.Path.{_≡_};
+ghost use lib.Dec.{T};
+ghost use lib.Ieee.Positive.{positive};
+ghost use Rattle.elementary.specs.Series.{seriesOf, evenOf, oddOf, sineTable, cosineTable, logarithmTable, exponentialTable, arctangentTable};
+ghost use Rattle.elementary.specs.Functions.{heldOf, toRadiansOf, toDegreesOf, hypotOf, turnOf, quadrantOf, restOf, sinOf, cosOf, tanOf, lnAt, lnOf, expOf, halvedOf, atanAt, atanUp, atanOf, angleOf, sidedOf, atan2Of, acosOf};
+
+const PI: f64 = 3.141592653589793;
+const FRAC_PI_2: f64 = 1.5707963267948966;
+const TAU: f64 = 6.283185307179586;
+const LN_2: f64 = 0.6931471805599453;
+
+// 1/21!, -1/19!, .., 1
+const SINE: [f64; 11] = [
+    1.9572941063391263e-20,
+    -8.22063524662433e-18,
+    2.8114572543455206e-15,
+    -7.647163731819816e-13,
+    1.6059043836821613e-10,
+    -2.505210838544172e-08,
+    2.7557319223985893e-06,
+    -0.0001984126984126984,
+    0.008333333333333333,
+    -0.16666666666666666,
+    1.0,
+];
+
+// 1/20!, -1/18!, .., 1
+const COSINE: [f64; 11] = [
+    4.110317623312165e-19,
+    -1.5619206968586225e-16,
+    4.779477332387385e-14,
+    -1.1470745597729725e-11,
+    2.08767569878681e-09,
+    -2.755731922398589e-07,
+    2.48015873015873e-05,
+    -0.001388888888888889,
+    0.041666666666666664,
+    -0.5,
+    1.0,
+];
+
+// 1/33, 1/31, .., 1
+const LOGARITHM: [f64; 17] = [
+    0.030303030303030304,
+    0.03225806451612903,
+    0.034482758620689655,
+    0.037037037037037035,
+    0.04,
+    0.043478260869565216,
+    0.047619047619047616,
+    0.05263157894736842,
+    0.058823529411764705,
+    0.06666666666666667,
+    0.07692307692307693,
+    0.09090909090909091,
+    0.1111111111111111,
+    0.14285714285714285,
+    0.2,
+    0.3333333333333333,
+    1.0,
+];
+
+// 1/18!, 1/17!, .., 1
+const EXPONENTIAL: [f64; 19] = [
+    1.5619206968586225e-16,
+    2.8114572543455206e-15,
+    4.779477332387385e-14,
+    7.647163731819816e-13,
+    1.1470745597729725e-11,
+    1.6059043836821613e-10,
+    2.08767569878681e-09,
+    2.505210838544172e-08,
+    2.755731922398589e-07,
+    2.7557319223985893e-06,
+    2.48015873015873e-05,
+    0.0001984126984126984,
+    0.001388888888888889,
+    0.008333333333333333,
+    0.041666666666666664,
+    0.16666666666666666,
+    0.5,
+    1.0,
+    1.0,
+];
+
+// -1/23, 1/21, .., 1
+const ARCTANGENT: [f64; 12] = [
+    -0.043478260869565216,
+    0.047619047619047616,
+    -0.05263157894736842,
+    0.058823529411764705,
+    -0.06666666666666667,
+    0.07692307692307693,
+    -0.09090909090909091,
+    0.1111111111111111,
+    -0.14285714285714285,
+    0.2,
+    -0.3333333333333333,
+    1.0,
+];
+
+// A series by Horner, from the highest term.
+fn series(t: &[f64], v: f64) -> f64
+    ensures { λ r. ⌜ r ≡ seriesOf (now (t .entry)) v ⌝ }
+{
+    if t.len() == 0 {
+        return 0.0;
+    }
+    let mut acc = t[0];
+    let mut i = 1;
+    while i < t.len() {
+        acc = acc * v + t[i];
+        i += 1;
+    }
+    acc
+}
+
+fn sine_series(u: f64) -> f64
+    ensures { λ r. ⌜ r ≡ oddOf sineTable u ⌝ }
+{
+    let t = SINE;
+    series(&t, u * u) * u
+}
+
+fn cosine_series(u: f64) -> f64
+    ensures { λ r. ⌜ r ≡ evenOf cosineTable u ⌝ }
+{
+    let t = COSINE;
+    series(&t, u * u)
+}
+
+fn logarithm_series(s: f64) -> f64
+    ensures { λ r. ⌜ r ≡ oddOf logarithmTable s ⌝ }
+{
+    let t = LOGARITHM;
+    series(&t, s * s) * s
+}
+
+fn exponential_series(u: f64) -> f64
+    ensures { λ r. ⌜ r ≡ seriesOf exponentialTable u ⌝ }
+{
+    let t = EXPONENTIAL;
+    series(&t, u)
+}
+
+fn arctangent_series(v: f64) -> f64
+    ensures { λ r. ⌜ r ≡ oddOf arctangentTable v ⌝ }
+{
+    let t = ARCTANGENT;
+    series(&t, v * v) * v
+}
+
+// v held to lo .. hi.
+fn held(lo: f64, hi: f64, v: f64) -> f64
+    ensures { λ r. ⌜ r ≡ heldOf lo hi v ⌝ }
+{
+    if v < lo {
+        return lo;
+    }
+    if hi < v { hi } else { v }
+}
+
+pub fn to_radians(x: f64) -> f64
+    ensures { λ r. ⌜ r ≡ toRadiansOf x ⌝ }
+{
+    x * 0.017453292519943295
+}
+
+pub fn to_degrees(x: f64) -> f64
+    ensures { λ r. ⌜ r ≡ toDegreesOf x ⌝ }
+{
+    x * 57.29577951308232
+}
+
+pub fn hypot(x: f64, y: f64) -> f64
+    ensures { λ r. ⌜ r ≡ hypotOf x y ⌝ }
+{
+    root::root(x * x + y * y)
+}
+
+// The logarithm of m * 2^e.
+fn ln_at(m: f64, e: f64) -> f64
+    ensures { λ r. ⌜ r ≡ lnAt m e ⌝ }
+{
+    let s = (m - 1.0) / (m + 1.0);
+    e * LN_2 + 2.0 * logarithm_series(s)
+}
+
+fn ln_positive(v: f64) -> f64
+    requires { ⌜ T (positive v) ⌝ }
+    ensures { λ r. ⌜ r ≡ lnOf v ⌝ }
+{
+    let p = float::split(f64::to_bits(v));
+    let m = f64::from_bits(p.m + 4602678819172646912);
+    let e = (p.e as f64) - 2098.0;
+    ln_at(m, e)
+}
+
+// -infinity at both zeros, NaN below them.
+pub fn ln(v: f64) -> f64
+    ensures { λ r. ⌜ r ≡ lnOf v ⌝ }
+{
+    if v < 0.0 {
+        return 0.0 / 0.0;
+    }
+    if v == 0.0 {
+        return -1.0 / 0.0;
+    }
+    if float::is_finite(v) {
+        return ln_positive(v);
+    }
+    v
+}
+
+// The tangent of half the angle.
+fn halved(v: f64) -> f64
+    ensures { λ r. ⌜ r ≡ halvedOf v ⌝ }
+{
+    v / (1.0 + root::root(1.0 + v * v))
+}
+
+fn atan_at(v: f64) -> f64
+    ensures { λ r. ⌜ r ≡ atanAt v ⌝ }
+{
+    let w = halved(halved(v));
+    held(0.0, FRAC_PI_2, 4.0 * arctangent_series(w))
+}
+
+fn atan_up(v: f64) -> f64
+    ensures { λ r. ⌜ r ≡ atanUp v ⌝ }
+{
+    if 1.0 < v {
+        return held(0.0, FRAC_PI_2, FRAC_PI_2 - atan_at(1.0 / v));
+    }
+    atan_at(v)
+}
+
+// Below 0, the opposite of the arc tangent of -v.
+pub fn atan(v: f64) -> f64
+    ensures { λ r. ⌜ r ≡ atanOf v ⌝ }
+{
+    if v < 0.0 {
+        return -atan_up(-v);
+    }
+    atan_up(v)
+}
+
+// The angle of (|x|, |y|): FRAC_PI_2 where x = 0, also at two zeros.
+fn angle(y: f64, x: f64) -> f64
+    ensures { λ r. ⌜ r ≡ angleOf y x ⌝ }
+{
+    if x == 0.0 {
+        return FRAC_PI_2;
+    }
+    atan(float::abs(y) / float::abs(x))
+}
+
+fn sided(y: f64, x: f64) -> f64
+    ensures { λ r. ⌜ r ≡ sidedOf y x ⌝ }
+{
+    let a = angle(y, x);
+    if x < 0.0 { PI - a } else { a }
+}
+
+pub fn atan2(y: f64, x: f64) -> f64
+    ensures { λ r. ⌜ r ≡ atan2Of y x ⌝ }
+{
+    if y != y {
+        return y;
+    }
+    let b = sided(y, x);
+    if y < 0.0 { -b } else { b }
+}
+
+pub fn acos(v: f64) -> f64
+    ensures { λ r. ⌜ r ≡ acosOf v ⌝ }
+{
+    2.0 * atan(root::root((1.0 - v) / (1.0 + v)))
+}
