@@ -1,3 +1,5 @@
 -- What the functions' proofs share.
 pub mod Horner
+pub mod Quarters
 pub mod Logarithm
+pub mod Powers

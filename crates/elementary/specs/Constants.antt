@@ -1,5 +1,5 @@
 -- The numbers that the recipes name. Each is the f64 of Rust's constant or of the literal, by its pattern.
-use lib.Ieee.{Float, binary64, ofBits}
+use lib.Ieee.{Float, binary64, neg, ofBits}
 
 abbrev pub zero : Float
 zero = ofBits binary64 0
@@ -24,7 +24,7 @@ c700 = ofBits binary64 0x4085e00000000000
 
 -- -700
 abbrev pub m700 : Float
-m700 = ofBits binary64 0xc085e00000000000
+m700 = neg c700
 
 -- std::f64::consts::PI, 3.141592653589793
 abbrev pub pi : Float

@@ -1,8 +1,9 @@
 -- The elementary functions of document 01, for every f64, operation by operation.
 use mathlib.Core.Bool.{Bool, true, false}
-use Prim.Native.Nat.{ℕ, zero, suc, _-_, _*_, _/_, _^_}
+use Prim.Native.Nat.{ℕ, zero, suc, _-_, _*_, _/_, _^_, _≤_}
 use lib.IntN.{ℤ, pos, negℤ}
 use lib.Ieee.{Float, nan, inf, fin, binary64, up, down, minus, size, round, ofInt, isNan, neg, add, sub, mul, div, rem, lt, eq}
+use lib.Ieee.Exact.{HasValue}
 use Rattle.float.specs.Functions.{pick, absOf, minOf, truncOf, roundOf}
 use Rattle.root.specs.Root.{rootOf}
 use Rattle.elementary.specs.Constants as K
@@ -36,20 +37,22 @@ restOf r = sub binary64 r (mul binary64 (quadrantOf r) K.fracPi2)
 abbrev pub quarter : Float → Float → Float → Float → Float → Float
 quarter q a b c d = pick (eq q K.zero) a (pick (eq q K.one) b (pick (eq q K.two) c d))
 
+-- the sine and the cosine where the quadrant is q and u is left in it
+unfoldable pub sineAt : Float → Float → Float
+sineAt q u = quarter q (oddOf sineTable u) (evenOf cosineTable u) (neg (oddOf sineTable u)) (neg (evenOf cosineTable u))
+
+unfoldable pub cosineAt : Float → Float → Float
+cosineAt q u = quarter q (evenOf cosineTable u) (neg (oddOf sineTable u)) (neg (evenOf cosineTable u)) (oddOf sineTable u)
+
 unfoldable pub sinOf : Float → Float
-unfolding turnOf quadrantOf restOf
+unfolding turnOf quadrantOf restOf sineAt
 sinOf t =
-    let q = quadrantOf (turnOf t) in
-    let u = restOf (turnOf t) in
-    let v = quarter q (oddOf sineTable u) (evenOf cosineTable u) (neg (oddOf sineTable u)) (neg (evenOf cosineTable u)) in
+    let v = sineAt (quadrantOf (turnOf t)) (restOf (turnOf t)) in
     pick (lt t K.zero) (neg v) v
 
 unfoldable pub cosOf : Float → Float
-unfolding turnOf quadrantOf restOf
-cosOf t =
-    let q = quadrantOf (turnOf t) in
-    let u = restOf (turnOf t) in
-    quarter q (evenOf cosineTable u) (neg (oddOf sineTable u)) (neg (evenOf cosineTable u)) (oddOf sineTable u)
+unfolding turnOf quadrantOf restOf cosineAt
+cosOf t = cosineAt (quadrantOf (turnOf t)) (restOf (turnOf t))
 
 unfoldable pub tanOf : Float → Float
 unfolding sinOf cosOf
@@ -82,6 +85,13 @@ twoTo nan = nan
 twoTo (inf s) = nan
 twoTo (fin true m e) = fin false 1 (negℤ (pos (m * up e / down e)))
 twoTo (fin false m e) = fin false 1 (pos (m * up e / down e))
+
+-- k is a whole number, at most 1010 in size: so 2 ^ k is a value of the format, and no subnormal one
+pub record Small (k : Float) : Type 0 where
+  pub minus : Bool
+  pub size : ℕ
+  pub whole : HasValue k minus size 1
+  pub most : size ≤ 1010
 
 -- v is held already, and k is the whole number nearest to v / LN_2
 unfoldable pub expAt : Float → Float → Float

@@ -3,3 +3,4 @@ pub mod Constants
 pub mod Series
 pub mod Functions
 pub mod Samples
+pub mod Laws

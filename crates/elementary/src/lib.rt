@@ -3,7 +3,7 @@ ghost use mathlib.Core.Path.{_≡_};
 ghost use lib.Dec.{T};
 ghost use lib.Ieee.Positive.{positive};
 ghost use Rattle.elementary.specs.Series.{seriesOf, evenOf, oddOf, sineTable, cosineTable, logarithmTable, exponentialTable, arctangentTable};
-ghost use Rattle.elementary.specs.Functions.{heldOf, toRadiansOf, toDegreesOf, hypotOf, turnOf, quadrantOf, restOf, sinOf, cosOf, tanOf, lnAt, lnOf, expOf, halvedOf, atanAt, atanUp, atanOf, angleOf, sidedOf, atan2Of, acosOf};
+ghost use Rattle.elementary.specs.Functions.{heldOf, toRadiansOf, toDegreesOf, hypotOf, turnOf, quadrantOf, restOf, sineAt, cosineAt, sinOf, cosOf, tanOf, lnAt, lnOf, Small, twoTo, expOf, halvedOf, atanAt, atanUp, atanOf, angleOf, sidedOf, atan2Of, acosOf};
 
 const PI: f64 = 3.141592653589793;
 const FRAC_PI_2: f64 = 1.5707963267948966;
@@ -179,6 +179,77 @@ pub fn hypot(x: f64, y: f64) -> f64
     root::root(x * x + y * y)
 }
 
+// A quadrant and what is left in it.
+struct Reduced {
+    q: f64,
+    u: f64,
+}
+
+fn reduce(t: f64) -> Reduced
+    ensures { λ r. ⌜ (r .q ≡ quadrantOf (turnOf t)) × (r .u ≡ restOf (turnOf t)) ⌝ }
+{
+    let r = float::abs(t) % TAU;
+    let q = float::min(float::trunc(r / FRAC_PI_2), 3.0);
+    Reduced {
+        q: q,
+        u: r - q * FRAC_PI_2,
+    }
+}
+
+fn sine_at(q: f64, u: f64) -> f64
+    ensures { λ r. ⌜ r ≡ sineAt q u ⌝ }
+{
+    if q == 0.0 {
+        return sine_series(u);
+    }
+    if q == 1.0 {
+        return cosine_series(u);
+    }
+    if q == 2.0 {
+        return -sine_series(u);
+    }
+    -cosine_series(u)
+}
+
+fn cosine_at(q: f64, u: f64) -> f64
+    ensures { λ r. ⌜ r ≡ cosineAt q u ⌝ }
+{
+    if q == 0.0 {
+        return cosine_series(u);
+    }
+    if q == 1.0 {
+        return -sine_series(u);
+    }
+    if q == 2.0 {
+        return -cosine_series(u);
+    }
+    sine_series(u)
+}
+
+pub fn sin(t: f64) -> f64
+    ensures { λ r. ⌜ r ≡ sinOf t ⌝ }
+{
+    let p = reduce(t);
+    let v = sine_at(p.q, p.u);
+    if t < 0.0 { -v } else { v }
+}
+
+pub fn cos(t: f64) -> f64
+    ensures { λ r. ⌜ r ≡ cosOf t ⌝ }
+{
+    let p = reduce(t);
+    cosine_at(p.q, p.u)
+}
+
+pub fn tan(t: f64) -> f64
+    ensures { λ r. ⌜ r ≡ tanOf t ⌝ }
+{
+    let p = reduce(t);
+    let v = sine_at(p.q, p.u);
+    let c = cosine_at(p.q, p.u);
+    if t < 0.0 { -v / c } else { v / c }
+}
+
 // The logarithm of m * 2^e.
 fn ln_at(m: f64, e: f64) -> f64
     ensures { λ r. ⌜ r ≡ lnAt m e ⌝ }
@@ -211,6 +282,26 @@ pub fn ln(v: f64) -> f64
         return ln_positive(v);
     }
     v
+}
+
+// 2^k, by the exponent's field.
+fn two_to(k: f64) -> f64
+    requires { ⌜ Small k ⌝ }
+    ensures { λ r. ⌜ r ≡ twoTo k ⌝ }
+{
+    let f = (k + 1023.0) as u64;
+    f64::from_bits(f * 4503599627370496)
+}
+
+pub fn exp(v: f64) -> f64
+    ensures { λ r. ⌜ r ≡ expOf v ⌝ }
+{
+    if v != v {
+        return v;
+    }
+    let w = held(-700.0, 700.0, v);
+    let k = float::round(w / LN_2);
+    exponential_series(w - k * LN_2) * two_to(k)
 }
 
 // The tangent of half the angle.

@@ -1,3 +1,4 @@
 -- What the functions' proofs share.
 pub mod Splitting
+pub mod Cutting
 pub mod Cases

@@ -9,7 +9,10 @@ pub mod Bisection
 pub mod Expressions
 pub mod Remainder
 pub mod Patterns
+pub mod Fields
 pub mod Exact
+pub mod Whole
 pub mod Units
-pub mod Tests
 pub mod Integers
+pub mod Tests
+pub mod Comparisons

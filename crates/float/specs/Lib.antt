@@ -1,4 +1,6 @@
 -- What the functions of the crate answer, and the laws of binary64 that every later proof uses.
 pub mod Functions
+pub mod Pointed
+pub mod Samples
 pub mod Split
 pub mod Laws

@@ -5,6 +5,12 @@ ghost use lib.Ieee.Scale.{finite};
 ghost use Rattle.float.specs.Functions.{absOf, maxOf, minOf, truncOf, ceilOf, roundOf, remEuclid360Of};
 ghost use Rattle.float.specs.Split.{Split};
 
+mod whole;
+
+pub use whole::ceil;
+pub use whole::round;
+pub use whole::trunc;
+
 // The size of a value. 0.0 - x gives +0.0 for either zero.
 pub fn abs(x: f64) -> f64
     ensures { λ r. ⌜ r ≡ absOf x ⌝ }

@@ -1,0 +1,54 @@
+use mathlib.Core.Path.{_≡_}
+use mathlib.Core.Bool.{true}
+use Prim.Native.Nat.{_-_}
+use native.Mathlib.Omega.{arith}
+use lib.Pow.{pow-pos}
+use lib.Ieee.{binary64, fits, toBits}
+use Rattle.float.specs.Pointed.{Pointed, fieldOf}
+use Rattle.float.specs.Laws.Whole.{trunc-cuts}
+use Rattle.float.proofs.Cutting.{nan-own, a-number, wide, large-own, small-trunc, zero-no-nan, cut-trunc}
+use Rattle.float.proofs.whole.trunc.Statement.{statement}
+use Rattle.float.proofs.whole.trunc.Tie as tie
+
+held : (c : tie.Start) → fits binary64 (c .args .x) ≡ true
+held c = c .good .0 .1
+
+returns : tie.Need-returns
+returns c = nan-own trunc-cuts (c .before .args .x) (c .if1 .taken)
+
+float-to-bits-b : tie.Need-float-to-bits-b
+float-to-bits-b c = a-number (c .before .args .x) (c .if1 .left)
+
+returns-2 : tie.Need-returns-2
+returns-2 c = large-own (c .before .before .args .x) (held (c .before .before)) trunc-cuts (c .if2 .taken)
+
+mul-result : tie.Need-mul-result
+mul-result c = omega (arith, wide (c .before .before .before .args .x) (held (c .before .before .before)))
+
+float-from-bits-result : tie.Need-float-from-bits-result
+float-from-bits-result c = zero-no-nan (c .before .before .before .args .x) (held (c .before .before .before))
+
+returns-3 : tie.Need-returns-3
+returns-3 c = small-trunc (c .before .before .before .args .x) (held (c .before .before .before)) (c .if3 .taken)
+
+point : (c : tie.Else3) → Pointed (toBits binary64 (c .before .before .before .args .x))
+point c = record { low = c .if3 .left; high = c .before .if2 .left }
+
+cut-requires : tie.Need-cut-requires
+cut-requires c κs = (point c, pow-pos (1075 - fieldOf (toBits binary64 (c .before .before .before .args .x))))
+
+returns-4 : tie.Need-returns-4
+returns-4 c = cut-trunc (c .before .before .before .before .args .x) (held (c .before .before .before .before)) (point (c .before)) (c .cut .result) (c .cut .ensures)
+
+pub trunc-spec : {M : Type 1} → statement M
+trunc-spec =
+    tie.close
+    (tie.spec
+    returns
+    float-to-bits-b
+    returns-2
+    mul-result
+    float-from-bits-result
+    returns-3
+    cut-requires
+    returns-4)
