@@ -1,0 +1,156 @@
+"""Cases and answers: reading both, counting what occurred, comparing."""
+
+import subprocess
+import sys
+from pathlib import Path
+
+ROOT = Path(__file__).resolve().parent.parent.parent
+BUILD = ROOT / "tests" / "oracle" / "build"
+ORACLE = ROOT / "target" / "oracle" / "oracle"
+GENERATE = ROOT / "target" / "oracle" / "generate"
+
+# Limit, work, positions, feature lines, warnings and allowance of `place`.
+PLACE_SIZES = (32768, 2048, 2048, 512, 512, 2000000)
+
+KINDS = "box circle ellipse arc line arrow spline text dot brace block".split()
+
+
+class Case:
+    def __init__(self, name, sizes, data):
+        self.name, self.sizes, self.data = name, sizes, data
+
+    def for_place(self):
+        return self.sizes == PLACE_SIZES
+
+    def text(self):
+        sizes = " ".join(map(str, self.sizes))
+        return f"case {self.name} {sizes} {len(self.data)}\n".encode() + self.data
+
+
+def build():
+    """The oracle and the generator; status 3 where they can't be had."""
+    status = subprocess.run([BUILD]).returncode
+    if status:
+        sys.exit(status)
+
+
+def generated(*args):
+    data = subprocess.run([GENERATE, *map(str, args)], check=True, stdout=subprocess.PIPE).stdout
+    at = 0
+    while at < len(data):
+        end = data.index(b"\n", at)
+        _, name, *numbers = data[at:end].decode().split(" ")
+        *sizes, length = map(int, numbers)
+        at = end + 1 + length
+        yield Case(name, tuple(sizes), data[end + 1 : at])
+
+
+def answered(cases, *options, program=ORACLE):
+    """Each case's lines, in the cases' order; None for a case that the program
+    did not come to, because it stopped."""
+    # `batch` reads all its input before it answers.
+    given = b"".join(case.text() for case in cases)
+    command = [program, "batch", *options]
+    out = subprocess.run(command, input=given, stdout=subprocess.PIPE, stderr=subprocess.PIPE)
+    blocks = out.stdout.decode().split("> ")[1:]
+    answers = [block.splitlines()[1:] for block in blocks]
+    if out.returncode != 0:
+        sys.stderr.write(out.stderr.decode())
+    return answers + [None] * (len(cases) - len(answers))
+
+
+def split(lines):
+    """The answer's lines, and what the oracle counted beside them."""
+    counted = [line for line in lines if line.startswith("T ")]
+    return [line for line in lines if not line.startswith("T ")], counted
+
+
+# The rows of the table, in its order: everything that can occur.
+ROWS = (
+    ["accepted"]
+    + [f"refused {n}" for n in range(19)]
+    + [f"warning {n}" for n in range(1, 7)]
+    + ["point", "line", "polygon"]
+    + ["role 0", "role 1 (fill)", "placement 0", "placement 1 (screen)"]
+    + ["part 0", "part above 0"]
+    + ["method 0 (anchor)", "method 1 (two points)", "method 2 (Helmert)"]
+    + ["control points 0", "control points 1", "control points 2", "control points 3 to 63"]
+    + ["control points 64"]
+    + ["spent mark 0", "spent mark 1", "allowance left 0"]
+    + [f"kind-{k}" for k in KINDS]
+    + [f"flag-{f}" for f in "hidden nested closed fill screen".split()]
+    + [f"draw-{p}" for p in "segment piece ellipse rounded-box sharp-box".split()]
+    # A piece and a sharp box are always granted what they want.
+    + [f"short-{p}" for p in "segment ellipse rounded-box split".split()]
+    + ["unwritten", "unused-outline"]
+)
+
+
+def rows_of(lines, counted):
+    """The rows that an answer belongs to, each as often as it occurred."""
+    for line in lines:
+        kind, *rest = line.split(" ")
+        if kind == "P":
+            continue
+        n = [int(v) for v in rest]
+        if kind == "E":
+            yield f"refused {n[0]}"
+        elif kind == "R":
+            yield "accepted"
+            yield ["method 0 (anchor)", "method 1 (two points)", "method 2 (Helmert)"][n[0]]
+            yield "control points " + (str(n[1]) if n[1] < 3 or n[1] == 64 else "3 to 63")
+        elif kind == "F":
+            yield ["point", "line", "polygon"][n[1]]
+            yield ["role 0", "role 1 (fill)"][n[2]]
+            yield ["placement 0", "placement 1 (screen)"][n[3]]
+            yield "part above 0" if n[4] else "part 0"
+        elif kind == "W":
+            yield f"warning {n[0]}"
+        elif kind == "B":
+            yield f"spent mark {n[1]}"
+            if n[0] == 0:
+                yield "allowance left 0"
+    # What the oracle counted beside an answer holds for one that is written.
+    if lines and lines[0].startswith("R "):
+        for line in counted:
+            yield line.split(" ")[1]
+
+
+class Table:
+    """How often each row occurred, in streams: in all, and under the sizes of
+    `place`."""
+
+    def __init__(self):
+        self.seen = {row: [0, 0] for row in ROWS}
+
+    def add(self, case, lines, counted):
+        for row in set(rows_of(lines, counted)):
+            self.seen[row][0] += 1
+            self.seen[row][1] += case.for_place()
+
+    def show(self):
+        print(f"{'streams in which it occurred':32}{'all':>9}{'place':>9}")
+        for row, (every, place) in self.seen.items():
+            print(f"{row:32}{every:9}{place:9}")
+
+    def empty(self):
+        return [row for row, counts in self.seen.items() if 0 in counts]
+
+
+def first_difference(ours, theirs):
+    """The first line in which two answers differ, or None."""
+    for k, (a, b) in enumerate(zip(ours, theirs)):
+        if a != b:
+            return k + 1, a, b
+    if len(ours) != len(theirs):
+        k = min(len(ours), len(theirs))
+        return k + 1, (ours + ["(nothing)"])[k], (theirs + ["(nothing)"])[k]
+    return None
+
+
+def placed(program, case):
+    """What the program `place` prints for a stream."""
+    out = subprocess.run([program], input=case.data, stdout=subprocess.PIPE)
+    if out.returncode != 0:
+        return [f"(status {out.returncode})"]
+    return out.stdout.decode("ascii", "replace").splitlines()

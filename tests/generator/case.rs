@@ -1,0 +1,52 @@
+// A stream with the sizes it is to be answered under.
+
+use crate::write::Doc;
+use std::io::{self, Write};
+
+#[derive(Clone)]
+pub struct Case {
+    pub name: String,
+    /// Most bytes of stream that are taken, 0 for any number.
+    pub limit: usize,
+    pub work: usize,
+    pub positions: usize,
+    pub features: usize,
+    pub warnings: usize,
+    pub allowance: usize,
+    pub bytes: Vec<u8>,
+}
+
+impl Case {
+    /// Under the sizes of the program `place`.
+    pub fn place(name: impl Into<String>, bytes: Vec<u8>) -> Case {
+        Case {
+            name: name.into(),
+            limit: 32_768,
+            work: 2_048,
+            positions: 2_048,
+            features: 512,
+            warnings: 512,
+            allowance: 2_000_000,
+            bytes,
+        }
+    }
+
+    pub fn doc(name: impl Into<String>, doc: &Doc) -> Case {
+        Case::place(name, doc.stream())
+    }
+
+    pub fn with(mut self, change: impl FnOnce(&mut Case)) -> Case {
+        change(&mut self);
+        self
+    }
+
+    pub fn write(&self, out: &mut impl Write) -> io::Result<()> {
+        let Case { name, limit, work, positions, features, warnings, allowance, bytes } = self;
+        let length = bytes.len();
+        writeln!(
+            out,
+            "case {name} {limit} {work} {positions} {features} {warnings} {allowance} {length}"
+        )?;
+        out.write_all(bytes)
+    }
+}

@@ -1,0 +1,49 @@
+// generate named | heavy | large
+// generate SEED COUNT
+//
+// Prints cases as `oracle batch` reads them: the named ones; those that use up
+// the whole allowance, which take seconds each; those at the limit of blocks,
+// 32 MiB each; or one case for each seed from SEED on. The same arguments give
+// the same bytes.
+
+mod case;
+mod damage;
+mod named;
+mod random;
+mod write;
+
+use case::Case;
+use std::io::{self, BufWriter, Write};
+use std::process::exit;
+
+fn main() {
+    let args: Vec<String> = std::env::args().skip(1).collect();
+    let args: Vec<&str> = args.iter().map(String::as_str).collect();
+    let mut out = BufWriter::new(io::stdout().lock());
+    match args[..] {
+        ["named"] => print(&mut out, named::all()),
+        ["heavy"] => print(&mut out, named::heavy()),
+        ["large"] => print(&mut out, named::large()),
+        [seed, count] => {
+            let (Ok(seed), Ok(count)) = (seed.parse::<u64>(), count.parse::<u64>()) else {
+                usage()
+            };
+            for s in seed..seed + count {
+                print(&mut out, vec![random::case(s)]);
+            }
+        }
+        _ => usage(),
+    }
+    out.flush().expect("the cases can be written");
+}
+
+fn usage() -> ! {
+    eprintln!("generate named|heavy|large, or generate SEED COUNT");
+    exit(2);
+}
+
+fn print(out: &mut impl Write, cases: Vec<Case>) {
+    for case in cases {
+        case.write(out).expect("the cases can be written");
+    }
+}

@@ -1,0 +1,272 @@
+// One case for each seed: scenes of every kind of record, most of them small
+// enough to be accepted, some under other sizes, some damaged.
+
+use crate::case::Case;
+use crate::damage;
+use crate::write::*;
+
+/// SplitMix64: each seed is a sequence of its own.
+pub struct Random(u64);
+
+impl Random {
+    pub fn new(seed: u64) -> Random {
+        let mut r = Random(seed ^ 0x5bd1_e995_9d1c_a7e5);
+        r.next();
+        r
+    }
+
+    pub fn next(&mut self) -> u64 {
+        self.0 = self.0.wrapping_add(0x9e37_79b9_7f4a_7c15);
+        let mut z = self.0;
+        z = (z ^ (z >> 30)).wrapping_mul(0xbf58_476d_1ce4_e5b9);
+        z = (z ^ (z >> 27)).wrapping_mul(0x94d0_49bb_1331_11eb);
+        z ^ (z >> 31)
+    }
+
+    pub fn below(&mut self, n: usize) -> usize {
+        (self.next() % n as u64) as usize
+    }
+
+    pub fn chance(&mut self, one_in: usize) -> bool {
+        self.below(one_in) == 0
+    }
+
+    /// From `a` to `b`, all bits of the fraction in use.
+    pub fn between(&mut self, a: f64, b: f64) -> f64 {
+        let t = (self.next() >> 11) as f64 / (1u64 << 53) as f64;
+        a + t * (b - a)
+    }
+
+    pub fn pick<T: Clone>(&mut self, list: &[T]) -> T {
+        list[self.below(list.len())].clone()
+    }
+}
+
+pub fn case(seed: u64) -> Case {
+    let mut r = Random::new(seed);
+    let doc = scene(&mut r);
+    let name = format!("seed-{seed}");
+    match r.below(20) {
+        0..=11 => Case::doc(name, &doc),
+        12 | 13 => Case::doc(name, &doc).with(|c| small_sizes(&mut r, c)),
+        14 | 15 => Case::doc(name, &doc).with(|c| c.allowance = [r.below(20), r.below(400)][r.below(2)]),
+        _ => Case::place(name, damage::damaged(&mut r, &doc)),
+    }
+}
+
+fn small_sizes(r: &mut Random, c: &mut Case) {
+    let mut size = |most: usize| if r.chance(2) { 2_048 } else { r.below(most) };
+    c.work = size(60);
+    c.positions = size(200);
+    c.features = size(8);
+    c.warnings = size(4);
+}
+
+const NAMES: [&str; 8] = ["A", "B", "C1", "Gate", "north", "p~", "x_lon", "q_______________________________"];
+
+fn name(r: &mut Random) -> String {
+    let n = r.pick(&NAMES);
+    n[..n.len().min(27)].to_string()
+}
+
+/// Coordinates with few bits, many bits, and the odd special one.
+fn coordinate(r: &mut Random, reach: f64) -> f64 {
+    match r.below(12) {
+        0 => 0.0,
+        1 => -0.0,
+        2..=4 => (r.between(-reach, reach) * 4.0).round() / 4.0,
+        5 => r.between(-reach, reach) * 1e-3,
+        6 if r.chance(300) => r.pick(&[1e6, -1e6, 1e-300, 999_999.875, f64::from_bits(1)]),
+        _ => r.between(-reach, reach),
+    }
+}
+
+fn point(r: &mut Random, reach: f64) -> Point {
+    [coordinate(r, reach), coordinate(r, reach)]
+}
+
+fn points(r: &mut Random, reach: f64) -> Vec<Point> {
+    let n = r.pick(&[0, 1, 2, 2, 3, 3, 4, 4, 5, 6, 9, 17]);
+    let mut list: Vec<Point> = (0..n).map(|_| point(r, reach)).collect();
+    if n > 1 && r.chance(4) {
+        // Closed by hand, at times with the other sign of zero.
+        list[n - 1] = list[0].map(|v| if v == 0.0 && r.chance(2) { -v } else { v });
+    }
+    if n > 2 && r.chance(8) {
+        list[1] = list[0];
+    }
+    list
+}
+
+fn cubic(r: &mut Random, from: Point, reach: f64) -> [Point; 3] {
+    let end = if r.chance(8) { from } else { point(r, reach) };
+    if r.chance(4) {
+        // Near its chord, about the usual tolerance away.
+        let along = |t: f64, off: f64| {
+            let d = [end[0] - from[0], end[1] - from[1]];
+            [from[0] + t * d[0] - off * d[1], from[1] + t * d[1] + off * d[0]]
+        };
+        let (a, b) = (r.between(-2e-3, 2e-3), r.between(-2e-3, 2e-3));
+        return [along(0.3, a), along(0.7, b), end];
+    }
+    [point(r, reach), point(r, reach), end]
+}
+
+fn part(r: &mut Random, role: u8, reach: f64) -> Part {
+    let closed = r.chance(3);
+    if r.chance(3) {
+        return Part::Polyline(role, closed, points(r, reach));
+    }
+    let start = point(r, reach);
+    let mut from = start;
+    let mut cubics: Vec<[Point; 3]> = Vec::new();
+    for _ in 0..r.pick(&[0, 1, 1, 1, 2, 3, 5]) {
+        let c = cubic(r, from, reach);
+        from = c[2];
+        cubics.push(c);
+    }
+    if closed && !cubics.is_empty() && r.chance(2) {
+        cubics.last_mut().expect("there is one")[2] = start;
+    }
+    Part::Cubics(role, closed, start, cubics)
+}
+
+fn item(r: &mut Random, reach: f64) -> Item {
+    let mut item = Item::new(r.below(11) as u8);
+    for flag in [HIDDEN, NESTED, CLOSED, FILL, SCREEN] {
+        let one_in = if flag == HIDDEN { 12 } else { 3 };
+        item.flags |= if r.chance(one_in) { flag } else { 0 };
+    }
+    if r.chance(4) {
+        item.label = name(r);
+    }
+    if r.chance(2) {
+        (item.line, item.column) = (r.below(4) as u32, r.below(4) as u32);
+    }
+    let present = |r: &mut Random| !r.chance(9);
+    let measure = |r: &mut Random| coordinate(r, reach).abs() * r.pick(&[0.5, 1.0, 1.0, 1.0, 1.0, 1.0, 1.0, -1.0]);
+    item.at = present(r).then(|| point(r, reach));
+    item.w = present(r).then(|| measure(r));
+    item.h = present(r).then(|| measure(r));
+    item.r = present(r).then(|| measure(r) * 0.5);
+    item.rad = r.chance(3).then(|| measure(r) * 0.25);
+    let lines = matches!(item.kind, LINE | ARROW);
+    let curves = matches!(item.kind, ARC | SPLINE | BRACE);
+    if lines && present(r) || r.chance(20) {
+        item.parts.push(Part::Points(0, points(r, reach)));
+        if r.chance(3) {
+            item.parts.push(Part::Points(1, points(r, reach)));
+        }
+    }
+    if curves && present(r) || r.chance(20) {
+        for _ in 0..r.pick(&[1, 1, 1, 2, 3]) {
+            item.parts.push(part(r, 0, reach));
+        }
+        for _ in 0..r.pick(&[0, 0, 1, 1, 2]) {
+            item.parts.push(part(r, 1, reach));
+        }
+    }
+    if r.chance(3) {
+        // Tags 7 and 8 follow in any order; paths keep their own.
+        let by = r.below(item.parts.len().max(1)) / 2;
+        item.parts.rotate_left(by);
+    }
+    item
+}
+
+fn latitude(r: &mut Random) -> f64 {
+    match r.below(60) {
+        0 => 85.06,
+        1 => -85.06,
+        2 => r.between(85.0, 92.0),
+        3 => -0.0,
+        _ => r.between(-84.0, 84.0),
+    }
+}
+
+fn longitude(r: &mut Random) -> f64 {
+    match r.below(60) {
+        0 => 180.0,
+        1 => -180.0,
+        2 => r.between(179.0, 182.0),
+        3 => -0.0,
+        _ => r.between(-180.0, 180.0),
+    }
+}
+
+fn scene(r: &mut Random) -> Doc {
+    let mut doc = Doc::new();
+    // Lengths such that a usual scene has some hundred positions.
+    let reach = r.pick(&[0.5, 2.0, 2.0, 10.0, 10.0, 100.0, 3000.0]);
+    let scale = r.between(5.0, 600.0) / reach * r.pick(&[0.01, 1.0, 1.0, 2.0, 8.0]);
+    if !r.chance(3) {
+        doc.vars.insert("geo_frame".into(), if r.chance(80) { 0.0 } else { 1.0 });
+    } else if !r.chance(60) {
+        doc.frame = Some(u8::from(!r.chance(60)));
+    }
+    if r.chance(4) {
+        doc.rescale = r.pick(&[0.5, 2.0, 1.25, 0.01, 3.3]);
+    }
+    if r.chance(2) {
+        doc.scale = Some(scale * doc.rescale);
+    } else if !r.chance(8) {
+        doc.vars.insert("geo_scale".into(), scale * doc.rescale);
+    }
+    if r.chance(3) {
+        doc.bearing = Some(r.between(-400.0, 400.0));
+    } else if r.chance(3) {
+        doc.vars.insert("geo_bearing".into(), r.between(-180.0, 180.0));
+    }
+    let tolerance = |r: &mut Random| reach * r.pick(&[1e-2, 1e-3, 3e-4, 0.1]);
+    if !r.chance(4) {
+        doc.flatten = Some(tolerance(r));
+    }
+    if r.chance(12) {
+        doc.vars.insert("geo_px".into(), r.pick(&[1.0, 1.0, 0.0, -0.0]));
+    }
+    if r.chance(9) || doc.vars.contains_key("geo_px") && !r.chance(8) {
+        doc.view_scale = Some(r.pick(&[1.0, 2.0, 0.75, 1.5, -1.0]));
+    }
+    if r.chance(2) {
+        doc.anchor = Some([longitude(r), latitude(r)]);
+    } else if !r.chance(5) {
+        doc.vars.insert("geo_lon".into(), longitude(r));
+        if !r.chance(30) {
+            doc.vars.insert("geo_lat".into(), latitude(r));
+        }
+    }
+    place_on_earth(r, &mut doc, reach, scale);
+    for _ in 0..r.pick(&[1, 1, 2, 3, 4, 6, 9]) {
+        let shape = item(r, reach);
+        doc.items.push(shape);
+    }
+    doc
+}
+
+/// Places, features and variables around one spot, so that a fit's scale is
+/// like the declared one.
+fn place_on_earth(r: &mut Random, doc: &mut Doc, reach: f64, scale: f64) {
+    let (lon, lat) = (longitude(r), latitude(r));
+    let degrees = reach * scale / 111_000.0;
+    let controls = r.pick(&[0, 0, 0, 1, 1, 2, 2, 3, 4, 6]);
+    for _ in 0..controls {
+        let label = name(r);
+        let (x, y) = (lon + r.between(-degrees, degrees), lat + r.between(-degrees, degrees));
+        if !r.chance(8) {
+            let (nested, line, column) = (r.below(2) as u8, r.below(3) as u32, r.below(3) as u32);
+            let spot = point(r, reach);
+            *doc = doc.clone().place_at(&label, spot, nested, line, column);
+        }
+        if r.chance(2) {
+            doc.features.push((label, x, y));
+        } else {
+            doc.vars.insert(format!("{label}_lon"), x);
+            if !r.chance(12) {
+                doc.vars.insert(format!("{label}_lat"), y);
+            }
+        }
+    }
+    if r.chance(8) {
+        doc.vars.insert("scale".into(), r.between(-1e9, 1e9));
+    }
+}

@@ -1,0 +1,154 @@
+// Compares every leaf of the static library with its stand-in, bit for bit; any
+// NaN equals any NaN. Arguments: COUNT for each leaf, and SEED.
+
+mod archive;
+mod arguments;
+#[path = "../standins.rs"]
+mod standins;
+
+use std::process::exit;
+use std::time::Instant;
+
+use arguments::{Arguments, Random};
+
+// Differences shown for each leaf.
+const SHOWN: u64 = 5;
+
+struct Leaf {
+    name: &'static str,
+    pair: bool,
+    archive: fn(f64, f64) -> f64,
+    standin: fn(f64, f64) -> f64,
+}
+
+macro_rules! one {
+    ($name:ident) => {
+        Leaf {
+            name: stringify!($name),
+            pair: false,
+            archive: |x, _| archive::$name(x).into(),
+            standin: |x, _| standins::$name(x).into(),
+        }
+    };
+}
+
+macro_rules! two {
+    ($name:ident) => {
+        Leaf {
+            name: stringify!($name),
+            pair: true,
+            archive: |x, y| archive::$name(x, y),
+            standin: |x, y| standins::$name(x, y),
+        }
+    };
+}
+
+const LEAVES: [Leaf; 20] = [
+    one!(abs),
+    two!(max),
+    two!(min),
+    one!(is_finite),
+    one!(trunc),
+    one!(ceil),
+    one!(round),
+    one!(rem_euclid_360),
+    one!(root),
+    two!(hypot),
+    one!(sin),
+    one!(cos),
+    one!(tan),
+    one!(ln),
+    one!(exp),
+    one!(atan),
+    two!(atan2),
+    one!(acos),
+    one!(to_radians),
+    one!(to_degrees),
+];
+
+struct Tally<'a> {
+    leaf: &'a Leaf,
+    compared: u64,
+    differences: u64,
+    shown: Vec<String>,
+}
+
+fn written(x: f64) -> String {
+    format!("{:#018x} ({x:?})", x.to_bits())
+}
+
+impl Tally<'_> {
+    fn compare(&mut self, (x, y): Arguments) {
+        let archive = (self.leaf.archive)(x, y);
+        let standin = (self.leaf.standin)(x, y);
+        self.compared += 1;
+        if archive.to_bits() == standin.to_bits() || archive.is_nan() && standin.is_nan() {
+            return;
+        }
+        self.differences += 1;
+        if self.differences <= SHOWN {
+            let mut line = format!("    of {}", written(x));
+            if self.leaf.pair {
+                line += &format!(", {}", written(y));
+            }
+            line += &format!(": archive {}, stand-in {}", written(archive), written(standin));
+            self.shown.push(line);
+        }
+    }
+}
+
+fn run<'a>(leaf: &'a Leaf, count: u64, seed: u64) -> Tally<'a> {
+    let mut tally = Tally { leaf, compared: 0, differences: 0, shown: Vec::new() };
+    let edges = if leaf.pair { arguments::pair_edges() } else { arguments::edges(leaf.name) };
+    for &x in &edges {
+        if leaf.pair {
+            for &y in &edges {
+                tally.compare((x, y));
+            }
+        } else {
+            tally.compare((x, 0.0));
+        }
+    }
+    let mut random = Random::new(seed, leaf.name);
+    let hard = arguments::hard(leaf.name);
+    let in_use = arguments::in_use(leaf.name);
+    while tally.compared < count {
+        let turn = tally.compared % 4;
+        tally.compare(match turn {
+            0 if leaf.pair => arguments::any_pair(&mut random, &edges),
+            0 => (arguments::anything(&mut random, &edges), 0.0),
+            1 => hard(&mut random),
+            _ => in_use(&mut random),
+        });
+    }
+    tally
+}
+
+fn argument(index: usize) -> u64 {
+    let text = std::env::args().nth(index);
+    text.and_then(|t| t.parse().ok()).unwrap_or_else(|| {
+        eprintln!("two whole numbers are wanted: COUNT SEED");
+        exit(2)
+    })
+}
+
+fn main() {
+    let (count, seed) = (argument(1), argument(2));
+    let start = Instant::now();
+    println!("{:<16}{:>14}{:>14}", "leaf", "arguments", "differences");
+    let (mut compared, mut differences) = (0, 0);
+    for leaf in &LEAVES {
+        let tally = run(leaf, count, seed);
+        println!("{:<16}{:>14}{:>14}", leaf.name, tally.compared, tally.differences);
+        for line in &tally.shown {
+            println!("{line}");
+        }
+        compared += tally.compared;
+        differences += tally.differences;
+    }
+    println!("{:<16}{compared:>14}{differences:>14}", "total");
+    println!("seed {seed}, {:.1} seconds", start.elapsed().as_secs_f64());
+    if differences > 0 {
+        exit(1);
+    }
+}

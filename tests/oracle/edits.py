@@ -1,0 +1,235 @@
+"""The counted edits that make the oracle of the source.
+
+Each edit is (how often the text occurs, the text, what takes its place). A
+count that differs, a file whose sum differs, or a library function of floats
+that is left over stops the build.
+"""
+
+import hashlib
+import re
+
+SUMS = {
+    "lib.rs": "be32109b9d180219d64fa80b6a1c4013e0aae924b85a9ef283085ce212f00bbd",
+    "geodesy.rs": "20a8f45e164e8f13f94cb979f53d06ff23d8576bafe8ef1c77d8f4d50969edbc",
+    "densify.rs": "c340abbda5710e73207e4c48d75ff2ac78def5bffd87154f75446e7bd1f1a16e",
+    "scene.rs": "b5602731b8382e5fc46334080cf4d6886c8749188feb3e2a8aefc6c1f419fd7f",
+    "register.rs": "ceea990c763054e2b980e8415a6038558e26fd9068be91512b0387ea9e43279f",
+    "convert.rs": "038c08f36ab5328251d130ed0ae78463dbeb3300276021e988e91d498af7e8e4",
+    "geojson.rs": "3d69a7a5e33f2bef158a0250c68d42b5505fafefa4cdb9020780d6e4a36bca01",
+}
+
+# Leaves: the library's method gives way to the stand-in's.
+LEAF = "use crate::leaf::Leaf as _;\n"
+
+
+def leaf(count, name, stand_in=None):
+    return (count, f".{name}(", f".leaf_{stand_in or name}(")
+
+
+EDITS = {
+    "lib.rs": [
+        # Neither is to be had; what records takes their place.
+        (1, "pub mod maplibre;\n", "pub mod front;\nmod leaf;\nmod record;\nmod standins;\npub mod stream;\n"),
+        (1, "#[cfg(test)]\nmod tests;\n", ""),
+        (1, "use std::fmt;\n", "use std::fmt;\n" + LEAF),
+        leaf(2, "is_finite"),
+        # Every warning is numbered as it is made.
+        (
+            1,
+            "    /// A warning with no item attached.\n"
+            "    pub fn new(kind: &str, message: impl Into<String>) -> Self {\n",
+            "    pub fn new(kind: &str, message: impl Into<String>) -> Self {\n"
+            "        record::warning(kind);\n",
+        ),
+        (
+            1,
+            "        self.id = Some(item.id.clone());\n",
+            "        record::on_item(&item.id);\n        self.id = Some(item.id.clone());\n",
+        ),
+    ],
+    "geodesy.rs": [
+        (1, "use crate::GeoError;\n", "use crate::GeoError;\n" + LEAF),
+        leaf(2, "abs"),
+        leaf(2, "is_finite"),
+        (1, ".rem_euclid(360.0)", ".leaf_rem_euclid_360()"),
+        leaf(1, "hypot"),
+        leaf(1, "sin"),
+        leaf(1, "cos"),
+        leaf(1, "tan"),
+        leaf(1, "ln"),
+        leaf(1, "exp"),
+        leaf(1, "atan"),
+        leaf(1, "atan2"),
+        leaf(3, "to_radians"),
+        leaf(3, "to_degrees"),
+        (
+            1,
+            "-> Result<LonLat, GeoError> {\n",
+            "-> Result<LonLat, GeoError> {\n        crate::record::checked(lon, lat);\n",
+        ),
+    ],
+    "densify.rs": [
+        (
+            1,
+            "use crate::register::Registration;\n",
+            "use crate::record::{self, Producer};\nuse crate::register::Registration;\n" + LEAF,
+        ),
+        leaf(2, "abs"),
+        (1, "d(c1).max(d(c2))", "d(c1).leaf_max(d(c2))"),
+        (1, "tol.max(1e-9)", "tol.leaf_max(1e-9)"),
+        (1, "by_tol.max(by_step)", "by_tol.leaf_max(by_step)"),
+        (1, "rx.max(ry)", "rx.leaf_max(ry)"),
+        (1, "rad.max(0.0).min(hw).min(hh)", "rad.leaf_max(0.0).leaf_min(hw).leaf_min(hh)"),
+        leaf(3, "is_finite"),
+        leaf(3, "ceil"),
+        leaf(3, "hypot"),
+        leaf(2, "sin"),
+        leaf(2, "cos"),
+        leaf(1, "acos"),
+        leaf(1, "to_radians"),
+        # The allowance to start from is a parameter of the tests.
+        (1, "left: MAX_VERTICES,", "left: record::allowance(),"),
+        # Every draw, and who makes it.
+        (
+            1,
+            "        self.left = self.left.saturating_sub(n);\n",
+            "        self.left = self.left.saturating_sub(n);\n"
+            "        record::draw(wanted, floor, n, self.left);\n",
+        ),
+        (
+            1,
+            "                budget.hit = true;\n",
+            "                budget.hit = true;\n                record::unsplit();\n",
+        ),
+        (
+            1,
+            "            budget.take(1, 1);\n",
+            "            record::producer(Producer::Piece);\n            budget.take(1, 1);\n",
+        ),
+        (
+            1,
+            "        let n = budget.take(wanted, 1);\n",
+            "        record::producer(Producer::Segment);\n        let n = budget.take(wanted, 1);\n",
+        ),
+        (
+            1,
+            "    let n = budget.take(arc_vertices(",
+            "    record::producer(Producer::Ellipse);\n    let n = budget.take(arc_vertices(",
+        ),
+        (
+            1,
+            "        budget.take(4, 4);\n",
+            "        record::producer(Producer::SharpBox);\n        budget.take(4, 4);\n",
+        ),
+        (
+            1,
+            "        let per_quarter = budget.take(wanted * 4, 8) / 4;\n",
+            "        record::producer(Producer::RoundedBox);\n"
+            "        let per_quarter = budget.take(wanted * 4, 8) / 4;\n",
+        ),
+        # A ring's points, for the work that it needs.
+        (
+            2,
+            "    close_ring(&mut pts);\n    pts\n}",
+            "    close_ring(&mut pts);\n    record::ring(pts.len());\n    pts\n}",
+        ),
+    ],
+    "register.rs": [
+        (
+            1,
+            "use crate::scene::Scene;\n",
+            "use crate::record;\nuse crate::scene::Scene;\n" + LEAF,
+        ),
+        leaf(6, "is_finite"),
+        leaf(1, "max"),
+        leaf(1, "sqrt", "root"),
+        leaf(1, "hypot"),
+        leaf(4, "sin"),
+        leaf(4, "cos"),
+        leaf(1, "atan2"),
+        leaf(2, "to_radians"),
+        leaf(1, "to_degrees"),
+        # Refusals 7, 8 and 9 stand before what the source refuses later.
+        (
+            1,
+            "    // declared scale and bearing",
+            "    record::frame(frame)?;\n    // declared scale and bearing",
+        ),
+        (
+            1,
+            "    let reg = match controls.len() {\n",
+            "    record::resolved(controls.len())?;\n    let reg = match controls.len() {\n",
+        ),
+        # Which feature or variable a warning is about.
+        (
+            1,
+            "    for NamedFeature { name, lon, lat, .. } in &opts.features {\n",
+            "    for NamedFeature { name, lon, lat, .. } in &opts.features {\n"
+            "        record::host_feature();\n",
+        ),
+        (
+            1,
+            '        if name == "geo" {\n',
+            '        record::lon_variable(name);\n        if name == "geo" {\n',
+        ),
+        (1, "    // declared anchor\n", "    record::anchor();\n"),
+    ],
+    "convert.rs": [
+        (
+            1,
+            "use crate::register::Registration;\n",
+            "use crate::record;\nuse crate::register::Registration;\n" + LEAF,
+        ),
+        leaf(1, "round"),
+        (
+            1,
+            "        if pts.len() < 2 {\n",
+            "        record::shape(pts, closed, fill_outline);\n        if pts.len() < 2 {\n",
+        ),
+        (
+            1,
+            "        self.out.push(Feature::new(geometry, props));\n",
+            "        record::feature(&geometry, &props);\n"
+            "        self.out.push(Feature::new(geometry, props));\n",
+        ),
+        (
+            1,
+            "    if ctx.budget.hit {\n",
+            "    record::end(ctx.budget.left, ctx.budget.hit);\n    if ctx.budget.hit {\n",
+        ),
+    ],
+    "scene.rs": [],
+    "geojson.rs": [],
+}
+
+# What the library rounds in its own way, or may on another machine. The square
+# of the residual's distance stays: it is 0.
+LEFT_OVER = re.compile(
+    r"\.(sin|cos|tan|asin|acos|atan|atan2|sinh|cosh|tanh|ln|log|log2|log10|exp|exp2|"
+    r"sqrt|cbrt|hypot|powf|mul_add|to_radians|to_degrees|rem_euclid|div_euclid|"
+    r"round|ceil|floor|trunc|fract|abs|is_finite)\("
+)
+
+
+class Changed(Exception):
+    pass
+
+
+def replaced(name, text, count, old, new):
+    found = text.count(old)
+    if found != count:
+        raise Changed(f"{name}: {found} times instead of {count}: {old!r}")
+    return text.replace(old, new)
+
+
+def edited(name, data):
+    """The text of a source file with its edits made."""
+    if hashlib.sha256(data).hexdigest() != SUMS[name]:
+        raise Changed(f"{name}: the source is not the one the edits were made for")
+    text = data.decode("utf-8")
+    for count, old, new in EDITS[name]:
+        text = replaced(name, text, count, old, new)
+    left = LEFT_OVER.search(text)
+    if left:
+        raise Changed(f"{name}: {left.group()} still goes to the library")
+    return text

@@ -1,0 +1,215 @@
+// oracle place [OPTIONS] < stream
+// oracle batch [OPTIONS] < cases
+//
+// `place` answers one stream under the sizes of document 01's program. `batch`
+// answers cases one after another; each is a line
+//     case NAME LIMIT WORK POSITIONS FEATURES WARNINGS ALLOWANCE LENGTH
+// (LIMIT bytes of stream at most, 0 for any; then whole points, positions,
+// feature lines, warnings), followed by LENGTH bytes; each answer stands
+// after a line `> NAME`.
+//
+// Options: --work N, --positions N, --features N, --warnings N, --allowance N
+// and --limit N set sizes for `place`. --scene prints the parsed scene before
+// the answer where 1 to 6 do not refuse, --registration the registration (G)
+// where 7 to 14 do not; after each P, --bits prints the position's bits (Q);
+// after B, --draws prints every draw (D: want, floor, grant, left). --tally
+// ends an answer with what occurred in it (T).
+
+use geopic_core::front::{self, Answer, Producer, Sizes};
+use geopic_core::stream::{self, Parsed};
+use std::collections::BTreeMap;
+use std::fmt::Write as _;
+use std::io::{self, Read, Write as _};
+use std::process::exit;
+
+mod dump;
+
+#[derive(Default)]
+struct Shown {
+    scene: bool,
+    registration: bool,
+    bits: bool,
+    draws: bool,
+    tally: bool,
+}
+
+fn main() {
+    let mut args = std::env::args().skip(1);
+    let mode = args.next().unwrap_or_default();
+    let mut shown = Shown::default();
+    let mut limit = 32_768;
+    let mut sizes = Sizes {
+        work: 2_048,
+        positions: 2_048,
+        features: 512,
+        warnings: 512,
+        allowance: 2_000_000,
+    };
+    while let Some(arg) = args.next() {
+        let mut value = || args.next().and_then(|v| v.parse().ok()).unwrap_or_else(|| usage());
+        match arg.as_str() {
+            "--scene" => shown.scene = true,
+            "--registration" => shown.registration = true,
+            "--bits" => shown.bits = true,
+            "--draws" => shown.draws = true,
+            "--tally" => shown.tally = true,
+            "--work" => sizes.work = value(),
+            "--positions" => sizes.positions = value(),
+            "--features" => sizes.features = value(),
+            "--warnings" => sizes.warnings = value(),
+            "--allowance" => sizes.allowance = value(),
+            "--limit" => limit = value(),
+            _ => usage(),
+        }
+    }
+    let mut input = Vec::new();
+    io::stdin().read_to_end(&mut input).expect("the input can be read");
+    let mut out = String::new();
+    match mode.as_str() {
+        "place" => {
+            answer(&input, limit, sizes, &shown, &mut out);
+            print(&out);
+        }
+        "batch" => batch(&input, &shown),
+        _ => usage(),
+    }
+}
+
+fn usage() -> ! {
+    eprintln!("oracle place|batch [OPTIONS] < INPUT");
+    exit(2);
+}
+
+fn print(text: &str) {
+    io::stdout().write_all(text.as_bytes()).expect("the answer can be written");
+}
+
+fn batch(mut input: &[u8], shown: &Shown) {
+    while let Some(end) = input.iter().position(|b| *b == b'\n') {
+        let line = String::from_utf8_lossy(&input[..end]).into_owned();
+        let fields: Vec<&str> = line.split(' ').collect();
+        let numbers: Vec<usize> = fields.iter().skip(2).filter_map(|f| f.parse().ok()).collect();
+        let ["case", name, ..] = fields[..] else { usage() };
+        let [limit, work, positions, features, warnings, allowance, length] = numbers[..] else {
+            usage()
+        };
+        let sizes = Sizes {
+            work,
+            positions,
+            features,
+            warnings,
+            allowance,
+        };
+        let (bytes, rest) = input[end + 1..].split_at(length);
+        let mut out = format!("> {name}\n");
+        answer(bytes, limit, sizes, shown, &mut out);
+        print(&out);
+        input = rest;
+    }
+}
+
+fn answer(bytes: &[u8], limit: usize, sizes: Sizes, shown: &Shown, out: &mut String) {
+    if limit != 0 && bytes.len() > limit {
+        return refused(0, out);
+    }
+    let parsed = match stream::parse(bytes) {
+        Ok(parsed) => parsed,
+        Err(number) => return refused(number, out),
+    };
+    if shown.scene {
+        dump::scene(&parsed, out);
+    }
+    match front::answer(&parsed, sizes) {
+        Err(number) => refused(number, out),
+        Ok(answer) => {
+            if shown.registration {
+                dump::registration(&answer.registration, out);
+            }
+            match answer.short_of {
+                0 => accepted(&answer, shown, out),
+                number => refused(number, out),
+            }
+            if shown.tally {
+                tally(&parsed, &answer, out);
+            }
+        }
+    }
+}
+
+fn refused(number: u32, out: &mut String) {
+    line(out, format_args!("E {number}"));
+}
+
+fn line(out: &mut String, text: std::fmt::Arguments) {
+    writeln!(out, "{text}").expect("a string takes every line");
+}
+
+fn accepted(answer: &Answer, shown: &Shown, out: &mut String) {
+    let controls = answer.registration.control_points;
+    line(out, format_args!("R {} {controls}", answer.method()));
+    for f in answer.features() {
+        let count = f.positions.len();
+        line(
+            out,
+            format_args!(
+                "F {} {} {} {} {} {count}",
+                f.item, f.geometry, f.role, f.placement, f.part
+            ),
+        );
+        for p in &f.positions {
+            line(out, format_args!("P {} {}", whole(p[0]), whole(p[1])));
+            if shown.bits {
+                line(out, format_args!("Q {} {}", dump::bits(p[0]), dump::bits(p[1])));
+            }
+        }
+    }
+    for (kind, index) in answer.warnings() {
+        line(out, format_args!("W {kind} {index}"));
+    }
+    let spent = u32::from(answer.record.spent);
+    line(out, format_args!("B {} {spent}", answer.record.left));
+    if shown.draws {
+        for d in answer.draws() {
+            line(out, format_args!("D {} {} {} {}", d.want, d.floor, d.grant, d.left));
+        }
+    }
+}
+
+/// The nearest whole number of 10⁻⁹ degree; a position is already a quotient
+/// of one.
+fn whole(degrees: f64) -> i64 {
+    (degrees * 1e9).round() as i64
+}
+
+/// What occurred in a stream that reached the drawing.
+fn tally(parsed: &Parsed, answer: &Answer, out: &mut String) {
+    let mut seen: BTreeMap<String, usize> = BTreeMap::new();
+    let mut count = |key: String, n: usize| *seen.entry(key).or_default() += n;
+    for item in &parsed.scene.items {
+        count(format!("kind-{}", item.kind), 1);
+        count("flag-hidden".into(), usize::from(item.hidden.is_some()));
+        count("flag-nested".into(), usize::from(item.block.is_some()));
+        count("flag-closed".into(), usize::from(item.closed.is_some()));
+        count("flag-fill".into(), usize::from(item.fill.is_some()));
+        count("flag-screen".into(), usize::from(item.class.is_some()));
+    }
+    for d in answer.draws() {
+        let name = match d.producer {
+            Producer::Segment => "segment",
+            Producer::Piece => "piece",
+            Producer::Ellipse => "ellipse",
+            Producer::RoundedBox => "rounded-box",
+            Producer::SharpBox => "sharp-box",
+        };
+        count(format!("draw-{name}"), 1);
+        count(format!("short-{name}"), usize::from(d.grant < d.want));
+    }
+    count("short-split".into(), answer.record.unsplit);
+    count("unwritten".into(), answer.record.unwritten);
+    count("unused-outline".into(), answer.record.unused_outlines);
+    for (key, n) in seen {
+        if n > 0 {
+            line(out, format_args!("T {key} {n}"));
+        }
+    }
+}
