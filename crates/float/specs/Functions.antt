@@ -2,7 +2,6 @@
 -- m * 2 ^ e is the fraction m * up e / down e.
 use mathlib.Core.Bool.{Bool, true, false}
 use Prim.Native.Nat.{ℕ, _+_, _-_, _*_, _/_}
-use lib.IntN.{ℤ, pos}
 use lib.Ieee.{Float, nan, inf, fin, binary64, up, down, round, isNan, add, rem, lt, ofBits}
 
 -- `if`, as a function of the test's answer and both arms

@@ -7,6 +7,7 @@ pub mod Quick
 pub mod Intervals
 pub mod Bisection
 pub mod Expressions
+pub mod Every
 pub mod Remainder
 pub mod Patterns
 pub mod Fields

@@ -3,4 +3,6 @@ pub mod Functions
 pub mod Pointed
 pub mod Samples
 pub mod Split
+pub mod Horner
+pub mod Lists
 pub mod Laws

@@ -1,12 +1,12 @@
 -- A finite pattern with digits on both sides of the point, as the functions that cut it there see it.
 use mathlib.Core.Path.{_≡_}
 use mathlib.Core.Bool.{Bool}
-use Prim.Native.Nat.{ℕ, _+_, _-_, _*_, _/_, _%_, _^_, _≤_, _<_}
+use Prim.Native.Nat.{ℕ, _+_, _-_, _/_, _%_, _^_, _≤_, _<_}
 use lib.Dec.{leb}
 
 -- the sign, the exponent's field, and the 53 digits with the leading one that the pattern leaves out
-abbrev pub minus : ℕ → Bool
-minus b = leb (2 ^ 63) b
+abbrev pub signOf : ℕ → Bool
+signOf b = leb (2 ^ 63) b
 
 abbrev pub fieldOf : ℕ → ℕ
 fieldOf b = b / 2 ^ 52 % 2048
@@ -23,7 +23,7 @@ pub record Pointed (b : ℕ) : Type 0 where
   pub low : 1023 ≤ fieldOf b
   pub high : fieldOf b < 1075
 
-pub record Unit (b u : ℕ) : Type 0 where
+pub record Weighs (b u : ℕ) : Type 0 where
   pub is : u ≡ unitOf b
   pub least : 2 ≤ u
   pub most : u ≤ 2 ^ 52

@@ -2,12 +2,12 @@
 ghost use mathlib.Core.Path.{_≡_};
 ghost use Prim.Native.Nat.{ℕ, _+_, _*_, _<_, _≤_, _%_, _^_, _/_};
 ghost use Rattle.float.specs.Functions.{wholeAt, truncOf, ceilOf, roundOf};
-ghost use Rattle.float.specs.Pointed.{Pointed, Unit, unitOf, minus, digitsOf};
+ghost use Rattle.float.specs.Pointed.{Pointed, Weighs, unitOf, signOf, digitsOf};
 
 // What one weighs among the digits of the pattern b, some of which are behind the point.
 fn unit(b: u64) -> u64
     requires { ⌜ Pointed b ⌝ }
-    ensures { λ r. ⌜ Unit b r ⌝ }
+    ensures { λ r. ⌜ Weighs b r ⌝ }
 {
     1 << (1075 - b / 4503599627370496 % 2048)
 }
@@ -25,7 +25,7 @@ fn half(b: u64) -> u64
 // field is right there.
 fn cut(b: u64, h: u64) -> f64
     requires { ⌜ Pointed b × (h < unitOf b) ⌝ }
-    ensures { λ r. ⌜ r ≡ wholeAt (minus b) ((digitsOf b + h) / unitOf b) ⌝ }
+    ensures { λ r. ⌜ r ≡ wholeAt (signOf b) ((digitsOf b + h) / unitOf b) ⌝ }
 {
     let u = unit(b);
     let c = b + h;

@@ -1,11 +1,10 @@
 -- A test on an interval [a, b] that says something of each value in it. Where it fails the interval is cut in the middle, at most n times deep.
-use mathlib.Core.Path.{_≡_, refl, sym, ap, _∙_, subst}
 use mathlib.Core.Logic.{_⊎_, inl, inr}
 use mathlib.Core.Bool.{Bool, true, false}
 use Prim.Native.Nat.{ℕ, zero, suc}
 use lib.IntN.{negsuc}
 use lib.Dec.{T}
-use lib.Ieee.{Float, nan, inf, fin, binary64, le}
+use lib.Ieee.{Float, nan, inf, fin}
 use lib.Ieee.Scale.{finite}
 use Rattle.float.specs.Laws.Order.{le-total, finite-of}
 use Rattle.float.specs.Laws.Quick.{qadd, qmul}

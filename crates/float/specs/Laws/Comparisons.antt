@@ -1,20 +1,13 @@
 -- From `<` and its failing to the order. Assumes nothing.
-use mathlib.Core.Path.{_≡_, refl, sym, subst}
-use mathlib.Core.Bool.{Bool, true, false, not, _||_}
+use mathlib.Core.Bool.{Bool, true, false, not}
 use Prim.Native.Nat.{ℕ, _+_, _*_}
 use native.Mathlib.Omega.{arith}
-use lib.Dec.{T, ltb, nltb→le}
+use lib.Dec.{T, nltb→le}
 use lib.Ieee.{Float, nan, inf, fin, up, down, below, isNan, lt, eq, le}
 use lib.Ieee.Scale.{finite}
-use Rattle.float.specs.Functions.{pick}
 use Rattle.float.specs.Laws.Signed.{SLe, →leq}
-use Rattle.float.specs.Laws.Order.{le-refl}
 use Rattle.float.specs.Laws.Intervals.{Between}
-use Rattle.float.specs.Laws.Tests.{yes, no}
-
-or-left : (a b : Bool) → T a → T (a || b)
-or-left true b t = tt
-or-left false b t = absurd t
+use Rattle.float.specs.Laws.Tests.{or-left}
 
 pub lt→le : (x y : Float) → T (lt x y) → T (le x y)
 unfolding le

@@ -1,12 +1,10 @@
 -- Straight-line float code as data: run on values, and on intervals. One law says that the second holds the first.
-use mathlib.Core.Path.{_≡_, refl, subst, sym}
 use mathlib.Core.List.{List, [], _∷_}
-use mathlib.Core.Bool.{Bool, true, false}
+use mathlib.Core.Bool.{Bool}
 use Prim.Native.Nat.{ℕ, zero, suc}
-use lib.IntN.{pos, negsuc}
 use lib.Dec.{T}
 use lib.ListN.{getD}
-use lib.Ieee.{Float, nan, fin, binary64, neg, add, sub, mul, div, le}
+use lib.Ieee.{Float, nan, binary64, neg, add, sub, mul, div, le}
 use Rattle.float.specs.Laws.Intervals.{Iv, top, iv, mk, In, Between, ineg, iadd, isub, imul, idiv, ihorner, neg-in, add-in, sub-in, mul-in, div-in, horner, horner-in, point-in, inside, inside-in}
 use Rattle.float.specs.Laws.Bisection.{bisect, bisect-in}
 

@@ -3,18 +3,18 @@ use mathlib.Core.Path.{_≡_, refl, sym, ap, _∙_, subst}
 use mathlib.Core.Logic.{_⊎_, inl, inr}
 use mathlib.Core.Bool.{Bool, true, false, not, cond}
 use Prim.Native.Nat.{ℕ, zero, suc, _+_, _-_, _*_, _/_, _%_, _^_, _≤_, _<_}
-use native.Mathlib.Nat.{le-of-eq, lt-of-lt-of-le, lt-of-le-of-lt, lt-of-not-le, lt-irrefl, eq-or-lt-of-le, mul-one, mul-comm, mul-assoc, mul-le-mul-right, mul-lt-mul-of-pos-right, mul-div-cancel, pow-suc}
+use native.Mathlib.Nat.{le-of-eq, lt-of-le-of-lt, lt-irrefl, eq-or-lt-of-le, mul-one, mul-comm, mul-assoc, mul-le-mul-right, mul-lt-mul-of-pos-right, mul-div-cancel, pow-suc}
 use native.Mathlib.Omega.{arith}
 use lib.Dec.{T, eqb, eqb→eq, not-T, lit<}
-use lib.Pow.{pow-add, pow-pos, pow-mono}
+use lib.Pow.{pow-add, pow-pos}
 use lib.Ieee.{Float, nan, inf, fin, binary64, up, down, size, odd, fits, ofFields, ofBits, toBits}
-use lib.Ieee.Digits.{size-lt, size-le}
+use lib.Ieee.Digits.{size-le}
 use lib.Ieee.Fits.{down-pos}
 use lib.Ieee.Exact.{HasValue, odd-sign}
 use lib.Ieee.Bits.{ofBits-toBits}
 use Rattle.float.specs.Split.{unitsAt}
-use Rattle.float.specs.Pointed.{minus, fieldOf}
-use Rattle.float.specs.Laws.Patterns.{ofBits-is}
+use Rattle.float.specs.Pointed.{signOf, fieldOf}
+use Rattle.float.specs.Laws.Quick.{size-gt}
 
 -- ---- from a pattern to its value
 pub fields-value : (s : Bool) (x t : ℕ) → x < 2047 → HasValue (ofFields binary64 s x t) s (unitsAt x t) (2 ^ 1074)
@@ -26,14 +26,15 @@ fields-value s (suc x) t h = go (eqb (suc x) 2047) (not-T (eqb (suc x) 2047) (λ
     go true n = absurd n
     go false n = odd-sign 53 s (2 ^ 52 + t) x 1074
 
-pub of-fields : (b : ℕ) → ofBits binary64 b ≡ ofFields binary64 (minus b) (fieldOf b) (b % 2 ^ 52)
-of-fields b = ofBits-is b ∙ ap (λ (x : ℕ). ofFields binary64 (minus b) x (b % 2 ^ 52)) (same b)
+pub of-fields : (b : ℕ) → ofBits binary64 b ≡ ofFields binary64 (signOf b) (fieldOf b) (b % 2 ^ 52)
+unfolding ofBits
+of-fields b = ap (λ (x : ℕ). ofFields binary64 (signOf b) x (b % 2 ^ 52)) (same b)
   where
     same : (b : ℕ) → b % 9223372036854775808 / 4503599627370496 ≡ b / 4503599627370496 % 2048
     same b = omega arith
 
-pub pattern-value : (b : ℕ) → fieldOf b < 2047 → HasValue (ofBits binary64 b) (minus b) (unitsAt (fieldOf b) (b % 2 ^ 52)) (2 ^ 1074)
-pattern-value b h = subst (λ (v : Float). HasValue v (minus b) (unitsAt (fieldOf b) (b % 2 ^ 52)) (2 ^ 1074)) (sym (of-fields b)) (fields-value (minus b) (fieldOf b) (b % 2 ^ 52) h)
+pub pattern-value : (b : ℕ) → fieldOf b < 2047 → HasValue (ofBits binary64 b) (signOf b) (unitsAt (fieldOf b) (b % 2 ^ 52)) (2 ^ 1074)
+pattern-value b h = subst (λ (v : Float). HasValue v (signOf b) (unitsAt (fieldOf b) (b % 2 ^ 52)) (2 ^ 1074)) (sym (of-fields b)) (fields-value (signOf b) (fieldOf b) (b % 2 ^ 52) h)
 
 -- ---- from a value to its pattern
 bits-of : (v : Float) (s : Bool) (n : ℕ) → HasValue v s n (2 ^ 1074) → toBits binary64 v ≡ cond s (2 ^ 63) 0 + (size n - 53) * 2 ^ 52 + n / 2 ^ (size n - 53)
@@ -48,11 +49,8 @@ bits-of (fin t m e) s n h =
 size-at : (j n : ℕ) → 2 ^ 52 * 2 ^ j ≤ n → n < 2 ^ 53 * 2 ^ j → size n ≡ 53 + j
 size-at j n lo hi =
     let most : size n ≤ 53 + j = size-le n (53 + j) (subst (λ (x : ℕ). n < x) (sym (pow-add 2 53 j)) hi) in
-    let least : 52 + j < size n = pow-back (52 + j) (size n) (lt-of-le-of-lt (subst (λ (x : ℕ). x ≤ n) (sym (pow-add 2 52 j)) lo) (size-lt n)) in
+    let least : 52 + j < size n = size-gt n (52 + j) (subst (λ (x : ℕ). x ≤ n) (sym (pow-add 2 52 j)) lo) in
     omega arith
-  where
-    pow-back : (i p : ℕ) → 2 ^ i < 2 ^ p → i < p
-    pow-back i p h = lt-of-not-le (λ (g : p ≤ i). lt-irrefl (2 ^ i) (lt-of-lt-of-le h (pow-mono g)))
 
 -- the digits' leading one adds one to the exponent's field, and so does a carry to 2 ^ 53
 pub pattern-of : (v : Float) (s : Bool) (q j : ℕ) → 2 ^ 52 ≤ q → q ≤ 2 ^ 53 → HasValue v s (q * 2 ^ j) (2 ^ 1074) → toBits binary64 v ≡ cond s (2 ^ 63) 0 + j * 2 ^ 52 + q

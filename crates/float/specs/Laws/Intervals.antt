@@ -1,23 +1,20 @@
 -- Intervals of finite values with computed ends: each operation on them holds what the operation gives on their members. `top` says nothing.
-use mathlib.Core.Path.{_≡_, refl, sym, ap, _∙_, subst}
+use mathlib.Core.Path.{_≡_, refl, sym, subst}
 use mathlib.Core.Logic.{_⊎_, inl, inr}
 use mathlib.Core.List.{List, [], _∷_}
-use mathlib.Core.Bool.{Bool, true, false, not, _&&_, _||_, cond}
-use Prim.Native.Nat.{ℕ, zero, suc, _+_, _-_, _*_, _^_, _≤_, _<_}
+use mathlib.Core.Bool.{Bool, true, false, _&&_}
+use Prim.Native.Nat.{_<_}
 use native.Mathlib.Nat.{mul-pos}
-use native.Mathlib.Omega.{arith}
-use lib.IntN.{ℤ, pos, negsuc}
 use lib.Dec.{T, ltb, ltb→lt}
-use lib.ListN.{length, drop, getD}
-use lib.Seq.{drop-cons}
-use native.Mathlib.Numerals.{add-one}
-use lib.Ieee.{Float, nan, inf, fin, Format, binary64, up, down, neg, add, sub, mul, div, le}
-use lib.Ieee.Fits.{up-pos, down-pos, and-l, and-r}
+use lib.Ieee.{Float, nan, inf, fin, binary64, neg, add, sub, mul, div, le}
+use lib.Ieee.Fits.{up-pos, and-l, and-r}
 use lib.Ieee.Scale.{finite}
-use Rattle.float.specs.Laws.Signed.{P, N, D, neg-le}
+unfoldable pub use Rattle.float.specs.Horner.{horner}
+pub use Rattle.float.specs.Horner.{horner-step}
+use Rattle.float.specs.Laws.Signed.{P, N, neg-le}
 use Rattle.float.specs.Laws.Operations.{add-mono, finite-neg}
 use Rattle.float.specs.Laws.Quick.{Same, qneg, qadd, qsub, qmul, qdiv, neg-is, add-same, sub-same, mul-same, div-same}
-use Rattle.float.specs.Laws.Order.{le-trans, le-refl, le-total, finite-of, nonneg-of, pos-of, pos-N, sub-mono, mul-up, mul-down, mul-up-r, mul-down-r, mul-swap, div-up, div-anti, div-grow, div-negs}
+use Rattle.float.specs.Laws.Order.{le-trans, le-refl, le-total, finite-of, nonneg-of, pos-of, sub-mono, mul-up, mul-down, mul-up-r, mul-down-r, mul-swap, div-up, div-anti, div-grow, div-negs}
 
 pub data Iv : Type 0 where
   top : Iv
@@ -302,11 +299,7 @@ div-in top J x y i j = tt
 div-in (iv a b) top x y i j = tt
 div-in (iv a b) (iv c d) x y i j = div2-in (above? c) a b c d x y i j
 
--- ---- a series by Horner, from the highest term: the rest of the terms, after what is summed so far
-unfoldable pub horner : Float → List Float → Float → Float
-horner acc [] v = acc
-horner acc (c ∷ cs) v = horner (add binary64 (mul binary64 acc v) c) cs v
-
+-- ---- a series by Horner
 abbrev pub ihorner : Iv → List Float → Iv → Iv
 ihorner acc [] v = acc
 ihorner acc (c ∷ cs) v = ihorner (iadd (imul acc v) (mk c c)) cs v
@@ -330,8 +323,3 @@ inside (iv a b) lo hi = le lo a && le b hi
 pub inside-in : (I : Iv) (lo hi x : Float) → T (inside I lo hi) → In I x → T (le lo x) × T (le x hi)
 inside-in top lo hi x t i = absurd t
 inside-in (iv a b) lo hi x t i = (le-trans lo a x (and-l (le lo a) (le b hi) t) (i .low), le-trans x b hi (i .high) (and-r (le lo a) (le b hi) t))
-
--- one step of a loop that runs over a table
-pub horner-step : (acc v : Float) (t : List Float) (i : ℕ) → i < length t → horner acc (drop i t) v ≡ horner (add binary64 (mul binary64 acc v) (getD t i nan)) (drop (i + 1) t) v
-unfolding horner
-horner-step acc v t i h = rw (add-one, drop-cons t i nan)

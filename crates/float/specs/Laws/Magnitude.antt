@@ -1,18 +1,17 @@
 -- Magnitudes: x is finite and at most 2 ^ k in size. Sums, differences, products and quotients of such values are such values, and do not overflow.
 use mathlib.Core.Path.{_≡_, refl, sym, ap, _∙_, subst}
 use mathlib.Core.Logic.{_⊎_, inl, inr}
-use mathlib.Core.Bool.{Bool, true, false, not, _&&_}
-use Prim.Native.Nat.{ℕ, zero, suc, _+_, _-_, _*_, _^_, _≤_, _<_}
-use native.Mathlib.Nat.{mul-le-mul-right, mul-le-mul, mul-pos, le-of-mul-le-mul-right, le-trans, le-of-eq, mul-one, pow-suc, lt-irrefl, eq-zero-or-pos, lt-of-le-of-lt}
+use mathlib.Core.Bool.{Bool, true, false, _&&_}
+use Prim.Native.Nat.{ℕ, suc, _+_, _*_, _^_, _≤_, _<_}
+use native.Mathlib.Nat.{mul-le-mul-right, mul-le-mul, le-of-mul-le-mul-right, le-trans, pow-suc, lt-irrefl, eq-zero-or-pos}
 use native.Mathlib.Omega.{arith}
-use lib.IntN.{ℤ, pos, negsuc}
-use lib.Dec.{T, leb, leb→le, lit<, lit≤}
+use lib.Dec.{T, leb, leb→le, lit<}
 use lib.Pow.{pow-add, pow-pos, pow-mono, pow-lt}
-use lib.Ieee.{Float, nan, inf, fin, binary64, up, down, round, neg, add, sub, mul, div, le}
+use lib.Ieee.{Float, nan, inf, fin, binary64, round, neg, add, sub, mul, div, le}
 use lib.Ieee.Fits.{and-l, and-r}
 use lib.Ieee.Exact.{HasValue, round-exact}
 use lib.Ieee.Scale.{finite}
-use Rattle.float.specs.Laws.Signed.{sp, sn, P, N, D, D-pos, le→, neg-le, round-neg}
+use Rattle.float.specs.Laws.Signed.{P, N, D, D-pos, le→, round-neg}
 use Rattle.float.specs.Laws.Operations.{Rounds, FLe, rounds-le, add-rounds, mul-rounds, finite-neg, neg-P, neg-N, neg-D}
 use Rattle.float.specs.Laws.Order.{finite-of, sign-of, div-rounds, div-negs}
 
@@ -88,6 +87,12 @@ rounds-within k z p n c K r h l =
 pub neg-within : (k : ℕ) (x : Float) → Within k x → Within k (neg x)
 neg-within k x w = record { is-finite = finite-neg x (w .is-finite); size = omega (arith, w .size, neg-P x, neg-N x, ap (λ (j : ℕ). 2 ^ k * j) (neg-D x)) }
 
+weaken : (p n t t' : ℕ) → t' ≡ t → p ≤ t → p ≤ n + t'
+weaken p n t t' e h = omega arith
+
+swap : (a b c : ℕ) → a + b ≤ c → b + a ≤ c
+swap a b c h = omega arith
+
 part-l : (a b c : ℕ) → a + b ≤ c → a ≤ c
 part-l a b c h = omega arith
 
@@ -104,9 +109,6 @@ add-within k x y K v w =
     let b = add-size (N x) (N y) (D x) (D y) (2 ^ k) (part-r (P x) (N x) (2 ^ k * D x) (v .size)) (part-r (P y) (N y) (2 ^ k * D y) (w .size)) in
     let f = ap (λ (j : ℕ). j * (D x * D y)) e in
     rounds-within (suc k) (add binary64 x y) _ _ _ (omega arith) (add-rounds binary64 x y (v .is-finite) (w .is-finite)) (weaken _ _ _ _ f a) (weaken _ _ _ _ f b)
-  where
-    weaken : (p n t t' : ℕ) → t' ≡ t → p ≤ t → p ≤ n + t'
-    weaken p n t t' e h = omega arith
 
 pub sub-within : (k : ℕ) (x y : Float) → k < 1023 → Within k x → Within k y → Within (suc k) (sub binary64 x y)
 unfolding sub
@@ -121,12 +123,6 @@ mul-within j k x y K v w =
     rounds-within (j + k) (mul binary64 x y) _ _ _ K (mul-rounds binary64 x y (v .is-finite) (w .is-finite))
     (weaken _ _ _ _ f (mul-size (P x) (N x) (D x) (P y) (N y) (D y) (2 ^ j) (2 ^ k) (v .size) (w .size)))
     (weaken _ _ _ _ f (mul-size (P x) (N x) (D x) (N y) (P y) (D y) (2 ^ j) (2 ^ k) (v .size) (swap (P y) (N y) (2 ^ k * D y) (w .size))))
-  where
-    weaken : (p n t t' : ℕ) → t' ≡ t → p ≤ t → p ≤ n + t'
-    weaken p n t t' e h = omega arith
-
-    swap : (a b c : ℕ) → a + b ≤ c → b + a ≤ c
-    swap a b c h = omega arith
 
 -- y is finite and at least 2 ^ -j in size
 pub record Apart (j : ℕ) (y : Float) : Type 0 where
@@ -144,12 +140,6 @@ div-pos-within j k x y K v w z =
     (weaken _ _ _ _ f (div-size (P x) (N x) (D x) (P y) (D y) (2 ^ k) (2 ^ j) (v .size) d))
     (weaken _ _ _ _ f (div-size (N x) (P x) (D x) (P y) (D y) (2 ^ k) (2 ^ j) (swap (P x) (N x) (2 ^ k * D x) (v .size)) d))
   where
-    weaken : (p n t t' : ℕ) → t' ≡ t → p ≤ t → p ≤ n + t'
-    weaken p n t t' e h = omega arith
-
-    swap : (a b c : ℕ) → a + b ≤ c → b + a ≤ c
-    swap a b c h = omega arith
-
     gone : (p n : ℕ) → n ≡ 0 → p + n ≡ p
     gone p n z = omega arith
 

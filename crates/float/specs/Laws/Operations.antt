@@ -1,16 +1,14 @@
 -- Each operation on finite values is the rounding of a signed fraction (p - n) / c, and the rounding keeps the order: so each operation is monotone.
-use mathlib.Core.Path.{_≡_, refl, sym, ap, _∙_, subst}
-use mathlib.Core.Logic.{_⊎_, inl, inr}
-use mathlib.Core.Bool.{Bool, true, false, not, _&&_, _||_, cond}
-use Prim.Native.Nat.{ℕ, zero, suc, _+_, _-_, _*_, _^_, _≤_, _<_}
-use native.Mathlib.Nat.{mul-le-mul-right, mul-pos, le-of-mul-le-mul-right}
+use mathlib.Core.Path.{_≡_, refl, sym, ap, subst}
+use mathlib.Core.Bool.{Bool, true, false, not, cond}
+use Prim.Native.Nat.{ℕ, _+_, _-_, _*_, _≤_, _<_}
+use native.Mathlib.Nat.{mul-le-mul-right, mul-pos}
 use native.Mathlib.Omega.{arith}
-use lib.IntN.{ℤ, pos, negsuc}
-use lib.Dec.{T, leb, ltb, eqb, ltb→lt, lt→ltb, nltb→le, eqb→eq}
-use lib.Ieee.{Float, nan, inf, fin, Format, binary64, unlike, up, down, round, neg, sum, add, sub, mul, div, le}
-use lib.Ieee.Fits.{up-pos, down-pos}
+use lib.Dec.{T, ltb, ltb→lt, nltb→le}
+use lib.Ieee.{Float, nan, inf, fin, Format, up, down, round, neg, sum, add, mul, le}
+use lib.Ieee.Fits.{down-pos}
 use lib.Ieee.Scale.{finite}
-use Rattle.float.specs.Laws.Signed.{sp, sn, sp-mul, sn-mul, P, N, D, D-pos, Le, le→, →le, round-le}
+use Rattle.float.specs.Laws.Signed.{sp, sn, sp-mul, sn-mul, P, N, D, le→, round-le}
 
 -- z is (p - n) / c, rounded
 pub record Rounds (f : Format) (z : Float) (p n c : ℕ) : Type 0 where

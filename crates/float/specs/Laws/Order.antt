@@ -1,18 +1,16 @@
 -- The order of all values is transitive, and total on finite ones. Each operation is monotone in each argument.
-use mathlib.Core.Path.{_≡_, refl, sym, ap, _∙_, subst}
+use mathlib.Core.Path.{_≡_, refl, ap, _∙_, subst}
 use mathlib.Core.Logic.{_⊎_, inl, inr}
-use mathlib.Core.Bool.{Bool, true, false, not, _&&_, _||_, cond}
-use Prim.Native.Nat.{ℕ, zero, suc, _+_, _-_, _*_, _^_, _≤_, _<_}
+use mathlib.Core.Bool.{Bool, true, false, not, cond}
+use Prim.Native.Nat.{ℕ, _+_, _*_, _≤_, _<_}
 use native.Mathlib.Nat.{mul-le-mul-right, mul-pos, mul-comm, le-of-mul-le-mul-right, lt-irrefl, eq-zero-or-pos}
-use native.Mathlib.Nat as NatL
 use native.Mathlib.Omega.{arith}
-use lib.IntN.{ℤ, pos, negsuc}
-use lib.Dec.{T, leb, ltb, eqb, ltb→lt, lt→ltb, nltb→le, eqb→eq}
-use lib.Ieee.{Float, nan, inf, fin, Format, binary64, unlike, up, down, round, neg, sum, add, sub, mul, div, le}
-use lib.Ieee.Fits.{up-pos, down-pos}
+use lib.Dec.{T, ltb, eqb, ltb→lt, nltb→le, eqb→eq}
+use lib.Ieee.{Float, nan, inf, fin, Format, unlike, up, down, round, neg, sub, mul, div, le}
+use lib.Ieee.Fits.{down-pos}
 use lib.Ieee.Scale.{finite}
-use Rattle.float.specs.Laws.Signed.{sp, sn, sp-mul, sn-mul, P, N, D, D-pos, Le, le→, →le, round-le, neg-le, zero-of}
-use Rattle.float.specs.Laws.Operations.{Rounds, FLe, rounds-le, recast, scale, add-rounds, mul-rounds, add-mono, finite-neg}
+use Rattle.float.specs.Laws.Signed.{sp, sn, P, N, D, D-pos, le→, →le, neg-le, zero-of}
+use Rattle.float.specs.Laws.Operations.{Rounds, FLe, rounds-le, recast, scale, mul-rounds, add-mono, finite-neg}
 
 -- ---- the order
 flip-trans : (p n c q m d r l e : ℕ) → 0 < d → FLe p n c q m d → FLe q m d r l e → FLe p n c r l e
@@ -98,10 +96,6 @@ pub nonpos-of : (x hi : Float) → T (finite x) → T (finite hi) → P hi ≡ 0
 nonpos-of x hi p q z h = elim (sign-of x) [ inr a ↦ a | inl a ↦ zero-of (P x) (D hi) (D-pos hi) (omega (arith, le→ x hi p q h, ap (λ (k : ℕ). k * D x) z, ap (λ (k : ℕ). k * D hi) a)) ]
 
 -- ---- the difference
-sub-is : (f : Format) (x y : Float) → sub f x y ≡ add f x (neg y)
-unfolding sub
-sub-is f x y = refl
-
 pub sub-mono : (f : Format) (x x' y y' : Float) → T (finite x) → T (finite x') → T (finite y) → T (finite y') → T (le x x') → T (le y' y) → T (le (sub f x y) (sub f x' y'))
 unfolding sub
 sub-mono f x x' y y' a b c d h k = add-mono f x x' (neg y) (neg y') a b (finite-neg y c) (finite-neg y' d) h (neg-le y' y k)

@@ -2,17 +2,18 @@
 use mathlib.Core.Path.{_≡_, refl, sym, ap, _∙_, subst}
 use mathlib.Core.Logic.{inl, inr}
 use Prim.Native.Nat.{ℕ, suc, _+_, _-_, _*_, _/_, _%_, _^_, _≤_, _<_}
-use native.Mathlib.Nat.{le-trans, le-of-eq, lt-of-le-of-lt, not-le-of-lt, eq-or-lt-of-le, mod-eq-of-lt, mul-assoc, mul-le-mul-right, mul-le-mul-left, pow-succ'}
+use native.Mathlib.Nat.{le-trans, le-of-eq, lt-of-lt-of-le, lt-of-le-of-lt, eq-or-lt-of-le, mul-assoc, mul-le-mul-right, mul-le-mul-left, pow-succ'}
 use native.Mathlib.Omega.{arith}
-use mathlib.Core.Bool.{Bool, false, cond}
+use mathlib.Core.Bool.{false, cond}
 use lib.IntN.{pos}
-use Rattle.float.specs.Laws.Order as M
-use lib.Dec.{T, lit<, lit≤, leb, eqb, leb→le, eqb→eq, not-T}
+use lib.Dec.{T, lit<, lit≤, leb, eqb, eqb→eq, not-T}
 use lib.Pow.{pow-pos, pow-mono}
 use lib.Ieee.{Float, nan, inf, fin, binary64, odd, ofFields, ofBits, le}
-use lib.Ieee.Bits.{is-false, cond-no}
+use lib.Ieee.Bits.{cond-no}
 use lib.Ieee.Exact.{HasValue, odd-sign}
 use lib.Ieee.Order.{le-of-values}
+use Rattle.float.specs.Laws.Units.{plus-fields}
+use Rattle.float.specs.Laws.Order as M
 
 pub ofBits-is : (b : ℕ) → ofBits binary64 b ≡ ofFields binary64 (leb 9223372036854775808 b) (b % 9223372036854775808 / 4503599627370496) (b % 4503599627370496)
 unfolding ofBits
@@ -25,9 +26,6 @@ under-ones : (t x : ℕ) → suc x < 2047 → ofFields binary64 false (suc x) t 
 unfolding ofFields
 under-ones t x h = cond-no (eqb (suc x) 2047) (cond (eqb t 0) (inf false) nan) (odd 53 false (4503599627370496 + t) x 1074) (not-T (eqb (suc x) 2047) (λ (u : T (eqb (suc x) 2047)). differ x h (eqb→eq (suc x) 2047 u)))
 
-small : (b : ℕ) → b < 9218868437227405312 → b < 9223372036854775808
-small b h = omega arith
-
 field : (b : ℕ) → 4503599627370496 ≤ b → suc (b / 4503599627370496 - 1) ≡ b / 4503599627370496
 field b h = omega arith
 
@@ -37,9 +35,7 @@ field-lt b h k = omega arith
 -- 9218868437227405312 is 2047 * 2 ^ 52, the pattern of the infinity
 pub normal : (b : ℕ) → 4503599627370496 ≤ b → b < 9218868437227405312 → ofBits binary64 b ≡ odd 53 false (4503599627370496 + b % 4503599627370496) (b / 4503599627370496 - 1) 1074
 normal b h k =
-    ofBits-is b
-    ∙ ap (λ (s : Bool). ofFields binary64 s (b % 9223372036854775808 / 4503599627370496) (b % 4503599627370496)) (is-false (leb 9223372036854775808 b) (not-T (leb 9223372036854775808 b) (λ (u : T (leb 9223372036854775808 b)). not-le-of-lt (small b k) (leb→le 9223372036854775808 b u))))
-    ∙ ap (λ (x : ℕ). ofFields binary64 false (x / 4503599627370496) (b % 4503599627370496)) (mod-eq-of-lt (small b k))
+    plus-fields b (lt-of-lt-of-le k (lit≤ tt))
     ∙ ap (λ (x : ℕ). ofFields binary64 false x (b % 4503599627370496)) (sym (field b h))
     ∙ under-ones (b % 4503599627370496) (b / 4503599627370496 - 1) (field-lt b h k)
 

@@ -1,21 +1,20 @@
 -- A rounding that computes faster in the checker: it does not write the result with an odd number, and it guesses how many digits to drop and tests the guess.
 -- Where the tests fail the result is `nan`. Where it is finite it equals what `round` gives.
 use mathlib.Core.Path.{_≡_, refl, sym, ap, _∙_, subst}
-use mathlib.Core.Logic.{_⊎_, inl, inr}
+use mathlib.Core.Logic.{inl, inr}
 use mathlib.Core.Bool.{Bool, true, false, not, _&&_, _||_, cond, Bool·beq}
-use Prim.Native.Nat.{ℕ, zero, suc, _+_, _-_, _*_, _/_, _%_, _^_, _≤_, _<_, compare, Ordering, Ordering·lt, Ordering·eq, Ordering·gt}
-use native.Mathlib.Nat.{lt-of-lt-of-le, eq-of-mul-eq-mul-right, lt-of-not-le, not-le-of-lt, mul-pos}
+use Prim.Native.Nat.{ℕ, _+_, _-_, _*_, _/_, _%_, _^_, _≤_, _<_, compare}
+use native.Mathlib.Nat.{lt-of-lt-of-le, eq-of-mul-eq-mul-right, lt-of-not-le, not-le-of-lt}
 use native.Mathlib.Omega.{arith}
-use lib.IntN.{ℤ, pos, negsuc}
-use lib.Dec.{T, leb, ltb, eqb, leb→le, ltb→lt, lt→ltb, eqb→eq}
+use lib.Dec.{T, leb, ltb, eqb, leb→le, ltb→lt, eqb→eq}
 use lib.Pow.{pow-pos, pow-mono}
-use lib.Ieee.{Float, nan, inf, fin, Format, binary64, up, down, minus, unlike, nearest, odd, units, size, round, neg, sum, add, sub, mul, div, le}
+use lib.Ieee.{Float, nan, inf, fin, binary64, up, down, minus, unlike, nearest, units, size, round, neg, add, sub, mul, div, le}
 use lib.Ieee.Digits.{size-lt, size-le, minus-val}
-use lib.Ieee.Fits.{and-l, and-r, round-is, down-pos}
+use lib.Ieee.Fits.{and-l, and-r, round-is}
 use lib.Ieee.Exact.{HasValue, units-val}
 use lib.Ieee.Scale.{finite}
-use Rattle.float.specs.Laws.Signed.{sp, sn, P, N, D, D-pos, →le}
-use Rattle.float.specs.Laws.Order.{le-trans, le-refl}
+use Rattle.float.specs.Laws.Tests.{or-split}
+use Rattle.float.specs.Laws.Signed.{→le}
 
 -- ---- digits, by halves
 abbrev half-of : ℕ → ℕ → ℕ
@@ -50,11 +49,7 @@ guess n =
 abbrev pub right? : ℕ → ℕ → Bool
 right? w k = ltb w (2 ^ (53 + k)) && (eqb k 0 || leb (2 ^ (52 + k)) w)
 
-or-split : (a b : Bool) → T (a || b) → T a ⊎ T b
-or-split true b t = inl tt
-or-split false b t = inr t
-
-size-gt : (n j : ℕ) → 2 ^ j ≤ n → j < size n
+pub size-gt : (n j : ℕ) → 2 ^ j ≤ n → j < size n
 size-gt n j h = lt-of-not-le (λ (g : size n ≤ j). not-le-of-lt (lt-of-lt-of-le (size-lt n) (pow-mono g)) h)
 
 right : (w k : ℕ) → T (right? w k) → size w - 53 ≡ k
@@ -68,13 +63,13 @@ right w k t =
     ]
 
 -- ---- the rounding
-abbrev pub put : Bool → ℕ → ℕ → Float
-put s q k = elim (ltb (q * 2 ^ k) (2 ^ 2098)) [ true ↦ fin s q (minus k 1074) | false ↦ nan ]
+abbrev pub pack : Bool → ℕ → ℕ → Float
+pack s q k = elim (ltb (q * 2 ^ k) (2 ^ 2098)) [ true ↦ fin s q (minus k 1074) | false ↦ nan ]
 
 abbrev pub at : Bool → ℕ → ℕ → ℕ → Float
 at s n den k =
     elim (right? (n / den) k) [
-      | true ↦ (let u = den * 2 ^ k in put s (nearest (n / u) (compare (n % u * 2) u)) k)
+      | true ↦ (let u = den * 2 ^ k in pack s (nearest (n / u) (compare (n % u * 2) u)) k)
       | false ↦ nan
     ]
 
@@ -101,8 +96,8 @@ same-value (fin t m e) (fin u n d) s a c C h k = go t u (h .0 ∙ sym (k .0)) (c
     go true false i x = absurd (subst (λ (b : Bool). T b) i tt)
     go false true i x = absurd (subst (λ (b : Bool). T b) (sym i) tt)
 
-put-same : (s : Bool) (q k : ℕ) → T (finite (put s q k)) → Same (put s q k) (units binary64 s q k)
-put-same s q k = go (ltb (q * 2 ^ k) (2 ^ 2098)) (ltb→lt (q * 2 ^ k) (2 ^ 2098))
+pack-same : (s : Bool) (q k : ℕ) → T (finite (pack s q k)) → Same (pack s q k) (units binary64 s q k)
+pack-same s q k = go (ltb (q * 2 ^ k) (2 ^ 2098)) (ltb→lt (q * 2 ^ k) (2 ^ 2098))
   where
     go : (b : Bool) → (T b → q * 2 ^ k < 2 ^ 2098) → T (finite (elim b [ true ↦ fin s q (minus k 1074) | false ↦ nan ])) → Same (elim b [ true ↦ fin s q (minus k 1074) | false ↦ nan ]) (units binary64 s q k)
     go true h t = same-value (fin s q (minus k 1074)) (units binary64 s q k) s (q * 2 ^ k) (2 ^ 1074) (pow-pos 1074) (refl, minus-val q k 1074) (units-val binary64 s q k (h tt))
@@ -111,11 +106,11 @@ put-same s q k = go (ltb (q * 2 ^ k) (2 ^ 2098)) (ltb→lt (q * 2 ^ k) (2 ^ 2098
 at-same : (s : Bool) (n den k : ℕ) → T (finite (at s n den k)) → Same (at s n den k) (units binary64 s (nearest (n / (den * 2 ^ (size (n / den) - 53))) (compare (n % (den * 2 ^ (size (n / den) - 53)) * 2) (den * 2 ^ (size (n / den) - 53)))) (size (n / den) - 53))
 at-same s n den k = go (right? (n / den) k) (right (n / den) k)
   where
-    go : (b : Bool) → (T b → size (n / den) - 53 ≡ k) → T (finite (elim b [ true ↦ (let u = den * 2 ^ k in put s (nearest (n / u) (compare (n % u * 2) u)) k) | false ↦ nan ]))
-        → Same (elim b [ true ↦ (let u = den * 2 ^ k in put s (nearest (n / u) (compare (n % u * 2) u)) k) | false ↦ nan ]) (units binary64 s (nearest (n / (den * 2 ^ (size (n / den) - 53))) (compare (n % (den * 2 ^ (size (n / den) - 53)) * 2) (den * 2 ^ (size (n / den) - 53)))) (size (n / den) - 53))
+    go : (b : Bool) → (T b → size (n / den) - 53 ≡ k) → T (finite (elim b [ true ↦ (let u = den * 2 ^ k in pack s (nearest (n / u) (compare (n % u * 2) u)) k) | false ↦ nan ]))
+        → Same (elim b [ true ↦ (let u = den * 2 ^ k in pack s (nearest (n / u) (compare (n % u * 2) u)) k) | false ↦ nan ]) (units binary64 s (nearest (n / (den * 2 ^ (size (n / den) - 53))) (compare (n % (den * 2 ^ (size (n / den) - 53)) * 2) (den * 2 ^ (size (n / den) - 53)))) (size (n / den) - 53))
     go true h t =
-        subst (λ (j : ℕ). Same (put s (nearest (n / (den * 2 ^ k)) (compare (n % (den * 2 ^ k) * 2) (den * 2 ^ k))) k) (units binary64 s (nearest (n / (den * 2 ^ j)) (compare (n % (den * 2 ^ j) * 2) (den * 2 ^ j))) j)) (sym (h tt))
-        (put-same s (nearest (n / (den * 2 ^ k)) (compare (n % (den * 2 ^ k) * 2) (den * 2 ^ k))) k t)
+        subst (λ (j : ℕ). Same (pack s (nearest (n / (den * 2 ^ k)) (compare (n % (den * 2 ^ k) * 2) (den * 2 ^ k))) k) (units binary64 s (nearest (n / (den * 2 ^ j)) (compare (n % (den * 2 ^ j) * 2) (den * 2 ^ j))) j)) (sym (h tt))
+        (pack-same s (nearest (n / (den * 2 ^ k)) (compare (n % (den * 2 ^ k) * 2) (den * 2 ^ k))) k t)
     go false h t = absurd t
 
 pub quick-same : (s : Bool) (num den : ℕ) → T (finite (quick s num den)) → Same (quick s num den) (round binary64 s num den)

@@ -1,22 +1,20 @@
--- `%`: it lies between -y and y, has x's sign, and is x where x is smaller than y. And the whole part x - x % 1 is exact.
+-- `%`: it lies between -y and y, and is not negative where x is not. And whole numbers: what is its own rounding, and a whole number as a float, a literal and an integer.
 use mathlib.Core.Path.{_≡_, refl, sym, ap, _∙_, subst}
-use mathlib.Core.Logic.{_⊎_, inl, inr}
-use mathlib.Core.Bool.{Bool, true, false, not, _&&_, cond}
+use mathlib.Core.Bool.{Bool, true, false, _&&_, cond}
 use Prim.Native.Nat.{ℕ, zero, suc, _+_, _-_, _*_, _/_, _%_, _^_, _≤_, _<_}
-use native.Mathlib.Nat.{mul-le-mul-right, mul-lt-mul-of-pos-right, mul-pos, le-trans, le-of-eq, mul-one, one-mul, mul-le-mul, le-refl, mul-assoc, pow-suc, lt-irrefl, eq-zero-or-pos, lt-of-le-of-lt, lt-of-lt-of-le, mod-lt, le-of-lt, lt-of-not-le, not-le-of-lt, div-add-mod', mod-le, zero-mod, zero-mul, mod-one, mul-div-cancel, mul-mod-left}
+use native.Mathlib.Nat.{mul-le-mul-right, mul-lt-mul-of-pos-right, mul-pos, le-trans, le-of-eq, mul-one, mul-assoc, pow-suc, lt-irrefl, lt-of-le-of-lt, lt-of-lt-of-le, mod-lt, le-of-lt, lt-of-not-le, not-le-of-lt, div-add-mod', zero-mod, zero-mul, mul-div-cancel, mul-mod-left}
 use native.Mathlib.Omega.{arith}
 use lib.IntN.{ℤ, pos, negsuc}
 use lib.Dec.{T, leb, ltb, eqb, le→leb, lt→ltb, leb→le, ltb→lt, eqb→eq, lit<, lit≤}
 use lib.Pow.{pow-add, pow-pos, pow-mono, pow-lt}
-use lib.Ieee.{Float, nan, inf, fin, Format, binary64, up, down, round, neg, add, sub, mul, div, rem, le, fits, inUnsigned, toUnsigned, whole}
-use lib.Ieee.Fits.{and-i, and-l, and-r, up-pos, down-pos}
+use lib.Ieee.{Float, nan, inf, fin, Format, binary64, up, down, round, neg, rem, le, fits, inUnsigned, toUnsigned, whole}
+use lib.Ieee.Fits.{and-i, and-l, and-r, down-pos}
 use lib.Ieee.Exact.{HasValue, round-exact}
 use lib.Ieee.Scale.{finite, round-same}
 use lib.Ieee.Back.{round-whole}
 use Rattle.float.specs.Laws.Magnitude.{has-P, has-finite}
-use Rattle.float.specs.Laws.Signed.{sp, sn, P, N, D, D-pos, le→, →le, neg-le, round-neg, round-le, zero-at, zero-of}
-use Rattle.float.specs.Laws.Operations.{Rounds, FLe, rounds-le, add-rounds, finite-neg, neg-P, neg-N, neg-D}
-use Rattle.float.specs.Laws.Order.{finite-of, sign-of}
+use Rattle.float.specs.Laws.Signed.{sp, sn, P, N, D, D-pos, →le, round-neg, zero-at, zero-of}
+use Rattle.float.specs.Laws.Operations.{Rounds, rounds-le}
 
 pub rem-rounds : (f : Format) (x y : Float) → T (finite x) → T (finite y) → 0 < P y → Rounds f (rem f x y) (P x * D y % (P y * D x)) (N x * D y % (P y * D x)) (D x * D y)
 unfolding rem
@@ -97,7 +95,7 @@ exact-at s q (negsuc k) Q L H =
     sum : k < 1074 → 1074 ≡ 1073 - k + suc k
     sum h = omega arith
 
--- ---- the whole part
+-- ---- whole numbers
 -- x is w, a whole number, and not negative
 pub record Whole (x : Float) (w : ℕ) : Type 0 where
   pub is-finite : T (finite x)
@@ -123,48 +121,7 @@ rounds-whole z p n c w r h W = go (r .sign) (r .size) (r .is) (r .val)
         let e : z ≡ fin true 0 (pos 0) = i ∙ zero-at binary64 true k c C K in
         subst (λ (x : Float). Whole x w) (sym e) (record { is-finite = tt; up-is = omega (arith, zero-of w c C w0); no-minus = refl })
 
-unfoldable pub whole-part : Float → Float
-whole-part x = sub binary64 x (rem binary64 x (fin false 1 (pos 0)))
-
-rem-one : (m : ℕ) (e : ℤ) → rem binary64 (fin false m e) (fin false 1 (pos 0)) ≡ round binary64 false (m * up e % down e) (down e)
-unfolding rem
-rem-one m e =
-    ap (λ (j : ℕ). round binary64 false (j % (1 * down e)) (down e * 1)) (mul-one (m * up e))
-    ∙ ap (λ (j : ℕ). round binary64 false (m * up e % j) (down e * 1)) (one-mul (down e))
-    ∙ ap (λ (j : ℕ). round binary64 false (m * up e % down e) j) (mul-one (down e))
-
-rem-one-exact : (m : ℕ) (e : ℤ) → m < 2 ^ 53 → down e ≤ 2 ^ 1074 → HasValue (round binary64 false (m * up e % down e) (down e)) false (m * up e % down e) (down e)
-rem-one-exact m (pos k) M L = subst (λ (j : ℕ). HasValue (round binary64 false j 1) false j 1) (sym (mod-one (m * 2 ^ k))) (exact-at false 0 (pos 0) (lit< tt) (lit≤ tt) (lit< tt))
-rem-one-exact m (negsuc k) M L =
-    subst (λ (j : ℕ). HasValue (round binary64 false j (2 ^ suc k)) false j (2 ^ suc k)) (mul-one (m * 1 % 2 ^ suc k))
-    (exact-at false (m * 1 % 2 ^ suc k) (negsuc k) q L (lt-of-lt-of-le (subst (λ (j : ℕ). j < 2 ^ 53) (sym (mul-one (m * 1 % 2 ^ suc k))) q) (le-trans (lit≤ tt) (le-of-eq-mul (2 ^ 1024) (2 ^ suc k) (pow-pos (suc k))))))
-  where
-    q : m * 1 % 2 ^ suc k < 2 ^ 53
-    q = lt-of-le-of-lt (mod-le (m * 1) (2 ^ suc k)) (subst (λ (j : ℕ). j < 2 ^ 53) (sym (mul-one m)) M)
-
-    le-of-eq-mul : (a b : ℕ) → 0 < b → a ≤ a * b
-    le-of-eq-mul a b h = le-trans (le-of-eq (sym (mul-one a))) (mul-le-mul (le-refl a) h)
-
-part-cross : (a d p c : ℕ) → p * d ≡ a % d * c → a * c + 0 * d ≡ 0 * c + p * d + a / d * (d * c)
-part-cross a d p c e = omega (arith, ap (λ (j : ℕ). j * c) (div-add-mod' a d))
-
-whole-cross : (m : ℕ) (e : ℤ) (r : Float) → T (finite r) → P r * down e ≡ m * up e % down e * D r → N r ≡ 0 → m * up e / down e ≤ 2 ^ 53 → Whole (add binary64 (fin false m e) (neg r)) (m * up e / down e)
-whole-cross m e r F h z W =
-    rounds-whole (add binary64 (fin false m e) (neg r)) _ _ _ (m * up e / down e) (add-rounds binary64 (fin false m e) (neg r) tt (finite-neg r F))
-    (shape (m * up e) (down e) (P r) (N r) (D r) (P (neg r)) (N (neg r)) (D (neg r)) (neg-P r) (neg-N r) (neg-D r) h z) W
-  where
-    shape : (a d p n c p' n' c' : ℕ) → p' ≡ n → n' ≡ p → c' ≡ c → p * d ≡ a % d * c → n ≡ 0 → a * c' + p' * d ≡ 0 * c' + n' * d + a / d * (d * c')
-    shape a d p n c p' n' c' i j k h z = rw (k, j, i, z) (part-cross a d p c h)
-
-pub whole-part-is : (m : ℕ) (e : ℤ) → m < 2 ^ 53 → down e ≤ 2 ^ 1074 → m * up e / down e ≤ 2 ^ 53 → Whole (whole-part (fin false m e)) (m * up e / down e)
-unfolding whole-part sub
-whole-part-is m e M L W =
-    let H = rem-one-exact m e M L in
-    let r = round binary64 false (m * up e % down e) (down e) in
-    let g = has-P r (m * up e % down e) (down e) H in
-    subst (λ (x : Float). Whole (add binary64 (fin false m e) (neg x)) (m * up e / down e)) (sym (rem-one m e)) (whole-cross m e r (has-finite r false (m * up e % down e) (down e) H) (g .0) (g .1) W)
-
--- from `fits`
+-- ---- what the format holds
 pub fits-digits : (s : Bool) (m : ℕ) (e : ℤ) → T (fits binary64 (fin s m e)) → (m < 2 ^ 53) × (down e ≤ 2 ^ 1074)
 unfolding fits
 fits-digits s zero (pos k) t = (lit< tt, lit≤ tt)

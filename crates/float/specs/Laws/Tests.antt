@@ -1,6 +1,7 @@
 -- What the answer of a test says. Assumes nothing.
 use mathlib.Core.Path.{_≡_, refl, sym, ap, subst}
-use mathlib.Core.Bool.{Bool, true, false, not}
+use mathlib.Core.Logic.{_⊎_, inl, inr}
+use mathlib.Core.Bool.{Bool, true, false, not, _||_}
 use lib.Dec.{T, not-T}
 use lib.Ieee.{Float, nan, inf, fin, ne, isNan}
 use lib.Ieee.Bits.{is-false}
@@ -12,6 +13,14 @@ yes b h = subst (λ (c : Bool). T c) (sym h) tt
 
 pub no : (b : Bool) → b ≡ false → T b → ⊥
 no b h t = subst (λ (c : Bool). T c) h t
+
+pub or-split : (a b : Bool) → T (a || b) → T a ⊎ T b
+or-split true b t = inl tt
+or-split false b t = inr t
+
+pub or-left : (a b : Bool) → T a → T (a || b)
+or-left true b t = tt
+or-left false b t = absurd t
 
 -- ---- the arms of a test
 pub taken : (b : Bool) (x y : Float) → b ≡ true → x ≡ pick b x y

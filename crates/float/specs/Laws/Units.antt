@@ -1,49 +1,38 @@
 -- The patterns of finite values that are not negative: what number each stands for, in units of the format's smallest value, and where they lie. Assumes nothing.
 use mathlib.Core.Path.{_≡_, refl, sym, ap, _∙_, subst}
-use mathlib.Core.Bool.{Bool, true, false, not, cond}
+use mathlib.Core.Bool.{Bool, true, false, not}
 use Prim.Native.Nat.{ℕ, zero, suc, _+_, _-_, _*_, _/_, _%_, _^_, _≤_, _<_}
-use native.Mathlib.Nat.{le-of-eq, lt-of-lt-of-le, lt-of-le-of-lt, lt-of-mul-lt-mul-right, le-of-mul-le-mul-right, lt-irrefl, mul-pos, mul-assoc, mul-comm, mul-right-comm, mul-lt-mul-of-pos-right, mod-eq-of-lt, div-lt-iff-lt-mul, le-div-iff-mul-le}
+use native.Mathlib.Nat.{le-of-eq, lt-of-lt-of-le, mul-pos, mul-right-comm, mul-lt-mul-of-pos-right, div-lt-iff-lt-mul, le-div-iff-mul-le}
 use native.Mathlib.Omega.{arith}
-use lib.IntN.{ℤ, pos, negsuc}
-use lib.Dec.{T, leb, eqb, ltb→lt, eqb→eq, not-T, lit≤}
+use lib.IntN.{ℤ}
+use lib.Dec.{T, leb, ltb→lt, lit≤}
 use lib.Arith.{lt→nleb}
-use lib.Pow.{pow-add, pow-pos, pow-mono}
-use lib.Ieee.{Float, nan, inf, fin, binary64, up, down, size, odd, fits, ofFields, ofBits, toBits}
+use lib.Pow.{pow-pos}
+use lib.Ieee.{Float, nan, inf, fin, binary64, up, down, size, fits, ofFields, ofBits, toBits}
 use lib.Ieee.Bits.{is-false}
 use lib.Ieee.Digits.{size-le}
-use lib.Ieee.Exact.{HasValue, odd-sign}
+use lib.Ieee.Exact.{HasValue}
 use lib.Ieee.Fits.{up-pos, down-pos, kept-lt}
 use lib.Ieee.Positive.{positive}
 use Rattle.float.specs.Split.{unitsAt}
 use Rattle.float.specs.Laws.Remainder.{fits-digits}
+use Rattle.float.specs.Pointed.{fieldOf}
 use Rattle.float.specs.Laws.Exact.{fits-top}
+use Rattle.float.specs.Laws.Fields.{of-fields, fields-value}
 
 -- ---- from a pattern to its value
-fields-is : (b : ℕ) → ofBits binary64 b ≡ ofFields binary64 (leb (2 ^ 63) b) (b % 2 ^ 63 / 2 ^ 52) (b % 2 ^ 52)
-unfolding ofBits
-fields-is b = refl
-
 pub plus-fields : (b : ℕ) → b < 2 ^ 63 → ofBits binary64 b ≡ ofFields binary64 false (b / 2 ^ 52) (b % 2 ^ 52)
 plus-fields b h =
-    fields-is b
-    ∙ ap (λ (s : Bool). ofFields binary64 s (b % 2 ^ 63 / 2 ^ 52) (b % 2 ^ 52)) (is-false (leb (2 ^ 63) b) (lt→nleb (2 ^ 63) b h))
-    ∙ ap (λ (x : ℕ). ofFields binary64 false (x / 2 ^ 52) (b % 2 ^ 52)) (mod-eq-of-lt h)
-
-finite-value : (x t : ℕ) → x < 2047 → HasValue (ofFields binary64 false x t) false (unitsAt x t) (2 ^ 1074)
-unfolding ofFields
-finite-value zero t h = subst (λ (n : ℕ). HasValue (odd 53 false t 0 1074) false n (2 ^ 1074)) (one t) (odd-sign 53 false t 0 1074)
+    of-fields b
+    ∙ ap (λ (s : Bool). ofFields binary64 s (fieldOf b) (b % 2 ^ 52)) (is-false (leb (2 ^ 63) b) (lt→nleb (2 ^ 63) b h))
+    ∙ ap (λ (x : ℕ). ofFields binary64 false x (b % 2 ^ 52)) (plain b h)
   where
-    one : (t : ℕ) → t * 1 ≡ t
-    one t = omega arith
-finite-value (suc x) t h = go (eqb (suc x) 2047) (not-T (eqb (suc x) 2047) (λ u. lt-irrefl 2047 (subst (λ (n : ℕ). n < 2047) (eqb→eq (suc x) 2047 u) h)))
-  where
-    go : (b : Bool) → T (not b) → HasValue (cond b (cond (eqb t 0) (inf false) nan) (odd 53 false (2 ^ 52 + t) x 1074)) false ((2 ^ 52 + t) * 2 ^ x) (2 ^ 1074)
-    go true n = absurd n
-    go false n = odd-sign 53 false (2 ^ 52 + t) x 1074
+    plain : (b : ℕ) → b < 2 ^ 63 → b / 2 ^ 52 % 2048 ≡ b / 2 ^ 52
+    plain b h = omega arith
 
 pub value-of-pattern : (b : ℕ) → b < 2047 * 2 ^ 52 → HasValue (ofBits binary64 b) false (unitsAt (b / 2 ^ 52) (b % 2 ^ 52)) (2 ^ 1074)
 value-of-pattern b h =
-    subst (λ (v : Float). HasValue v false (unitsAt (b / 2 ^ 52) (b % 2 ^ 52)) (2 ^ 1074)) (sym (plus-fields b (lt-of-lt-of-le h (lit≤ tt)))) (finite-value (b / 2 ^ 52) (b % 2 ^ 52) (field b h))
+    subst (λ (v : Float). HasValue v false (unitsAt (b / 2 ^ 52) (b % 2 ^ 52)) (2 ^ 1074)) (sym (plus-fields b (lt-of-lt-of-le h (lit≤ tt)))) (fields-value false (b / 2 ^ 52) (b % 2 ^ 52) (field b h))
   where
     field : (b : ℕ) → b < 2047 * 2 ^ 52 → b / 2 ^ 52 < 2047
     field b h = omega arith

@@ -1,28 +1,24 @@
 -- trunc, ceil and round on the values of the format: each is exact, monotone, and keeps a whole number as it is. All three take the size of the value, a fraction,
 -- to a whole number by a rule that may look at the sign, and the laws hold for any rule that is monotone and keeps whole numbers. Assumes nothing.
 use mathlib.Core.Path.{_≡_, refl, sym, ap, _∙_, subst}
-use mathlib.Core.Bool.{Bool, true, false, _&&_}
-use Prim.Native.Nat.{ℕ, zero, suc, _+_, _-_, _*_, _/_, _%_, _^_, _≤_, _<_}
-use native.Mathlib.Nat.{le-trans, le-of-eq, le-antisymm, lt-of-le-of-lt, zero-mul, mul-pos, mul-one, zero-lt-suc, mul-le-mul-right, div-one, div-lt-iff-lt-mul, le-of-mul-le-mul-right, lt-div-mul-add, mul-lt-mul-of-pos-right}
+use mathlib.Core.Bool.{Bool, true, false}
+use Prim.Native.Nat.{ℕ, suc, _+_, _-_, _*_, _/_, _^_, _≤_, _<_}
+use native.Mathlib.Nat.{le-trans, le-of-eq, le-antisymm, le-of-suc-le-suc, zero-mul, mul-pos, mul-one, mul-le-mul-right, div-one, div-mul-le-self, div-lt-iff-lt-mul, le-of-mul-le-mul-right, lt-div-mul-add}
 use native.Mathlib.Omega.{arith}
 use lib.IntN.{ℤ, pos, negsuc}
-use lib.Dec.{T, leb, ltb, eqb, ltb→lt}
+use lib.Dec.{T}
 use lib.Pow.{pow-pos}
-use lib.Ieee.{Float, nan, inf, fin, binary64, up, down, round, fits, le}
-use lib.Ieee.Fits.{and-r, down-pos, round-fits}
+use lib.Ieee.{Float, nan, inf, fin, binary64, up, down, fits, le}
+use lib.Ieee.Fits.{down-pos, round-fits}
 use lib.Ieee.Exact.{HasValue}
 use lib.Ieee.Nearest.{div-mono}
 use lib.Ieee.Back.{round-whole, whole-unique}
 use lib.Ieee.Scale.{finite}
-use Rattle.float.specs.Laws.Signed.{sp, sn, P, N, D, Le, le→, round-le, zero-of}
+use Rattle.float.specs.Laws.Signed.{sp, sn, P, N, D, Le, le→, round-le, zero-of, →le}
 use Rattle.float.specs.Laws.Magnitude.{has-finite}
-use Rattle.float.specs.Laws.Remainder.{exact-at, fits-digits}
+use Rattle.float.specs.Laws.Remainder.{Whole, exact-at, fits-digits}
+use Rattle.float.specs.Laws.Exact.{fits-top}
 use Rattle.float.specs.Functions.{wholeAt, truncOf, ceilOf, roundOf}
-
-fits-below : (s : Bool) (m : ℕ) (e : ℤ) → T (fits binary64 (fin s m e)) → m * up e < 2 ^ 1024 * down e
-unfolding fits
-fits-below s zero e t = lt-of-le-of-lt (le-of-eq (zero-mul (up e))) (mul-pos (pow-pos 1024) (down-pos e))
-fits-below s (suc m) e t = ltb→lt (suc m * up e) (2 ^ 1024 * down e) (and-r (eqb (suc m % 2) 1 && ltb (suc m) (2 ^ 53) && leb (down e) (2 ^ 1074)) (ltb (suc m * up e) (2 ^ 1024 * down e)) t)
 
 -- the whole number that a fraction a / d goes to, below zero and above it
 abbrev pub Rule : Type 0
@@ -47,8 +43,8 @@ abbrev pub upward : Rule
 upward true a d = a / d
 upward false a d = (a + (d - 1)) / d
 
-abbrev pub nearest : Rule
-nearest s a d = (2 * a + d) / (2 * d)
+abbrev pub toNearest : Rule
+toNearest s a d = (2 * a + d) / (2 * d)
 
 pub trunc-cuts : Cuts truncOf toZero
 unfolding truncOf
@@ -60,17 +56,17 @@ trunc-cuts = record { is = is; mono = λ s a d b c D C h. div-mono a d b c D C h
     is (fin s m e) = refl
 
 -- a ≤ q * d for the q that a / d goes up to, and for no smaller q
+up-reach : (a d : ℕ) → 0 < d → a ≤ (a + (d - 1)) / d * d
+up-reach a d D = omega (arith, lt-div-mul-add {a = a + (d - 1)} D)
+
 up-mono : (a d b c : ℕ) → 0 < d → 0 < c → a * c ≤ b * d → (a + (d - 1)) / d ≤ (b + (c - 1)) / c
-up-mono a d b c D C h = small ((a + (d - 1)) / d) ((b + (c - 1)) / c) (div-lt-iff-lt-mul D .1 (room a d ((b + (c - 1)) / c) D (le-of-mul-le-mul-right (reach ((b + (c - 1)) / c) (lt-div-mul-add C)) C)))
+up-mono a d b c D C h = le-of-suc-le-suc (div-lt-iff-lt-mul D .1 (room a d ((b + (c - 1)) / c) D (le-of-mul-le-mul-right (cross ((b + (c - 1)) / c) (up-reach b c C)) C)))
   where
-    reach : (q : ℕ) → b + (c - 1) < q * c + c → a * c ≤ q * d * c
-    reach q k = let l : b ≤ q * c = omega arith in omega (arith, mul-le-mul-right d l)
+    cross : (q : ℕ) → b ≤ q * c → a * c ≤ q * d * c
+    cross q k = omega (arith, mul-le-mul-right d k)
 
     room : (a d q : ℕ) → 0 < d → a ≤ q * d → a + (d - 1) < suc q * d
     room a d q D h = omega arith
-
-    small : (p q : ℕ) → p < suc q → p ≤ q
-    small p q h = omega arith
 
 pub ceil-cuts : Cuts ceilOf upward
 unfolding ceilOf
@@ -90,11 +86,11 @@ ceil-cuts = record { is = is; mono = mono; own = own }
     own true w = div-one w
     own false w = omega arith
 
-pub round-cuts : Cuts roundOf nearest
+pub round-cuts : Cuts roundOf toNearest
 unfolding roundOf
 round-cuts = record { is = is; mono = λ s a d b c D C h. div-mono (2 * a + d) (2 * d) (2 * b + c) (2 * c) (mul-pos (pow-pos 1) D) (mul-pos (pow-pos 1) C) (cross a d b c h); own = λ s w. omega arith }
   where
-    is : (x : Float) → roundOf x ≡ wholeOf nearest x
+    is : (x : Float) → roundOf x ≡ wholeOf toNearest x
     is nan = refl
     is (inf s) = refl
     is (fin s m e) = refl
@@ -117,7 +113,7 @@ module _ {g : Float → Float} {r : Rule} (R : Cuts g r) where
   exact : (s : Bool) (m : ℕ) (e : ℤ) → T (fits binary64 (fin s m e)) → HasValue (wholeAt s (r s (m * up e) (down e))) s (r s (m * up e) (down e)) 1
   exact s m (pos k) t =
       let F = fits-digits s m (pos k) t in
-      subst (λ (w : ℕ). HasValue (wholeAt s w) s w 1) (sym (R .own s (m * 2 ^ k))) (exact-at s m (pos k) (F .0) (F .1) (fits-below s m (pos k) t))
+      subst (λ (w : ℕ). HasValue (wholeAt s w) s w 1) (sym (R .own s (m * 2 ^ k))) (exact-at s m (pos k) (F .0) (F .1) (fits-top s m (pos k) t))
   exact s m (negsuc k) t =
       round-whole binary64 s (r s (m * 1) (2 ^ suc k))
       (le-trans (R .mono s (m * 1) (2 ^ suc k) (2 ^ 53) 1 (pow-pos (suc k)) (pow-pos 0) (few m (2 ^ suc k) (fits-digits s m (negsuc k) t .0) (pow-pos (suc k)))) (le-of-eq (R .own s (2 ^ 53))))
@@ -168,3 +164,50 @@ module _ {g : Float → Float} {r : Rule} (R : Cuts g r) where
 
   pub whole-below : (x hi : Float) (s : Bool) (w : ℕ) → T (fits binary64 hi) → HasValue hi s w 1 → T (finite x) → T (le x hi) → T (le (g x) hi)
   whole-below x hi s w t v f h = subst (λ (z : Float). T (le (g x) z)) (whole-own hi s w t v) (whole-mono x hi f (has-finite hi s w 1 v) h)
+
+-- ---- beside the argument
+has-parts : (z : Float) (s : Bool) (w : ℕ) → HasValue z s w 1 → (P z ≡ sp s w * D z) × (N z ≡ sn s w * D z)
+has-parts nan s w h = absurd h
+has-parts (inf t) s w h = absurd h
+has-parts (fin t m e) s w h = subst (λ (u : Bool). (sp u (m * up e) ≡ sp s w * down e) × (sn u (m * up e) ≡ sn s w * down e)) (sym (h .0)) (go s)
+  where
+    size : m * up e ≡ w * down e
+    size = sym (mul-one (m * up e)) ∙ h .1
+
+    go : (s : Bool) → (sp s (m * up e) ≡ sp s w * down e) × (sn s (m * up e) ≡ sn s w * down e)
+    go true = (sym (zero-mul (down e)), size)
+    go false = (size, sym (zero-mul (down e)))
+
+pub has-whole : (z : Float) (w : ℕ) → HasValue z false w 1 → Whole z w
+has-whole z w h = let p = has-parts z false w h in record { is-finite = has-finite z false w 1 h; up-is = p .0; no-minus = p .1 ∙ zero-mul (D z) }
+
+-- w / 1 and a / d, one of them the smaller, over the denominator D of the float that is w
+less-at : (w a d c : ℕ) → w * d ≤ a → w * c * d ≤ a * c
+less-at w a d c h = omega (arith, mul-le-mul-right c h)
+
+more-at : (w a d c : ℕ) → a ≤ w * d → a * c ≤ w * c * d
+more-at w a d c h = omega (arith, mul-le-mul-right c h)
+
+pub trunc-below : (x : Float) → T (fits binary64 x) → T (finite x) → N x ≡ 0 → T (le (truncOf x) x)
+trunc-below nan t f n = absurd f
+trunc-below (inf s) t f n = absurd f
+trunc-below (fin s m e) t f n =
+    let z = truncOf (fin s m e) in
+    let v = whole-value trunc-cuts s m e t in
+    →le z (fin s m e) (has-finite z s (m * up e / down e) 1 v) tt (go s n (P z) (N z) (D z) (has-parts z s (m * up e / down e) v))
+  where
+    go : (s : Bool) → sn s (m * up e) ≡ 0 → (p n c : ℕ) → (p ≡ sp s (m * up e / down e) * c) × (n ≡ sn s (m * up e / down e) * c) → p * down e + sn s (m * up e) * c ≤ sp s (m * up e) * c + n * down e
+    go true h p n c v = omega (arith, ap (λ (k : ℕ). k * c) h, ap (λ (k : ℕ). k * down e) (v .0))
+    go false h p n c v = omega (arith, ap (λ (k : ℕ). k * down e) (v .0), less-at (m * up e / down e) (m * up e) (down e) c (div-mul-le-self (m * up e) (down e)))
+
+pub ceil-above : (x : Float) → T (fits binary64 x) → T (finite x) → T (le x (ceilOf x))
+ceil-above nan t f = absurd f
+ceil-above (inf s) t f = absurd f
+ceil-above (fin s m e) t f =
+    let z = ceilOf (fin s m e) in
+    let v = whole-value ceil-cuts s m e t in
+    →le (fin s m e) z tt (has-finite z s (upward s (m * up e) (down e)) 1 v) (go s (P z) (N z) (D z) (has-parts z s (upward s (m * up e) (down e)) v))
+  where
+    go : (s : Bool) (p n c : ℕ) → (p ≡ sp s (upward s (m * up e) (down e)) * c) × (n ≡ sn s (upward s (m * up e) (down e)) * c) → sp s (m * up e) * c + n * down e ≤ p * down e + sn s (m * up e) * c
+    go true p n c v = omega (arith, ap (λ (k : ℕ). k * down e) (v .1), less-at (m * up e / down e) (m * up e) (down e) c (div-mul-le-self (m * up e) (down e)))
+    go false p n c v = omega (arith, ap (λ (k : ℕ). k * down e) (v .0), ap (λ (k : ℕ). k * down e) (v .1), more-at ((m * up e + (down e - 1)) / down e) (m * up e) (down e) c (up-reach (m * up e) (down e) (down-pos e)))
