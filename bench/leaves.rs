@@ -77,7 +77,13 @@ macro_rules! one {
             $library(x)
         }
         let name = stringify!($name);
-        row(name, $rounds, |x, _| archive::$name(x), |x, _| standin(x), |x, _| library(x));
+        row(
+            name,
+            $rounds,
+            |x, _| archive::$name(x),
+            |x, _| standin(x),
+            |x, _| library(x),
+        );
     }};
 }
 
@@ -91,7 +97,13 @@ macro_rules! two {
         fn library(x: f64, y: f64) -> f64 {
             $library(x, y)
         }
-        row(stringify!($name), $rounds, |x, y| archive::$name(x, y), standin, library);
+        row(
+            stringify!($name),
+            $rounds,
+            |x, y| archive::$name(x, y),
+            standin,
+            library,
+        );
     }};
 }
 

@@ -61,8 +61,9 @@ def answered(cases, *options, program=ORACLE):
 
 def split(lines):
     """The answer's lines, and what the oracle counted beside them."""
-    counted = [line for line in lines if line.startswith("T ")]
-    return [line for line in lines if not line.startswith("T ")], counted
+    counted = [line.split(" ") for line in lines if line.startswith("T ")]
+    lines = [line for line in lines if not line.startswith("T ")]
+    return lines, {key: int(n) for _, key, n in counted}
 
 
 # The rows of the table, in its order: everything that can occur.
@@ -112,8 +113,7 @@ def rows_of(lines, counted):
                 yield "allowance left 0"
     # What the oracle counted beside an answer holds for one that is written.
     if lines and lines[0].startswith("R "):
-        for line in counted:
-            yield line.split(" ")[1]
+        yield from (key for key in counted if key != "granted")
 
 
 class Table:

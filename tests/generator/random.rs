@@ -49,7 +49,9 @@ pub fn case(seed: u64) -> Case {
     match r.below(20) {
         0..=11 => Case::doc(name, &doc),
         12 | 13 => Case::doc(name, &doc).with(|c| small_sizes(&mut r, c)),
-        14 | 15 => Case::doc(name, &doc).with(|c| c.allowance = [r.below(20), r.below(400)][r.below(2)]),
+        14 | 15 => {
+            Case::doc(name, &doc).with(|c| c.allowance = [r.below(20), r.below(400)][r.below(2)])
+        }
         _ => Case::place(name, damage::damaged(&mut r, &doc)),
     }
 }
@@ -62,7 +64,8 @@ fn small_sizes(r: &mut Random, c: &mut Case) {
     c.warnings = size(4);
 }
 
-const NAMES: [&str; 8] = ["A", "B", "C1", "Gate", "north", "p~", "x_lon", "q_______________________________"];
+const NAMES: [&str; 8] =
+    ["A", "B", "C1", "Gate", "north", "p~", "x_lon", "q_______________________________"];
 
 fn name(r: &mut Random) -> String {
     let n = r.pick(&NAMES);
@@ -144,7 +147,9 @@ fn item(r: &mut Random, reach: f64) -> Item {
         (item.line, item.column) = (r.below(4) as u32, r.below(4) as u32);
     }
     let present = |r: &mut Random| !r.chance(9);
-    let measure = |r: &mut Random| coordinate(r, reach).abs() * r.pick(&[0.5, 1.0, 1.0, 1.0, 1.0, 1.0, 1.0, -1.0]);
+    let measure = |r: &mut Random| {
+        coordinate(r, reach).abs() * r.pick(&[0.5, 1.0, 1.0, 1.0, 1.0, 1.0, 1.0, -1.0])
+    };
     item.at = present(r).then(|| point(r, reach));
     item.w = present(r).then(|| measure(r));
     item.h = present(r).then(|| measure(r));

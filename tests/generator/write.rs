@@ -120,13 +120,7 @@ impl Doc {
     }
 
     pub fn place_at(mut self, label: &str, at: Point, nested: u8, line: u32, column: u32) -> Doc {
-        self.places.push(Place {
-            label: label.to_string(),
-            at,
-            nested,
-            line,
-            column,
-        });
+        self.places.push(Place { label: label.to_string(), at, nested, line, column });
         self
     }
 

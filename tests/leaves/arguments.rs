@@ -3,6 +3,9 @@
 
 use std::f64::consts::{FRAC_PI_2, FRAC_PI_4, LN_2, PI};
 
+#[path = "witnesses.rs"]
+mod witnesses;
+
 // A leaf of one argument leaves the second one aside.
 pub type Arguments = (f64, f64);
 pub type Source = fn(&mut Random) -> Arguments;
@@ -59,7 +62,7 @@ impl Random {
 fn step(x: f64, n: i64) -> f64 {
     // Its own inverse; both zeros have place 0.
     let place = |bits: i64| if bits < 0 { i64::MIN - bits } else { bits };
-    f64::from_bits(place(place(x.to_bits() as i64) + n) as u64)
+    f64::from_bits(place(place(x.to_bits() as i64).wrapping_add(n)) as u64)
 }
 
 // 2^e, also where that is subnormal.
@@ -106,7 +109,13 @@ fn common_edges() -> Vec<f64> {
         LN_2,
     ];
     // Smallest and largest subnormal, smallest normal; where squares underflow and overflow.
-    for x in [f64::from_bits(2), f64::MIN_POSITIVE, 1.5e-162, 1.5e-154, 1.3407807929942597e154] {
+    for x in [
+        f64::from_bits(2),
+        f64::MIN_POSITIVE,
+        1.5e-162,
+        1.5e-154,
+        1.3407807929942597e154,
+    ] {
         around(&mut list, x, 1);
     }
     for x in [0.5, 1.0, 1.5, 2.0, 2.5] {
@@ -150,11 +159,10 @@ pub fn edges(leaf: &str) -> Vec<f64> {
             }
         }
         "root" => {
-            for n in 1..=256 {
-                around(&mut list, (n * n) as f64, 2);
-                // 94,906,265 has the largest square below 2^53.
-                let square = 94_906_266 - n;
-                around(&mut list, (square * square) as f64, 2);
+            // 94,906,265 has the largest square below 2^53.
+            for n in (1..=256).chain(94_906_010..=94_906_265) {
+                let side = n as f64;
+                around(&mut list, side * side, 2);
             }
         }
         "sin" | "cos" | "tan" => {
@@ -165,17 +173,29 @@ pub fn edges(leaf: &str) -> Vec<f64> {
             for e in -1074..=1020 {
                 around(&mut list, 2.0 * PI * power_of_two(e), 4);
             }
+            list.extend(witnesses::SINE.map(f64::from_bits));
+            list.extend(witnesses::COSINE.map(f64::from_bits));
         }
+        "ln" => list.extend(witnesses::LOGARITHM.map(f64::from_bits)),
         "exp" => {
+            list.extend(witnesses::EXPONENTIAL.map(f64::from_bits));
             for n in 0..=2050 {
                 around(&mut list, n as f64 * LN_2 / 2.0, 4);
             }
             // The bounds, and where the true exponential leaves the range.
-            for x in [699.0, 700.0, 701.0, 709.782712893384, 745.1332191019412, 1000.0] {
+            for x in [
+                699.0,
+                700.0,
+                701.0,
+                709.782712893384,
+                745.1332191019412,
+                1000.0,
+            ] {
                 around(&mut list, x, 4);
             }
         }
         "atan" => {
+            list.extend(witnesses::ARCTANGENT.map(f64::from_bits));
             for n in 1..=64 {
                 around(&mut list, n as f64, 4);
                 around(&mut list, 1.0 / n as f64, 4);
@@ -235,16 +255,16 @@ pub fn any_pair(random: &mut Random, edges: &[f64]) -> Arguments {
 // A half, or a float next to one, of up to 53 bits.
 fn near_half(random: &mut Random) -> f64 {
     let n = random.word() >> random.whole(11, 63);
-    let half = random.near(n as f64 + 0.5);
-    random.signed(half)
+    random.near(n as f64 + 0.5)
 }
 
 // A number whose root is all but the middle between two floats: n odd, of 54
 // bits, and n*n equal to a small number modulo 2^55, so that n*n without that
 // number is a float.
 fn near_middle(random: &mut Random) -> f64 {
-    // Odd squares are 1 modulo 8, and each such number is one.
-    let small = 8 * random.whole(-4096, 4095) + 1;
+    // Odd squares are 1 modulo 8; each such number is a square modulo 2^55, and
+    // the root is found bit by bit.
+    let small = 8 * random.whole(-1 << 20, 1 << 20) + 1;
     let mut n: u64 = 1;
     for bit in 3..55 {
         let rest = n.wrapping_mul(n).wrapping_sub(small as u64);

@@ -91,15 +91,28 @@ impl Tally<'_> {
             if self.leaf.pair {
                 line += &format!(", {}", written(y));
             }
-            line += &format!(": archive {}, stand-in {}", written(archive), written(standin));
+            line += &format!(
+                ": archive {}, stand-in {}",
+                written(archive),
+                written(standin)
+            );
             self.shown.push(line);
         }
     }
 }
 
 fn run<'a>(leaf: &'a Leaf, count: u64, seed: u64) -> Tally<'a> {
-    let mut tally = Tally { leaf, compared: 0, differences: 0, shown: Vec::new() };
-    let edges = if leaf.pair { arguments::pair_edges() } else { arguments::edges(leaf.name) };
+    let mut tally = Tally {
+        leaf,
+        compared: 0,
+        differences: 0,
+        shown: Vec::new(),
+    };
+    let edges = if leaf.pair {
+        arguments::pair_edges()
+    } else {
+        arguments::edges(leaf.name)
+    };
     for &x in &edges {
         if leaf.pair {
             for &y in &edges {
@@ -139,7 +152,10 @@ fn main() {
     let (mut compared, mut differences) = (0, 0);
     for leaf in &LEAVES {
         let tally = run(leaf, count, seed);
-        println!("{:<16}{:>14}{:>14}", leaf.name, tally.compared, tally.differences);
+        println!(
+            "{:<16}{:>14}{:>14}",
+            leaf.name, tally.compared, tally.differences
+        );
         for line in &tally.shown {
             println!("{line}");
         }

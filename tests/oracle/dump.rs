@@ -30,13 +30,18 @@ pub fn registration(r: &Registration, out: &mut String) {
 pub fn scene(parsed: &Parsed, out: &mut String) {
     let (scene, options) = (&parsed.scene, &parsed.options);
     put(out, format!("S {}", bits(scene.rescale)));
-    let frame = optional(options.frame, |f| u8::from(f == Frame::Mercator).to_string());
+    let frame = optional(options.frame, |f| {
+        u8::from(f == Frame::Mercator).to_string()
+    });
     let anchor = optional(options.anchor, |a| pair([a.lon, a.lat]));
     let scale = optional(options.scale, bits);
     let bearing = optional(options.bearing, bits);
     let view_scale = optional(options.view_scale, bits);
     let flatten = bits(options.flatten);
-    put(out, format!("O {frame} {anchor} {scale} {bearing} {flatten} {view_scale}"));
+    put(
+        out,
+        format!("O {frame} {anchor} {scale} {bearing} {flatten} {view_scale}"),
+    );
     for (i, f) in options.features.iter().enumerate() {
         put(out, format!("N {i} {} {}", f.name, pair([f.lon, f.lat])));
     }
@@ -46,12 +51,27 @@ pub fn scene(parsed: &Parsed, out: &mut String) {
     for (i, p) in scene.places.iter().enumerate() {
         let nested = u8::from(p.block.is_some());
         let span = optional(p.span.as_ref(), |s| format!("{} {}", s.line, s.col));
-        put(out, format!("A {i} {} {} {nested} {span}", p.label, pair(p.at)));
+        put(
+            out,
+            format!("A {i} {} {} {nested} {span}", p.label, pair(p.at)),
+        );
     }
     items(parsed, out);
-    let pairs = scene.vars.keys().filter_map(|k| k.strip_suffix("_lon")).filter(|n| *n != "geo");
-    for name in options.features.iter().map(|f| f.name.as_str()).chain(pairs) {
-        put(out, format!("L {name} {}", optional(scene.point_of_label(name), pair)));
+    let pairs = scene
+        .vars
+        .keys()
+        .filter_map(|k| k.strip_suffix("_lon"))
+        .filter(|n| *n != "geo");
+    for name in options
+        .features
+        .iter()
+        .map(|f| f.name.as_str())
+        .chain(pairs)
+    {
+        put(
+            out,
+            format!("L {name} {}", optional(scene.point_of_label(name), pair)),
+        );
     }
 }
 
@@ -64,12 +84,21 @@ fn items(parsed: &Parsed, out: &mut String) {
             item.fill.is_some(),
             item.class.is_some(),
         ];
-        let flags: u32 = marks.iter().enumerate().map(|(k, m)| u32::from(*m) << k).sum();
+        let flags: u32 = marks
+            .iter()
+            .enumerate()
+            .map(|(k, m)| u32::from(*m) << k)
+            .sum();
         let label = optional(item.label.clone(), |l| l);
         let span = optional(item.span.as_ref(), |s| format!("{} {}", s.line, s.col));
         let at = optional(item.at, pair);
-        let sizes = [item.w, item.h, item.r, item.rad].map(|v| optional(v, bits)).join(" ");
-        put(out, format!("I {i} {} {flags} {label} {span} {at} {sizes}", item.kind));
+        let sizes = [item.w, item.h, item.r, item.rad]
+            .map(|v| optional(v, bits))
+            .join(" ");
+        put(
+            out,
+            format!("I {i} {} {flags} {label} {span} {at} {sizes}", item.kind),
+        );
         for (role, points) in [(0, &item.points), (1, &item.fill_points)] {
             if let Some(points) = points {
                 put(out, format!("J {role} {}", list(points.iter().copied())));
@@ -93,7 +122,9 @@ fn items(parsed: &Parsed, out: &mut String) {
 
 fn list(points: impl Iterator<Item = [f64; 2]>) -> String {
     let all: Vec<String> = points.map(pair).collect();
-    format!("{} {}", all.len(), all.join(" ")).trim_end().to_string()
+    format!("{} {}", all.len(), all.join(" "))
+        .trim_end()
+        .to_string()
 }
 
 fn put(out: &mut String, text: String) {

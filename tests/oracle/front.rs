@@ -69,7 +69,10 @@ pub fn answer(parsed: &Parsed, sizes: Sizes) -> Result<Answer, u32> {
     // A feature that is not written was emitted all the same, and its warning
     // is ours.
     let unwritten = answer.record.unwritten;
-    assert_eq!(answer.features().count() + unwritten, scene.features.features.len());
+    assert_eq!(
+        answer.features().count() + unwritten,
+        scene.features.features.len()
+    );
     assert_eq!(answer.warnings().count(), scene.warnings.len() + unwritten);
     Ok(answer)
 }

@@ -46,7 +46,11 @@ fn main() {
         allowance: 2_000_000,
     };
     while let Some(arg) = args.next() {
-        let mut value = || args.next().and_then(|v| v.parse().ok()).unwrap_or_else(|| usage());
+        let mut value = || {
+            args.next()
+                .and_then(|v| v.parse().ok())
+                .unwrap_or_else(|| usage())
+        };
         match arg.as_str() {
             "--scene" => shown.scene = true,
             "--registration" => shown.registration = true,
@@ -63,7 +67,9 @@ fn main() {
         }
     }
     let mut input = Vec::new();
-    io::stdin().read_to_end(&mut input).expect("the input can be read");
+    io::stdin()
+        .read_to_end(&mut input)
+        .expect("the input can be read");
     let mut out = String::new();
     match mode.as_str() {
         "place" => {
@@ -81,16 +87,33 @@ fn usage() -> ! {
 }
 
 fn print(text: &str) {
-    io::stdout().write_all(text.as_bytes()).expect("the answer can be written");
+    io::stdout()
+        .write_all(text.as_bytes())
+        .expect("the answer can be written");
 }
 
 fn batch(mut input: &[u8], shown: &Shown) {
     while let Some(end) = input.iter().position(|b| *b == b'\n') {
         let line = String::from_utf8_lossy(&input[..end]).into_owned();
         let fields: Vec<&str> = line.split(' ').collect();
-        let numbers: Vec<usize> = fields.iter().skip(2).filter_map(|f| f.parse().ok()).collect();
-        let ["case", name, ..] = fields[..] else { usage() };
-        let [limit, work, positions, features, warnings, allowance, length] = numbers[..] else {
+        let numbers: Vec<usize> = fields
+            .iter()
+            .skip(2)
+            .filter_map(|f| f.parse().ok())
+            .collect();
+        let ["case", name, ..] = fields[..] else {
+            usage()
+        };
+        let [
+            limit,
+            work,
+            positions,
+            features,
+            warnings,
+            allowance,
+            length,
+        ] = numbers[..]
+        else {
             usage()
         };
         let sizes = Sizes {
@@ -159,7 +182,10 @@ fn accepted(answer: &Answer, shown: &Shown, out: &mut String) {
         for p in &f.positions {
             line(out, format_args!("P {} {}", whole(p[0]), whole(p[1])));
             if shown.bits {
-                line(out, format_args!("Q {} {}", dump::bits(p[0]), dump::bits(p[1])));
+                line(
+                    out,
+                    format_args!("Q {} {}", dump::bits(p[0]), dump::bits(p[1])),
+                );
             }
         }
     }
@@ -170,7 +196,10 @@ fn accepted(answer: &Answer, shown: &Shown, out: &mut String) {
     line(out, format_args!("B {} {spent}", answer.record.left));
     if shown.draws {
         for d in answer.draws() {
-            line(out, format_args!("D {} {} {} {}", d.want, d.floor, d.grant, d.left));
+            line(
+                out,
+                format_args!("D {} {} {} {}", d.want, d.floor, d.grant, d.left),
+            );
         }
     }
 }
@@ -203,6 +232,7 @@ fn tally(parsed: &Parsed, answer: &Answer, out: &mut String) {
         };
         count(format!("draw-{name}"), 1);
         count(format!("short-{name}"), usize::from(d.grant < d.want));
+        count("granted".into(), d.grant);
     }
     count("short-split".into(), answer.record.unsplit);
     count("unwritten".into(), answer.record.unwritten);

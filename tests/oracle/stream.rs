@@ -182,7 +182,10 @@ impl Reader<'_> {
             }
             last_tag = tag;
         }
-        self.payload[self.at..].iter().all(|b| *b == 0).then_some(parsed)
+        self.payload[self.at..]
+            .iter()
+            .all(|b| *b == 0)
+            .then_some(parsed)
     }
 
     fn option(&mut self, last: u8, options: &mut GeoOptions) -> Option<u8> {
