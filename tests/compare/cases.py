@@ -46,17 +46,18 @@ def generated(*args):
 
 
 def answered(cases, *options, program=ORACLE):
-    """Each case's lines, in the cases' order; None for a case that the program
-    did not come to, because it stopped."""
-    # `batch` reads all its input before it answers.
-    given = b"".join(case.text() for case in cases)
-    command = [program, "batch", *options]
-    out = subprocess.run(command, input=given, stdout=subprocess.PIPE, stderr=subprocess.PIPE)
-    blocks = out.stdout.decode().split("> ")[1:]
-    answers = [block.splitlines()[1:] for block in blocks]
-    if out.returncode != 0:
-        sys.stderr.write(out.stderr.decode())
-    return answers + [None] * (len(cases) - len(answers))
+    """Each case's lines, in the cases' order; None for one at which the
+    program stopped."""
+    answers = []
+    while len(answers) < len(cases):
+        given = b"".join(case.text() for case in cases[len(answers) :])
+        command = [program, "batch", *options]
+        out = subprocess.run(command, input=given, stdout=subprocess.PIPE, stderr=subprocess.DEVNULL)
+        blocks = out.stdout.decode().split("> ")[1:]
+        answers += [block.splitlines()[1:] for block in blocks]
+        if out.returncode != 0:
+            answers.append(None)
+    return answers
 
 
 def split(lines):

@@ -245,7 +245,29 @@ fn scene(r: &mut Random) -> Doc {
         let shape = item(r, reach);
         doc.items.push(shape);
     }
+    if r.chance(25) {
+        spoil(r, &mut doc);
+    }
     doc
+}
+
+/// One value that is refused, or only just is not.
+fn spoil(r: &mut Random, doc: &mut Doc) {
+    let outside = r.pick(&[f64::NAN, f64::INFINITY, -1_000_000.5, 1e6]);
+    match r.below(6) {
+        0 => doc.flatten = Some(r.pick(&[0.0, -0.0, -1e-3, 1e-300])),
+        1 => doc.rescale = r.pick(&[0.0, -1.0, 1e-12, 1e12]),
+        2 => doc.scale = Some(r.pick(&[0.0, -5.0, 1e9, 1e10])),
+        3 => doc.places.push(Place {
+            label: "far".into(),
+            at: [0.0, outside],
+            nested: 0,
+            line: 0,
+            column: 0,
+        }),
+        4 => doc.items[0].rad = Some(outside),
+        _ => doc.bearing = Some(r.pick(&[f64::NAN, f64::NEG_INFINITY, 1e9])),
+    }
 }
 
 /// Places, features and variables around one spot, so that a fit's scale is
