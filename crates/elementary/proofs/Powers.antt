@@ -1,20 +1,20 @@
 -- 2 ^ k by the exponent's field. Assumes nothing.
 use mathlib.Core.Path.{_≡_, refl, sym, ap, _∙_, subst}
-use mathlib.Core.Bool.{Bool, true, false, not, cond, true≢false}
-use Prim.Native.Nat.{ℕ, zero, suc, _+_, _-_, _*_, _/_, _%_, _^_, _≤_, _<_}
-use native.Mathlib.Nat.{le-trans, mul-div-cancel, mul-mod-left, mul-one}
+use mathlib.Core.Bool.{Bool, true, false, not, cond}
+use Prim.Native.Nat.{ℕ, zero, suc, _+_, _-_, _*_, _/_, _%_, _^_, _≤_}
+use native.Mathlib.Nat.{le-trans}
 use native.Mathlib.Omega.{arith}
-use lib.IntN.{ℤ, pos, negsuc, negℤ}
+use lib.IntN.{pos, negsuc, negℤ}
 use lib.Dec.{T, leb, le→leb, lit≤}
 use lib.Arith.{le→nltb, lt→nleb}
-use lib.Ieee.{Float, nan, inf, fin, binary64, up, down, minus, odd, add, ofInt, inFloat, inUnsigned, toUnsigned, nanBits, ofBits}
-use lib.Ieee.Back.{unsigned-back, round-whole}
+use lib.Ieee.{Float, fin, binary64, minus, odd, add, ofInt, inFloat, inUnsigned, toUnsigned, nanBits, ofBits}
+use lib.Ieee.Back.{unsigned-back}
 use lib.Ieee.Bits.{is-true, is-false, nanBits-above}
 use lib.Ieee.Exact.{HasValue}
-use lib.Ieee.Fits.{down-pos}
 use Rattle.float.specs.Laws.Integers.{moved, whole-add, minus-shift}
 use Rattle.float.specs.Laws.Patterns.{normal}
 use Rattle.elementary.specs.Functions.{Small, twoTo}
+use Rattle.elementary.specs.Laws.Powers.{two-to-is}
 
 -- the field is 1023 + k
 pub fieldOf : {k : Float} → Small k → ℕ
@@ -82,18 +82,6 @@ exponent true (suc n) h =
   where
     plain : (n : ℕ) → suc n ≤ 1010 → 1023 - suc (1023 - suc n) ≡ n
     plain n h = omega arith
-
-two-to-is : (k : Float) (b : Bool) (n : ℕ) → HasValue k b n 1 → twoTo k ≡ fin false 1 (cond b (negℤ (pos n)) (pos n))
-unfolding twoTo
-two-to-is nan b n h = absurd h
-two-to-is (inf s) b n h = absurd h
-two-to-is (fin true m e) true n h = ap (λ (x : ℕ). fin false 1 (negℤ (pos x))) (size-is m e n (h .1))
-  where
-    size-is : (m : ℕ) (e : ℤ) (n : ℕ) → m * up e * 1 ≡ n * down e → m * up e / down e ≡ n
-    size-is m e n h = ap (λ (x : ℕ). x / down e) (sym (mul-one (m * up e)) ∙ h) ∙ mul-div-cancel n (down-pos e)
-two-to-is (fin false m e) false n h = ap (λ (x : ℕ). fin false 1 (pos x)) (ap (λ (x : ℕ). x / down e) (sym (mul-one (m * up e)) ∙ h .1) ∙ mul-div-cancel n (down-pos e))
-two-to-is (fin true m e) false n h = absurd (true≢false (h .0))
-two-to-is (fin false m e) true n h = absurd (true≢false (sym (h .0)))
 
 pub two-to-read : (k : Float) (s : Small k) → ofBits binary64 (toUnsigned 64 (add binary64 k (ofBits binary64 4652209618980700160)) * 4503599627370496) ≡ twoTo k
 two-to-read k s =

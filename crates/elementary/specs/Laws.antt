@@ -1,5 +1,11 @@
 -- What callers may know of the elementary functions.
 pub mod Codes
 pub mod Held
+pub mod Powers
 pub mod Exponential
+pub mod Logarithm
+pub mod Arctangent
+pub mod Arccosine
 pub mod Sine
+pub mod Tangent
+pub mod Mercator

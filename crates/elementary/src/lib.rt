@@ -6,8 +6,11 @@ ghost use Rattle.elementary.specs.Series.{seriesOf, evenOf, oddOf, sineT
 ghost use Rattle.elementary.specs.Functions.{heldOf, toRadiansOf, toDegreesOf, hypotOf, turnOf, quadrantOf, restOf, sineAt, cosineAt, sinOf, cosOf, tanOf, lnAt, lnOf, Small, twoTo, expOf, halvedOf, atanAt, atanUp, atanOf, angleOf, sidedOf, atan2Of, acosOf};
 
 const PI: f64 = 3.141592653589793;
+
 const FRAC_PI_2: f64 = 1.5707963267948966;
+
 const TAU: f64 = 6.283185307179586;
+
 const LN_2: f64 = 0.6931471805599453;
 
 // 1/21!, -1/19!, .., 1

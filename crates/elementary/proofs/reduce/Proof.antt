@@ -22,7 +22,7 @@ returns c =
     let t = c .before .before .before .args .t in
     let r : rem binary64 (c .before .before .abs .result) K.tau ≡ turnOf t = ap (λ (a : Float). rem binary64 a K.tau) (c .before .before .abs .ensures) in
     let q : c .min .result ≡ quadrantOf (turnOf t) =
-        c .min .ensures ∙ ap (λ (a : Float). minOf a K.three) (c .before .trunc .ensures ∙ ap (λ (a : Float). truncOf (div binary64 a K.fracPi2)) r)
+    c .min .ensures ∙ ap (λ (a : Float). minOf a K.three) (c .before .trunc .ensures ∙ ap (λ (a : Float). truncOf (div binary64 a K.fracPi2)) r)
     in
     (q, ap (λ (a : Float). sub binary64 a (mul binary64 (c .min .result) K.fracPi2)) r ∙ ap (λ (a : Float). sub binary64 (turnOf t) (mul binary64 a K.fracPi2)) q)
 

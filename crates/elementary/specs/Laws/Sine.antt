@@ -1,26 +1,26 @@
 -- Sine and cosine of every finite value are finite, and at most 1 + 1/64 in size. Assumes nothing.
-use mathlib.Core.Path.{_≡_, refl, sym, ap, _∙_, subst}
+use mathlib.Core.Path.{_≡_, refl, sym, ap, subst}
 use mathlib.Core.Logic.{_⊎_, inl, inr}
+use mathlib.Core.List.{[], _∷_}
 use mathlib.Core.Bool.{Bool, true, false, not}
 use Prim.Native.Nat.{ℕ, zero, suc, _*_, _/_, _%_, _^_, _≤_, _<_}
 use native.Mathlib.Nat.{le-of-suc-le-suc, div-lt-iff-lt-mul}
 use native.Mathlib.Omega.{arith}
-use lib.IntN.{ℤ, pos, negsuc}
-use lib.Dec.{T, lit<}
-use lib.Ieee.{Float, nan, inf, fin, binary64, up, down, round, neg, add, sub, mul, div, rem, lt, eq, le, isNan, ofBits}
+use lib.IntN.{pos, negsuc}
+use lib.Dec.{T, T-not, lit<}
+use lib.Ieee.{Float, nan, inf, fin, binary64, up, down, round, neg, sub, mul, div, rem, lt, eq, le, isNan, ofBits}
 use lib.Ieee.Fits.{down-pos}
 use lib.Ieee.Scale.{finite}
 use Rattle.float.specs.Functions.{pick, absOf, minOf, truncOf}
-use Rattle.float.specs.Laws.Signed.{P, N, nonneg, neg-le, le→, →le, round-nonneg}
-use Rattle.float.specs.Laws.Order.{le-trans, le-refl, le-total, finite-of, div-up}
-use Rattle.float.specs.Laws.Intervals.{iv, mk, Between, in-finite, isub, imul, idiv, sub-in, mul-in, div-in, point-in, inside, inside-in}
-use Rattle.float.specs.Laws.Expressions.{fits-in}
+use Rattle.float.specs.Laws.Signed.{N, nonneg, neg-le, le→, round-nonneg}
+use Rattle.float.specs.Laws.Order.{le-trans, le-total, finite-of, div-up}
+use Rattle.float.specs.Laws.Intervals.{iv, Between, in-finite}
+use Rattle.float.specs.Laws.Expressions.{Expr, var, lit, less, times, over, fits-in}
 use Rattle.float.specs.Laws.Remainder.{Own, rem-high, rem-nonneg, floor-low, floor-high}
-use Rattle.float.specs.Laws.Comparisons.{lt→le}
 use Rattle.elementary.specs.Constants as K
-use Rattle.elementary.specs.Series.{seriesOf, evenOf, oddOf, sineTable, cosineTable}
+use Rattle.elementary.specs.Series.{evenOf, oddOf, sineTable, cosineTable}
 use Rattle.elementary.specs.Functions.{turnOf, quadrantOf, restOf, sineAt, cosineAt, sinOf, cosOf}
-use Rattle.elementary.specs.Laws.Codes.{even-code, odd-code, even-range, odd-range}
+use Rattle.elementary.specs.Laws.Codes.{encloses, enclosed, even-code, odd-code, even-range, odd-range}
 
 -- 1 + 1/64, and its opposite
 abbrev pub bound : Float
@@ -60,7 +60,10 @@ unfolding sineTable le
 sine-fits = tt
 
 series-unit : (u : Float) → Between slack-lo slack-hi u → UnitSize (oddOf sineTable u) × UnitSize (evenOf cosineTable u)
-series-unit u i = (odd-range 20 sineTable low-bound bound slack-lo slack-hi u sine-fits i, even-range 20 cosineTable low-bound bound slack-lo slack-hi u cosine-fits i)
+series-unit u i =
+    let s = odd-range 20 sineTable low-bound bound slack-lo slack-hi u tt tt sine-fits i in
+    let c = even-range 20 cosineTable low-bound bound slack-lo slack-hi u tt tt cosine-fits i in
+    ((s .low, s .high), (c .low, c .high))
 
 -- ---- the turn's part r, from 0 to 2π, and r / FRAC_PI_2, from 0 to 4
 abs-plain : (t : Float) → T (finite t) → T (finite (absOf t)) × (N (absOf t) ≡ 0)
@@ -92,36 +95,32 @@ quotient-sign (inf s) p h = absurd p
 quotient-sign (fin true m e) p h = absurd h
 quotient-sign (fin false m e) p h = round-nonneg binary64 (m * up e * 2 ^ 49) (884279719003555 * 1 * down e)
 
-quotient-test : T (inside (idiv (iv K.zero K.tau) (mk K.fracPi2 K.fracPi2)) K.zero K.four)
+abbrev pub quotient-code : Expr
+quotient-code = over (var 0) (lit K.fracPi2)
+
+quotient-test : T (encloses quotient-code (iv K.zero K.tau ∷ []) K.zero K.four)
 unfolding ofBits div le
 quotient-test = tt
 
 quotient-in : (r : Float) → Between K.zero K.tau r → Between K.zero K.four (div binary64 r K.fracPi2)
-unfolding ofBits
-quotient-in r i =
-    let w = inside-in (idiv (iv K.zero K.tau) (mk K.fracPi2 K.fracPi2)) K.zero K.four (div binary64 r K.fracPi2) quotient-test (div-in (iv K.zero K.tau) (mk K.fracPi2 K.fracPi2) r K.fracPi2 i (point-in K.fracPi2)) in
-    record { low = w .0; high = w .1; fl = tt; fh = tt }
+quotient-in r i = enclosed quotient-code (iv K.zero K.tau ∷ []) (r ∷ []) K.zero K.four quotient-test (i, tt)
 
 -- ---- what a quotient says of what was divided
 abbrev below? : Float → Float → Bool
 below? x y = not (le y x)
 
-absent : (b : Bool) → T (not b) → T b → ⊥
-absent true n t = n
-absent false n t = t
-
 low-end : (q r r0 : Float) → T (finite r) → T (finite r0) → T (le q (div binary64 r K.fracPi2)) → T (below? (div binary64 r0 K.fracPi2) q) → T (le r0 r)
 unfolding ofBits
 low-end q r r0 p p0 h k = elim (le-total r0 r p0 p) [
   | inl l ↦ l
-  | inr l ↦ absurd (absent (le q (div binary64 r0 K.fracPi2)) k (le-trans q (div binary64 r K.fracPi2) (div binary64 r0 K.fracPi2) h (div-up binary64 r r0 K.fracPi2 p p0 tt (lit< tt) l)))
+  | inr l ↦ absurd (T-not (le q (div binary64 r0 K.fracPi2)) k (le-trans q (div binary64 r K.fracPi2) (div binary64 r0 K.fracPi2) h (div-up binary64 r r0 K.fracPi2 p p0 tt (lit< tt) l)))
 ]
 
 high-end : (q r r1 : Float) → T (finite r) → T (finite r1) → T (le (div binary64 r K.fracPi2) q) → T (below? q (div binary64 r1 K.fracPi2)) → T (le r r1)
 unfolding ofBits
 high-end q r r1 p p1 h k = elim (le-total r r1 p p1) [
   | inl l ↦ l
-  | inr l ↦ absurd (absent (le (div binary64 r1 K.fracPi2) q) k (le-trans (div binary64 r1 K.fracPi2) (div binary64 r K.fracPi2) q (div-up binary64 r1 r K.fracPi2 p1 p tt (lit< tt) l) h))
+  | inr l ↦ absurd (T-not (le (div binary64 r1 K.fracPi2) q) k (le-trans (div binary64 r1 K.fracPi2) (div binary64 r K.fracPi2) q (div-up binary64 r1 r K.fracPi2 p1 p tt (lit< tt) l) h))
 ]
 
 -- ---- the quadrants: where r lies if the quotient's whole part is n
@@ -146,8 +145,11 @@ h3 = fin false 5305678314021331 (negsuc 49)
 abbrev whole : ℕ → Float
 whole n = fin false n (pos 0)
 
+abbrev pub rest-code : Float → Expr
+rest-code q = less (var 0) (times (lit q) (lit K.fracPi2))
+
 abbrev rest-test : Float → Float → Float → Bool
-rest-test q a b = inside (isub (iv a b) (imul (mk q q) (mk K.fracPi2 K.fracPi2))) slack-lo slack-hi
+rest-test q a b = encloses (rest-code q) (iv a b ∷ []) slack-lo slack-hi
 
 abbrev Tests : Type 0
 Tests = T (rest-test K.zero K.zero h1) × T (rest-test K.one l1 h2) × T (rest-test K.two l2 h3) × T (rest-test K.three l3 K.tau)
@@ -162,9 +164,7 @@ tests = (tt, tt, tt, tt, tt, tt, tt, tt, tt, tt, tt)
 rest-in : (q a b r : Float) → T (rest-test q a b) → Between a b r → quadrantOf r ≡ q → Between slack-lo slack-hi (restOf r)
 unfolding restOf
 rest-in q a b r t i e =
-    let w = inside-in (isub (iv a b) (imul (mk q q) (mk K.fracPi2 K.fracPi2))) slack-lo slack-hi (sub binary64 r (mul binary64 q K.fracPi2)) t
-        (sub-in (iv a b) (imul (mk q q) (mk K.fracPi2 K.fracPi2)) r (mul binary64 q K.fracPi2) i (mul-in (mk q q) (mk K.fracPi2 K.fracPi2) q K.fracPi2 (point-in q) (point-in K.fracPi2))) in
-    subst (λ (z : Float). Between slack-lo slack-hi (sub binary64 r (mul binary64 z K.fracPi2))) (sym e) (record { low = w .0; high = w .1; fl = tt; fh = tt })
+    subst (λ (z : Float). Between slack-lo slack-hi (sub binary64 r (mul binary64 z K.fracPi2))) (sym e) (enclosed (rest-code q) (iv a b ∷ []) (r ∷ []) slack-lo slack-hi t (i, tt))
 
 -- a quadrant and what is left in it
 pub record Quadrant (r : Float) : Type 0 where

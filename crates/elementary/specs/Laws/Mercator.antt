@@ -1,0 +1,81 @@
+-- The arguments of the Mercator projection: the ordinate of a latitude up to 89.5 degrees is finite, and a mean of ordinates gives such a latitude. Assumes nothing.
+use mathlib.Core.Bool.{true, false}
+use mathlib.Core.List.{[], _∷_}
+use lib.Dec.{T}
+use lib.IntN.{negsuc}
+use lib.Ieee.{Float, fin, binary64, add, sub, mul, div, le, ofBits}
+use lib.Ieee.Fits.{div-fits}
+use lib.Ieee.Positive.{between}
+use lib.Ieee.Scale.{finite}
+use Rattle.float.specs.Laws.Intervals.{iv, Between, in-finite}
+use Rattle.float.specs.Laws.Expressions.{Expr, var, lit, plus, less, times, over}
+use Rattle.elementary.specs.Constants as K
+use Rattle.elementary.specs.Functions.{toRadiansOf, toDegreesOf, sinOf, cosOf, tanOf, lnOf, expOf, atanOf}
+use Rattle.elementary.specs.Laws.Codes.{encloses, enclosed}
+use Rattle.elementary.specs.Laws.Exponential.{m3·25, c3·25, exp-mid}
+use Rattle.elementary.specs.Laws.Logarithm.{ln-least, ln-most, ln-in}
+use Rattle.elementary.specs.Laws.Arctangent.{atan-least, atan-most, atan-mid}
+use Rattle.elementary.specs.Laws.Tangent.{c1/256, c1·5707, Slanted, tan-least, tan-most, tan-in}
+
+-- ---- the logarithm of the tangent
+pub ln-tan-in : (a : Float) → Slanted a → Between ln-least ln-most (lnOf (tanOf a))
+ln-tan-in a i =
+    let j = tan-in a i in
+    ln-in (tanOf a) (between tan-least (tanOf a) tan-most tt tt (j .low) (j .high)) (unfold tanOf in div-fits binary64 (sinOf a) (cosOf a))
+
+pub ln-tan-finite : (a : Float) → Slanted a → T (finite (lnOf (tanOf a)))
+ln-tan-finite a i = in-finite ln-least ln-most (lnOf (tanOf a)) (ln-tan-in a i)
+
+-- ---- forward: a latitude in degrees
+-- std::f64::consts::FRAC_PI_4, 0.7853981633974483
+abbrev pub fracPi4 : Float
+fracPi4 = ofBits binary64 0x3fe921fb54442d18
+
+-- whose tangent's logarithm is the ordinate, over the radius
+abbrev pub slantOf : Float → Float
+slantOf lat = add binary64 fracPi4 (div binary64 (toRadiansOf lat) K.two)
+
+abbrev pub c89·5 : Float
+c89·5 = fin false 179 (negsuc 0)
+
+abbrev pub m89·5 : Float
+m89·5 = fin true 179 (negsuc 0)
+
+abbrev slant : Expr
+slant = plus (lit fracPi4) (over (times (var 0) (over (lit K.pi) (lit K.c180))) (lit K.two))
+
+slant-test : T (encloses slant (iv m89·5 c89·5 ∷ []) c1/256 c1·5707)
+unfolding ofBits add mul div le
+slant-test = tt
+
+pub latitude-in : (lat : Float) → Between m89·5 c89·5 lat → Slanted (slantOf lat)
+unfolding toRadiansOf
+latitude-in lat i = enclosed slant (iv m89·5 c89·5 ∷ []) (lat ∷ []) c1/256 c1·5707 slant-test (i, tt)
+
+-- ---- inverse: an ordinate over the radius
+abbrev pub latitudeOf : Float → Float
+latitudeOf w = toDegreesOf (sub binary64 (mul binary64 K.two (atanOf (expOf w))) K.fracPi2)
+
+abbrev latitude : Expr
+latitude = times (less (times (lit K.two) (var 0)) (lit K.fracPi2)) (over (lit K.c180) (lit K.pi))
+
+latitude-test : T (encloses latitude (iv atan-least atan-most ∷ []) m89·5 c89·5)
+unfolding ofBits sub mul div le
+latitude-test = tt
+
+pub anchor-in : (w : Float) → Between m3·25 c3·25 w → Between m89·5 c89·5 (latitudeOf w)
+unfolding toDegreesOf
+anchor-in w i = enclosed latitude (iv atan-least atan-most ∷ []) (atanOf (expOf w) ∷ []) m89·5 c89·5 latitude-test (atan-mid (expOf w) (exp-mid w i), tt)
+
+-- The latitude that a fitted anchor's ordinate gives is finite, and so are the tangent and the ordinate of that latitude.
+pub record Anchored (w : Float) : Type 0 where
+  pub latitude : T (finite (latitudeOf w))
+  pub tangent : T (finite (tanOf (slantOf (latitudeOf w))))
+  pub ordinate : T (finite (lnOf (tanOf (slantOf (latitudeOf w)))))
+
+pub anchor-finite : (w : Float) → Between m3·25 c3·25 w → Anchored w
+anchor-finite w i =
+    let lat = latitudeOf w in
+    let j = anchor-in w i in
+    let k = latitude-in lat j in
+    record { latitude = in-finite m89·5 c89·5 lat j; tangent = in-finite tan-least tan-most (tanOf (slantOf lat)) (tan-in (slantOf lat) k); ordinate = ln-tan-finite (slantOf lat) k }

@@ -1,0 +1,175 @@
+-- The tangent from 1/256 to 1.5707 is finite and above zero: from 2 ^ -10 to 2 ^ 15. Assumes nothing.
+use mathlib.Core.Path.{_≡_, refl, sym, ap, _∙_, subst}
+use mathlib.Core.Bool.{Bool, true, false, not}
+use mathlib.Core.List.{[], _∷_}
+use Prim.Native.Nat.{ℕ, _*_, _^_, _≤_, _<_}
+use native.Mathlib.Nat.{mod-eq-of-lt, div-eq-of-lt, mul-pos}
+use native.Mathlib.Omega.{arith}
+use lib.IntN.{ℤ, negsuc}
+use lib.Dec.{T}
+use lib.Pow.{pow-pos}
+use lib.Ieee.{Float, nan, inf, fin, binary64, up, down, round, isNan, neg, sub, mul, div, rem, lt, eq, le, ofBits}
+use lib.Ieee.Fits.{down-pos}
+use lib.Ieee.Order.{round-mono}
+use lib.Ieee.Positive.{positive, between}
+use lib.Ieee.Scale.{round-same}
+use Rattle.float.specs.Functions.{pick, absOf, minOf, truncOf}
+use Rattle.float.specs.Laws.Signed.{le→}
+use Rattle.float.specs.Laws.Order.{le-trans}
+use Rattle.float.specs.Laws.Intervals.{iv, Between}
+use Rattle.float.specs.Laws.Expressions.{var, over, fits-in}
+use Rattle.elementary.specs.Constants as K
+use Rattle.elementary.specs.Series.{evenOf, oddOf, sineTable, cosineTable}
+use Rattle.elementary.specs.Functions.{turnOf, quadrantOf, restOf, sineAt, cosineAt, sinOf, cosOf, tanOf}
+use Rattle.elementary.specs.Laws.Codes.{encloses, enclosed, even-code, odd-code, even-range, odd-range}
+use Rattle.elementary.specs.Laws.Powers.{power}
+use Rattle.elementary.specs.Laws.Sine.{bound, quotient-code, rest-code}
+use Rattle.elementary.specs.Laws.Arctangent.{le→not-lt}
+
+abbrev pub c1/256 : Float
+c1/256 = power true 8
+
+-- a little below FRAC_PI_2, 1.570796
+abbrev pub c1·5707 : Float
+c1·5707 = fin false 3536901967355419 (negsuc 50)
+
+abbrev pub Slanted : Float → Type 0
+Slanted a = Between c1/256 c1·5707 a
+
+slanted-positive : (a : Float) → Slanted a → T (positive a)
+slanted-positive a i = between c1/256 a c1·5707 tt tt (i .low) (i .high)
+
+-- ---- less than a turn, so the turn's part is a, rounded once
+own-ends : (round binary64 false 1 (2 ^ 8) ≡ c1/256) × (round binary64 false 3536901967355419 (2 ^ 51) ≡ c1·5707)
+unfolding round
+own-ends = (refl, refl)
+
+rounded-in : (m : ℕ) (e : ℤ) → Slanted (fin false m e) → Slanted (round binary64 false (m * up e) (down e))
+rounded-in m e i =
+    let v = round binary64 false (m * up e) (down e) in
+    let l = le→ c1/256 (fin false m e) tt tt (i .low) in
+    let h = le→ (fin false m e) c1·5707 tt tt (i .high) in
+    record {
+      low = subst (λ (z : Float). T (le z v)) (own-ends .0) (round-mono binary64 1 (2 ^ 8) (m * up e) (down e) (pow-pos 8) (down-pos e) (omega arith));
+      high = subst (λ (z : Float). T (le v z)) (own-ends .1) (round-mono binary64 (m * up e) (down e) 3536901967355419 (2 ^ 51) (down-pos e) (pow-pos 51) (omega arith));
+      fl = tt;
+      fh = tt;
+    }
+
+short : (x d : ℕ) → 0 < d → x * 2 ^ 51 ≤ 3536901967355419 * d → x * 2 ^ 47 < 884279719003555 * 1 * d
+short x d D h = omega arith
+
+turn-in : (a : Float) → T (positive a) → Slanted a → Slanted (turnOf a)
+unfolding turnOf absOf rem ofBits
+turn-in nan p i = absurd p
+turn-in (inf s) p i = absurd p
+turn-in (fin true m e) p i = absurd p
+turn-in (fin false m e) p i =
+    let h = le→ (fin false m e) c1·5707 tt tt (i .high) in
+    subst Slanted
+    (sym (ap (λ (j : ℕ). round binary64 false j (down e * 2 ^ 47)) (mod-eq-of-lt (short (m * up e) (down e) (down-pos e) (omega arith)))
+    ∙ round-same binary64 false (m * up e * 2 ^ 47) (down e * 2 ^ 47) (m * up e) (down e) (mul-pos (down-pos e) (pow-pos 47)) (down-pos e) (omega arith)))
+    (rounded-in m e i)
+
+-- ---- the first quadrant
+abbrev q-lo : Float
+q-lo = power true 9
+
+-- 1 - 2 ^ -14
+abbrev q-hi : Float
+q-hi = fin false 16383 (negsuc 13)
+
+quotient-test : T (encloses quotient-code (iv c1/256 c1·5707 ∷ []) q-lo q-hi)
+unfolding ofBits div le
+quotient-test = tt
+
+whole-part : (w : Float) → T (positive w) → T (le w q-hi) → minOf (truncOf w) K.three ≡ K.zero
+unfolding minOf truncOf isNan lt round ofBits
+whole-part nan p h = absurd p
+whole-part (inf s) p h = absurd p
+whole-part (fin true m d) p h = absurd p
+whole-part (fin false m d) p h =
+    ap (λ (n : ℕ). minOf (round binary64 false n 1) K.three) (div-eq-of-lt (under (m * up d) (down d) (down-pos d) (let k = le→ (fin false m d) q-hi tt tt h in omega arith)))
+  where
+    under : (x d : ℕ) → 0 < d → x * 2 ^ 14 ≤ 16383 * d → x < d
+    under x d D h = omega arith
+
+quadrant-is : (r : Float) → Slanted r → quadrantOf r ≡ K.zero
+unfolding quadrantOf
+quadrant-is r i =
+    let w = div binary64 r K.fracPi2 in
+    let j = enclosed quotient-code (iv c1/256 c1·5707 ∷ []) (r ∷ []) q-lo q-hi quotient-test (i, tt) in
+    whole-part w (between q-lo w q-hi tt tt (j .low) (j .high)) (j .high)
+
+rest-test : T (encloses (rest-code K.zero) (iv c1/256 c1·5707 ∷ []) c1/256 c1·5707)
+unfolding ofBits sub mul le
+rest-test = tt
+
+rest-in : (r : Float) → Slanted r → Slanted (restOf r)
+unfolding restOf
+rest-in r i =
+    subst (λ (q : Float). Slanted (sub binary64 r (mul binary64 q K.fracPi2))) (sym (quadrant-is r i)) (enclosed (rest-code K.zero) (iv c1/256 c1·5707 ∷ []) (r ∷ []) c1/256 c1·5707 rest-test (i, tt))
+
+-- ---- both series there
+abbrev sine-least : Float
+sine-least = power true 9
+
+abbrev cosine-least : Float
+cosine-least = power true 14
+
+sine-test : T (fits-in 20 (odd-code sineTable) sine-least bound c1/256 c1·5707)
+unfolding sineTable le
+sine-test = tt
+
+cosine-test : T (fits-in 20 (even-code cosineTable) cosine-least bound c1/256 c1·5707)
+unfolding cosineTable le
+cosine-test = tt
+
+first-sine : (q u : Float) → q ≡ K.zero → oddOf sineTable u ≡ sineAt q u
+unfolding sineAt eq ofBits
+first-sine q u e = rw e
+
+first-cosine : (q u : Float) → q ≡ K.zero → evenOf cosineTable u ≡ cosineAt q u
+unfolding cosineAt eq ofBits
+first-cosine q u e = rw e
+
+above-zero : T (le K.zero c1/256)
+unfolding ofBits le
+above-zero = tt
+
+sin-in : (a : Float) → Slanted a → Between sine-least bound (sinOf a)
+unfolding sinOf
+sin-in a i = go (lt a K.zero) (le→not-lt K.zero a (unfold ofBits in tt) (le-trans K.zero c1/256 a above-zero (i .low)))
+  where
+    r : Float
+    r = turnOf a
+
+    j : Slanted (turnOf a)
+    j = turn-in a (slanted-positive a i) i
+
+    go : (b : Bool) → T (not b) → Between sine-least bound (pick b (neg (sineAt (quadrantOf r) (restOf r))) (sineAt (quadrantOf r) (restOf r)))
+    go true n = absurd n
+    go false n =
+        subst (Between sine-least bound) (first-sine (quadrantOf r) (restOf r) (quadrant-is r j)) (odd-range 20 sineTable sine-least bound c1/256 c1·5707 (restOf r) tt tt sine-test (rest-in r j))
+
+cos-in : (a : Float) → Slanted a → Between cosine-least bound (cosOf a)
+unfolding cosOf
+cos-in a i =
+    let r = turnOf a in
+    let j = turn-in a (slanted-positive a i) i in
+    subst (Between cosine-least bound) (first-cosine (quadrantOf r) (restOf r) (quadrant-is r j)) (even-range 20 cosineTable cosine-least bound c1/256 c1·5707 (restOf r) tt tt cosine-test (rest-in r j))
+
+-- ---- the law
+abbrev pub tan-least : Float
+tan-least = power true 10
+
+abbrev pub tan-most : Float
+tan-most = power false 15
+
+tan-test : T (encloses (over (var 0) (var 1)) (iv sine-least bound ∷ iv cosine-least bound ∷ []) tan-least tan-most)
+unfolding div le
+tan-test = tt
+
+pub tan-in : (a : Float) → Slanted a → Between tan-least tan-most (tanOf a)
+unfolding tanOf
+tan-in a i = enclosed (over (var 0) (var 1)) (iv sine-least bound ∷ iv cosine-least bound ∷ []) (sinOf a ∷ cosOf a ∷ []) tan-least tan-most tan-test (sin-in a i, (cos-in a i, tt))
