@@ -1,0 +1,138 @@
+// The blocks of a stream, and what stands at a place of their payload.
+ghost use mathlib.Core.Path.{_≡_};
+ghost use Prim.Native.Nat.{_+_, _*_, _<_, _≤_};
+ghost use lib.ListN.{length, getD};
+ghost use Rattle.stream.specs.Numbers.{u16At, u32At, u64At, floatAt};
+ghost use Rattle.stream.specs.Blocks.{checked, blocksOf};
+ghost use Rattle.stream.specs.Payload.{room, placeOf, rest, partFrom};
+
+mod numbers;
+
+// The bytes of a block, and how many of them come before its check.
+const BLOCK: usize = 512;
+
+pub const PAYLOAD: usize = 508;
+
+// What the blocks of a stream are found to be.
+pub enum Blocks {
+    // so many whole blocks, each with a right check
+    Fine(usize),
+    // the stream is empty, not whole blocks, or too many
+    Size,
+    // a check is wrong
+    Check,
+}
+
+// A float that was read. A NaN or an infinity has no value here: reading comes before condition 4.
+pub enum Float64 {
+    Finite(f64),
+    NotFinite,
+}
+
+// Whether block i has a right check.
+fn check(s: &[u8], i: usize) -> bool
+    requires { ⌜ (512 * i + 512 ≤ length (now s)) × (i < 65536) ⌝ }
+    ensures { λ r. ⌜ r ≡ checked (now (s .entry)) i ⌝ }
+{
+    let base = BLOCK * i;
+    let mut sum = i as u32;
+    let mut k = 0usize;
+    while k < 127 {
+        sum = std::num::wrapping_add_u32(sum, numbers::four(s, base + 4 * k));
+        k += 1;
+    }
+    sum == numbers::four(s, base + PAYLOAD)
+}
+
+// Conditions 1 and 2.
+pub fn judge(s: &[u8]) -> Blocks
+    ensures { λ r. ⌜ r ≡ blocksOf (now (s .entry)) ⌝ }
+{
+    let n = s.len() / BLOCK;
+    if s.len() == 0 {
+        return Blocks::Size;
+    }
+    if s.len() % BLOCK != 0 {
+        return Blocks::Size;
+    }
+    if n > 65536 {
+        return Blocks::Size;
+    }
+    let mut i = 0usize;
+    while i < n {
+        if !check(s, i) {
+            return Blocks::Check;
+        }
+        i += 1;
+    }
+    Blocks::Fine(n)
+}
+
+// The part that starts at the block of the payload's byte p, which has the offset p % 508 there.
+pub fn part_from(s: &[u8], p: usize) -> &[u8]
+    requires { ⌜ p ≤ room (now s) ⌝ }
+    ensures { λ r. ⌜ now r ≡ partFrom (now (s .entry)) p ⌝ }
+{
+    let from = BLOCK * (p / PAYLOAD);
+    &s[from..]
+}
+
+// Where byte p of the payload stands: behind the checks of the blocks before it.
+fn place(p: usize) -> usize
+    requires { ⌜ placeOf p < 18446744073709551616 ⌝ }
+    ensures { λ r. ⌜ r ≡ placeOf p ⌝ }
+{
+    p + 4 * (p / PAYLOAD)
+}
+
+// The readers take a part that starts at a block and an offset in its payload; i counts from there.
+pub fn left(part: &[u8], off: usize) -> usize
+    requires { ⌜ off ≤ room (now part) ⌝ }
+    ensures { λ r. ⌜ r ≡ length (rest (now (part .entry)) off) ⌝ }
+{
+    PAYLOAD * (part.len() / BLOCK) - off
+}
+
+pub fn byte(part: &[u8], off: usize, i: usize) -> u8
+    requires { ⌜ (off ≤ room (now part)) × (i < length (rest (now part) off)) ⌝ }
+    ensures { λ r. ⌜ r ≡ getD (rest (now (part .entry)) off) i 0 ⌝ }
+{
+    part[place(off + i)]
+}
+
+pub fn short(part: &[u8], off: usize, i: usize) -> u16
+    requires { ⌜ (off ≤ room (now part)) × (i + 2 ≤ length (rest (now part) off)) ⌝ }
+    ensures { λ r. ⌜ r ≡ u16At (rest (now (part .entry)) off) i ⌝ }
+{
+    numbers::join16(byte(part, off, i), byte(part, off, i + 1))
+}
+
+// Four or eight bytes are read side by side where no check stands between them.
+pub fn word(part: &[u8], off: usize, i: usize) -> u32
+    requires { ⌜ (off ≤ room (now part)) × (i + 4 ≤ length (rest (now part) off)) ⌝ }
+    ensures { λ r. ⌜ r ≡ u32At (rest (now (part .entry)) off) i ⌝ }
+{
+    let at = place(off + i);
+    if at % BLOCK + 4 <= PAYLOAD {
+        return numbers::four(part, at);
+    }
+    numbers::join32(short(part, off, i), short(part, off, i + 2))
+}
+
+fn long(part: &[u8], off: usize, i: usize) -> u64
+    requires { ⌜ (off ≤ room (now part)) × (i + 8 ≤ length (rest (now part) off)) ⌝ }
+    ensures { λ r. ⌜ r ≡ u64At (rest (now (part .entry)) off) i ⌝ }
+{
+    let at = place(off + i);
+    if at % BLOCK + 8 <= PAYLOAD {
+        return numbers::eight(part, at);
+    }
+    numbers::join64(word(part, off, i), word(part, off, i + 4))
+}
+
+pub fn float(part: &[u8], off: usize, i: usize) -> Float64
+    requires { ⌜ (off ≤ room (now part)) × (i + 8 ≤ length (rest (now part) off)) ⌝ }
+    ensures { λ r. ⌜ r ≡ floatAt (rest (now (part .entry)) off) i ⌝ }
+{
+    numbers::float_of(long(part, off, i))
+}
