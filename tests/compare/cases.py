@@ -1,5 +1,6 @@
 """Cases and answers: reading both, counting what occurred, comparing."""
 
+import os
 import subprocess
 import sys
 from pathlib import Path
@@ -151,7 +152,12 @@ def first_difference(ours, theirs):
 
 def placed(program, case):
     """What the program `place` prints for a stream."""
-    out = subprocess.run([program], input=case.data, stdout=subprocess.PIPE)
-    if out.returncode != 0:
-        return [f"(status {out.returncode})"]
-    return out.stdout.decode("ascii", "replace").splitlines()
+    # Files in memory: pipes would cost more than the program does.
+    with open(os.memfd_create("stream"), "w+b") as given, open(os.memfd_create("lines"), "w+b") as out:
+        given.write(case.data)
+        given.flush()
+        given.seek(0)
+        status = subprocess.call([program], stdin=given, stdout=out)
+        out.seek(0)
+        text = out.read().decode("ascii", "replace")
+    return text.splitlines() if status == 0 else [f"(status {status})"]

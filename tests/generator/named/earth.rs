@@ -525,6 +525,10 @@ pub fn fits(set: &mut Set) {
             let doc = (0..n)
                 .fold(base.clone(), |d, k| d.control(&format!("k{k}"), corners[k], lon[k], lat[k]));
             set.doc(format!("fit-{n}-{name}"), &doc);
+            // Far from the control points the last bit of a fit shows.
+            let dots = [[1e6, 1e6], [-1e6, 3e5], [7e5, -9e5], [0.25, 0.5]];
+            let items = dots.map(|p| dot(p[0], p[1])).to_vec();
+            set.doc(format!("fit-{n}-{name}-of-far-dots"), &doc.with(|d| d.items = items));
         }
     }
 }

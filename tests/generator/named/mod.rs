@@ -59,6 +59,7 @@ pub fn all() -> Vec<Case> {
     shapes::segments(&mut set);
     shapes::wide(&mut set);
     sizes::sweeps(&mut set);
+    sizes::wide_and_spent(&mut set);
     sizes::full_slices(&mut set);
     sizes::borders(&mut set);
     let names: BTreeSet<&str> = set.cases.iter().map(|c| c.name.as_str()).collect();

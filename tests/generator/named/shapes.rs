@@ -224,6 +224,20 @@ pub fn cubics(set: &mut Set) {
     let deep = Doc::anchored().item(deep).with(|d| (d.flatten, d.scale) = (Some(1e-9), Some(1e-9)));
     set.sized("cubic-of-depth-16", &deep, |c| (c.work, c.positions) = (70_000, 70_000));
     set.doc("cubic-of-depth-16-without-room", &deep);
+    // Long and slim: only where it turns back does it go as deep.
+    let slim: [Point; 3] = [[1e5, 1.0 / 3.0], [-3e4, 2.0 / 3.0], [8e4, 1.0]];
+    for closed in [false, true] {
+        let item = Item::new(ARC).part(curve(0, closed, o, &[slim]));
+        let mut doc = Doc::anchored().item(item).with(|d| d.flatten = Some(1e-5));
+        doc.scale = Some(0.01);
+        set.doc(format!("cubic-hairpins-of-depth-16-closed-{closed}"), &doc);
+    }
+    for flatten in [1e-300, 1e-12, 1e-9, 2e-9] {
+        let item =
+            Item::new(SPLINE).part(curve(0, false, o, &[[[0.0, 1e-7], [2e-7, 1e-7], [2e-7, 0.0]]]));
+        let doc = Doc::anchored().item(item).with(|d| d.flatten = Some(flatten));
+        set.doc(format!("least-tolerance-{flatten:e}"), &doc);
+    }
     for flatten in [1e-12, 1e-9, 1e-3, 0.1, 1.0, 10.0] {
         let item = Item::new(SPLINE).part(curve(
             0,

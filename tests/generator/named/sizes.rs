@@ -130,6 +130,34 @@ pub fn sweeps(set: &mut Set) {
     }
 }
 
+/// So wide that a rounding of the canvas shows on the Earth.
+fn wide_line() -> Item {
+    line(&[[1e6 / 3.0, -1e6 / 7.0], [-2e6 / 3.0, 5e5 / 3.0], [1e-3 / 3.0, 1e-3 / 7.0]])
+}
+
+fn wide_ring() -> Item {
+    let far: [Point; 3] =
+        [[1e6 / 3.0, -1e6 / 7.0], [-2e6 / 3.0, 5e5 / 3.0], [4e5 / 3.0, 8e5 / 7.0]];
+    line(&[[1e-3 / 3.0, 1e-3 / 7.0], far[0], far[1], far[2]]).flags(CLOSED)
+}
+
+/// Wide shapes where little is left, so that they have few positions.
+pub fn wide_and_spent(set: &mut Set) {
+    for scale in [1e6, 1e8, 1e9] {
+        for allowance in [0, 7, 50, 200] {
+            let doc = Doc::anchored().with(|d| d.scale = Some(scale));
+            let line = doc.clone().item(wide_line());
+            set.sized(format!("wide-line-{scale:e}-allowance-{allowance}"), &line, |c| {
+                c.allowance = allowance;
+            });
+            let ring = doc.item(wide_ring());
+            set.sized(format!("wide-ring-{scale:e}-allowance-{allowance}"), &ring, |c| {
+                c.allowance = allowance;
+            });
+        }
+    }
+}
+
 /// The sizes of `place` filled to the last place, and one more.
 pub fn full_slices(set: &mut Set) {
     for n in [511, 512, 513] {
@@ -148,13 +176,13 @@ pub fn full_slices(set: &mut Set) {
         let two = doc.item(line(&[[0.0, 0.0], [length - 100.0, 0.0]])).item(dot(0.0, 0.0));
         set.doc(format!("{n}-positions-in-two"), &two);
     }
-    // A parabola splits evenly, here into 1,024 pieces; the outline fills up.
-    let parabola: [Point; 3] = [[200.0, 400.0], [400.0, 400.0], [600.0, 0.0]];
-    for n in [1020, 1021, 1022, 1023] {
+    // The arch becomes 808 pieces; the outline fills work up.
+    let arch: [Point; 3] = [[200.0, 400.0], [400.0, 400.0], [600.0, 0.0]];
+    for n in [1235, 1236, 1237, 1238] {
         let outline: Vec<Point> =
             (0..n).map(|k| [0.001 * k as f64, 0.002 * (k % 3) as f64]).collect();
         for closed in [false, true] {
-            let item = Item::new(ARC).part(curve(0, closed, [0.0, 0.0], &[parabola]));
+            let item = Item::new(ARC).part(curve(0, closed, [0.0, 0.0], &[arch]));
             let item = item.part(polyline(1, false, &outline));
             let doc = Doc::anchored().item(item).with(|d| d.scale = Some(0.001));
             set.doc(format!("work-full-outline-{n}-closed-{closed}"), &doc);
@@ -219,6 +247,11 @@ pub fn heavy() -> Vec<Case> {
     set.doc("one-left-and-a-closed-cubic", &but(1.0).item(closed));
     set.doc("two-left-and-a-wild-cubic", &but(2.0).item(wild));
     set.doc("nine-left-and-a-circle", &but(9.0).item(Item::new(CIRCLE).at(0.0, 0.0).r(1.0)));
+    let wide = |d: Doc| d.with(|d| d.scale = Some(1e9));
+    let eaten = |n: usize| (0..n).fold(wide(Doc::anchored()), |d, _| d.item(eater(1.0)));
+    set.doc("whole-allowance-then-a-wide-ring", &eaten(20).item(wide_ring()));
+    let fifty = eaten(19).item(eater(0.009_995)).item(wide_line());
+    set.doc("fifty-left-and-a-wide-line", &fifty);
     let rest = (0..25).fold(Doc::anchored(), |d, k| d.item(line(&[[0.0, 0.0], [1e5, k as f64]])));
     set.sized("whole-allowance-written", &rest, |c| c.positions = 3_000_000);
     set.cases

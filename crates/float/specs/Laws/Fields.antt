@@ -46,7 +46,7 @@ bits-of (fin t m e) s n h =
     ∙ ap (λ (x : ℕ). cond s (2 ^ 63) 0 + (size x - 53) * 2 ^ 52 + x / 2 ^ (size x - 53)) (ap (λ (x : ℕ). x / down e) (h .1) ∙ mul-div-cancel n (down-pos e))
 
 -- 53 digits, and j zeros after them
-size-at : (j n : ℕ) → 2 ^ 52 * 2 ^ j ≤ n → n < 2 ^ 53 * 2 ^ j → size n ≡ 53 + j
+pub size-at : (j n : ℕ) → 2 ^ 52 * 2 ^ j ≤ n → n < 2 ^ 53 * 2 ^ j → size n ≡ 53 + j
 size-at j n lo hi =
     let most : size n ≤ 53 + j = size-le n (53 + j) (subst (λ (x : ℕ). n < x) (sym (pow-add 2 53 j)) hi) in
     let least : 52 + j < size n = size-gt n (52 + j) (subst (λ (x : ℕ). x ≤ n) (sym (pow-add 2 52 j)) lo) in

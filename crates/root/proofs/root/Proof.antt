@@ -86,7 +86,7 @@ module _ (c : tie.Joined5) where
   way = ⊎-elim (λ w. inl (w .0 .taken, w .1)) (λ w. inr (w .0 .left, w .1)) (c .if5 .came)
 
 whole-root-requires : tie.Need-whole-root-requires
-whole-root-requires c κs = m-in (cut c .split .ensures) (way c) .1
+whole-root-requires c κs = m-in (cut c .split .ensures) (way c)
 
 sub-result : tie.Need-sub-result
 sub-result c = search needs

@@ -1,70 +1,39 @@
--- `root::whole_root` meets its contract. The invariant is the recurrence's; the measure is how many digits are to come. Assumes nothing.
-use Prim.Native.Nat.{ℕ, _+_, _-_, _*_, _/_, _^_, _<_}
+-- `root::whole_root` meets its contract: the first block makes the guess exact, and each of the two that follow has a root of enough digits before it. Assumes nothing.
+use Prim.Native.Nat.{ℕ, _/_, _^_}
 use native.Mathlib.Omega.{arith}
-use Rattle.root.proofs.Recurrence.{Inv, start, root-small, digit-le, turn, runs-out}
+use borrow.Author.Needs.{needs}
+use Rattle.root.specs.Blocks.{Remains}
+use Rattle.root.proofs.Blocks.{ready-guess, ready, renamed, whole-of}
 use Rattle.root.proofs.whole_root.Statement.{statement}
 use Rattle.root.proofs.whole_root.Tie as tie
 
-abbrev Inv-loop : tie.InvT-loop
-Inv-loop m rem₀ root₀ rest₀ i₀ rem root rest i = Inv m rem root rest i
+guess-requires : tie.Need-guess-requires
+guess-requires c κs = search needs
 
-abbrev μ-loop : tie.MeasureT-loop
-μ-loop m rem₀ root₀ rest₀ i₀ rem root rest i = 54 - i
+next-block-requires : tie.Need-next-block-requires
+next-block-requires c κs = ready-guess (c .guess .ensures) (omega arith)
 
-loop-holds : tie.Need-loop-holds Inv-loop μ-loop
-loop-holds c = start (c .args .m) (c .pre)
+-- 14 digits
+module _ (c : tie.After-next-block) where
+  abbrev m : ℕ
+  m = c .before .before .args .m
 
-module _ (c : tie.In-loop Inv-loop μ-loop) where
-  small : c .before .loop .root < 2 ^ 54
-  small = root-small (c .before .loop .inv)
+  p14 : Remains (m / 2 ^ 26) (c .next-block .result .root) (c .next-block .result .rem)
+  p14 = renamed (omega (arith, c .before .guess .ensures .is)) (c .next-block .ensures)
 
-  abbrev trial : ℕ
-  trial = c .before .loop .root * 4 + 1
+next-block-requires-2 : tie.Need-next-block-requires-2
+next-block-requires-2 c κs = ready (2 ^ 13) (p14 c) (omega arith) (omega arith) (omega arith) (omega arith) (omega arith)
 
-  abbrev brought : ℕ
-  brought = c .before .loop .rem * 4 + c .before .loop .rest / 2 ^ 52
+-- 27 digits
+module _ (c : tie.After-next-block2) where
+  p27 : Remains (m (c .before)) (c .next-block2 .result .root) (c .next-block2 .result .rem)
+  p27 = renamed (omega (arith, p14 (c .before) .is)) (c .next-block2 .ensures)
 
-mul-rem : tie.Need-mul-rem Inv-loop μ-loop
-mul-rem c = omega (arith, small c)
+next-block-requires-3 : tie.Need-next-block-requires-3
+next-block-requires-3 c κs = ready (2 ^ 26) (p27 c) (search needs) (search needs) (omega arith) (omega arith) (omega arith)
 
-add-rem : tie.Need-add-rem Inv-loop μ-loop
-add-rem c = omega (arith, small c)
-
-mul-rest : tie.Need-mul-rest Inv-loop μ-loop
-mul-rest c = omega arith
-
-mul-trial : tie.Need-mul-trial Inv-loop μ-loop
-mul-trial c = omega (arith, small c)
-
-add-trial : tie.Need-add-trial Inv-loop μ-loop
-add-trial c = omega (arith, small c)
-
-cast-digit : tie.Need-cast-digit Inv-loop μ-loop
-cast-digit c = tt
-
-mul-rem-2 : tie.Need-mul-rem-2 Inv-loop μ-loop
-mul-rem-2 c = omega (arith, small c, digit-le (trial c) (brought c))
-
-sub-rem : tie.Need-sub-rem Inv-loop μ-loop
-sub-rem c = omega (arith, digit-le (trial c) (brought c))
-
-mul-root : tie.Need-mul-root Inv-loop μ-loop
-mul-root c = omega (arith, small c)
-
-add-root : tie.Need-add-root Inv-loop μ-loop
-add-root c = omega (arith, small c, digit-le (trial c) (brought c))
-
-add-i : tie.Need-add-i Inv-loop μ-loop
-add-i c = omega arith
-
-loop-less : tie.Need-loop-less Inv-loop μ-loop
-loop-less c = omega arith
-
-loop-again : tie.Need-loop-again Inv-loop μ-loop
-loop-again c = turn (c .before .loop .inv) (c .loop-test .taken)
-
-returns : tie.Need-returns Inv-loop μ-loop
-returns c = runs-out (c .before .loop .inv) (c .loop-test .left)
+returns : tie.Need-returns
+returns c = whole-of (renamed (omega (arith, p27 (c .before) .is)) (c .next-block3 .ensures))
 
 pub whole-root-spec : {M : Type 1} → statement M
-whole-root-spec = tie.close (tie.spec Inv-loop μ-loop loop-holds mul-rem add-rem mul-rest mul-trial add-trial cast-digit mul-rem-2 sub-rem mul-root add-root add-i loop-less loop-again returns)
+whole-root-spec = tie.close (tie.spec guess-requires next-block-requires next-block-requires-2 next-block-requires-3 returns)
