@@ -1,0 +1,4 @@
+-- The records of a stream, and the scene that they hold.
+pub mod Records
+pub mod Laws
+pub mod Samples
