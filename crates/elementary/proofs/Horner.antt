@@ -5,7 +5,7 @@ use Prim.Native.Nat.{ℕ, zero, suc, _+_, _≤_, _<_}
 use native.Mathlib.Omega.{arith}
 use lib.ListN.{length, drop, getD}
 use lib.Ieee.{Float, nan, binary64, ofBits}
-use Rattle.float.specs.Laws.Intervals.{horner}
+use Rattle.float.specs.Horner.{horner}
 use Rattle.elementary.specs.Series.{seriesOf}
 
 pub empty : (t : List Float) (v : Float) → length t ≡ 0 → ofBits binary64 0 ≡ seriesOf t v

@@ -5,7 +5,7 @@ use Prim.Native.Nat.{ℕ, zero, suc, _+_, _*_, _%_}
 use lib.Dec.{eqb}
 use lib.Ieee.{Float, fin, binary64, round, mul}
 use lib.IntN.{pos}
-use Rattle.float.specs.Laws.Intervals.{horner}
+use Rattle.float.specs.Horner.{horner}
 
 -- c0 * v ^ n + .. + cn by Horner: from the highest term, each operation rounded once
 unfoldable pub seriesOf : List Float → Float → Float
