@@ -1,2 +1,8 @@
 pub mod Tests
 pub mod Cases
+pub mod Names
+pub mod Steps
+pub mod Passes
+pub mod Near
+pub mod Choices
+pub mod Refusing

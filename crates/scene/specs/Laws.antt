@@ -1,3 +1,4 @@
 -- The laws of these definitions that callers use.
 pub mod Tests
 pub mod Records
+pub mod Walk

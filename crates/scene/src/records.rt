@@ -47,13 +47,13 @@ pub enum Step {
     Bad,
 }
 
-fn wide(x: u8) -> usize
+pub fn wide(x: u8) -> usize
     ensures { λ r. ⌜ (r ≡ x) × (r < 256) ⌝ }
 {
     x as usize
 }
 
-fn wide16(x: u16) -> usize
+pub fn wide16(x: u16) -> usize
     ensures { λ r. ⌜ (r ≡ x) × (r < 65536) ⌝ }
 {
     x as usize
@@ -188,7 +188,7 @@ fn read_rescale(part: &[u8], off: usize) -> Step
 }
 
 // How many bytes an option's value takes.
-fn choice_width(option: u8) -> usize
+pub fn choice_width(option: u8) -> usize
     ensures { λ r. ⌜ (r ≡ choiceWidth option) × (1 ≤ r) × (r ≤ 16) ⌝ }
 {
     if option == 1 {
@@ -271,7 +271,7 @@ fn read_place(part: &[u8], off: usize) -> Step
 }
 
 // How many bytes the values take that a presence byte names.
-fn values_width(m: usize) -> usize
+pub fn values_width(m: usize) -> usize
     requires { ⌜ m < 32 ⌝ }
     ensures { λ r. ⌜ (r ≡ valuesWidth m) × (r ≤ 48) ⌝ }
 {
