@@ -8,4 +8,5 @@ pub mod Limits
 pub mod Floats
 pub mod Options
 pub mod Refusals
+pub mod Sheets
 pub mod Laws
