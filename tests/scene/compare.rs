@@ -1,26 +1,222 @@
-// Refusals 1 to 6 of the static library beside the oracle's, for every case of a
-// file that `generate` wrote. Arguments: the cases, and the oracle's answers to
-// them. A stream that is longer than its case lends room for (E 0) is not asked.
+// Refusals 1 to 6 and the questions to a scene, asked of the static library and
+// compared with the oracle's answers, for every case of a file that `generate`
+// wrote. Arguments: the cases, and what `oracle batch --scene` says of them. A
+// stream that is longer than its case lends room for (E 0) is not asked.
 
 use std::collections::BTreeMap;
 use std::process::exit;
 
-extern "C" {
-    fn scene_refusal(stream: *const u8, length: usize) -> u32;
+#[path = "host.rs"]
+mod host;
+
+use host::Stream;
+
+const KINDS: [&str; 11] = [
+    "box", "circle", "ellipse", "arc", "line", "arrow", "spline", "text", "dot", "brace", "block",
+];
+
+fn bits(v: f64) -> String {
+    format!("{:016x}", v.to_bits())
 }
 
-fn refusal(stream: &[u8]) -> u32 {
-    unsafe { scene_refusal(stream.as_ptr(), stream.len()) }
+fn pair(x: f64, y: f64) -> String {
+    format!("{} {}", bits(x), bits(y))
 }
 
-/// What the oracle says: its number where that is 1 to 6, else 0; none for E 0.
-fn expected(answer: &str) -> Option<u32> {
-    let number = answer.strip_prefix("E ").map(str::parse::<u32>);
-    match number {
-        Some(Ok(0)) => None,
-        Some(Ok(n)) if n <= 6 => Some(n),
-        _ => Some(0),
+fn spot(p: &host::Spot) -> String {
+    if p.some {
+        pair(p.x, p.y)
+    } else {
+        "-".into()
     }
+}
+
+fn value(v: &host::Value) -> String {
+    if v.some {
+        bits(v.value)
+    } else {
+        "-".into()
+    }
+}
+
+fn span(line: u32, col: u32) -> String {
+    if (line, col) == (0, 0) {
+        "-".into()
+    } else {
+        format!("{line} {col}")
+    }
+}
+
+fn list(points: &[host::Spot]) -> String {
+    let all: Vec<String> = points.iter().map(spot).collect();
+    format!("{} {}", all.len(), all.join(" "))
+        .trim_end()
+        .to_string()
+}
+
+/// The scene as the library answers, in the oracle's lines.
+fn scene(s: &Stream) -> Vec<String> {
+    let mut out = vec![format!("S {}", bits(s.rescale()))];
+    let frame = s.frame();
+    let frame = if frame.some {
+        frame.frame.to_string()
+    } else {
+        "-".into()
+    };
+    let [scale, bearing, view_scale] = [s.scale(), s.bearing(), s.view_scale()].map(|v| value(&v));
+    let (anchor, flatten) = (spot(&s.anchor()), bits(s.flatten()));
+    out.push(format!(
+        "O {frame} {anchor} {scale} {bearing} {flatten} {view_scale}"
+    ));
+    let mut names = Vec::new();
+    for (i, f) in s.features().enumerate() {
+        let name = s.text(f.at, f.len);
+        out.push(format!("N {i} {name} {}", pair(f.lon, f.lat)));
+        names.push((f.at, f.len));
+    }
+    for (i, v) in s.variables().enumerate() {
+        let name = s.text(v.at, v.len);
+        let asked = value(&s.value(name.as_bytes()));
+        out.push(format!("V {i} {name} {asked}"));
+        assert_eq!(asked, bits(v.value), "{name} by name and by its place");
+        if name != "geo_lon" && name.ends_with("_lon") {
+            names.push((v.at, v.len - 4));
+        }
+    }
+    for (i, p) in s.places().enumerate() {
+        let label = s.text(p.at, p.len);
+        let nested = u8::from(p.nested);
+        let span = span(p.line, p.col);
+        out.push(format!("A {i} {label} {} {nested} {span}", pair(p.x, p.y)));
+    }
+    for (i, it) in s.items().enumerate() {
+        item(s, i, &it, &mut out);
+    }
+    for (at, len) in names {
+        let point = spot(&s.label(at, len));
+        out.push(format!("L {} {point}", s.text(at, len)));
+    }
+    out
+}
+
+fn item(s: &Stream, i: usize, it: &host::Item, out: &mut Vec<String>) {
+    let kind = KINDS[usize::from(it.kind)];
+    let marks = [it.hidden, it.nested, it.closed, it.fill, it.screen];
+    let flags: u32 = (0..).zip(marks).map(|(k, m)| u32::from(m) << k).sum();
+    let label = if it.len == 0 {
+        "-".into()
+    } else {
+        s.text(it.label, it.len)
+    };
+    let sizes = [&it.w, &it.h, &it.r, &it.rad].map(value).join(" ");
+    let (span, at) = (span(it.line, it.col), spot(&it.at));
+    out.push(format!("I {i} {kind} {flags} {label} {span} {at} {sizes}"));
+    for role in [0, 1] {
+        let p = s.points(it.next, role);
+        if p.some {
+            let points = s.list(p.at, usize::from(p.count));
+            out.push(format!("J {role} {}", list(&points)));
+        }
+    }
+    for role in [0, 1] {
+        for p in s.paths(it.next, role) {
+            let closed = u8::from(p.closed);
+            let count = usize::from(p.count);
+            let points = if p.curve {
+                let mut all = s.list(p.start, 1);
+                all.extend(s.list(p.at, 3 * count));
+                all
+            } else {
+                s.list(p.at, count)
+            };
+            let form = u8::from(!p.curve);
+            out.push(format!("K {role} {closed} {form} {}", list(&points)));
+        }
+    }
+}
+
+/// What was compared, by the first letter of the oracle's lines, and how many
+/// labels resolved to nothing.
+#[derive(Default)]
+struct Tally {
+    refused: BTreeMap<u32, u32>,
+    lines: BTreeMap<char, u32>,
+    unresolved: u32,
+    different: u32,
+}
+
+impl Tally {
+    fn compare(&mut self, name: &str, stream: &[u8], answer: &[&str]) {
+        let theirs: u32 = match answer.last().and_then(|l| l.strip_prefix("E ")) {
+            Some(number) => number.parse().expect("a refusal has a number"),
+            None => 0,
+        };
+        if theirs == 0 && answer.len() == 1 {
+            return;
+        }
+        let theirs = if theirs <= 6 { theirs } else { 0 };
+        let stream = Stream::new(stream);
+        let ours = stream.refusal();
+        *self.refused.entry(theirs).or_default() += 1;
+        if ours != theirs {
+            self.different += 1;
+            println!("{name}: {ours} instead of {theirs}");
+            return;
+        }
+        if theirs == 0 {
+            let dumped = answer.iter().filter(|l| l.starts_with(is_scene));
+            self.lines(name, &scene(&stream), &dumped.copied().collect::<Vec<_>>());
+        }
+    }
+
+    fn lines(&mut self, name: &str, ours: &[String], theirs: &[&str]) {
+        for line in theirs {
+            let letter = line.chars().next().unwrap_or('?');
+            *self.lines.entry(letter).or_default() += 1;
+            self.unresolved += u32::from(letter == 'L' && line.ends_with(" -"));
+        }
+        let differs = (0..ours.len().max(theirs.len()))
+            .find(|i| ours.get(*i).map(String::as_str) != theirs.get(*i).copied());
+        if let Some(i) = differs {
+            self.different += 1;
+            let (a, b) = (ours.get(i), theirs.get(i));
+            println!("{name}: {a:?} instead of {b:?}");
+        }
+    }
+
+    fn report(&self) -> bool {
+        println!("refusal  streams");
+        for (number, count) in &self.refused {
+            println!("{number:7}  {count:7}");
+        }
+        let kinds = [
+            ('O', "scenes"),
+            ('N', "features"),
+            ('V', "variables"),
+            ('A', "places"),
+            ('I', "items"),
+            ('J', "lists of points"),
+            ('K', "paths"),
+            ('L', "labels"),
+        ];
+        let mut met = (0..=6).all(|n| self.refused.contains_key(&n)) && self.unresolved > 0;
+        for (letter, what) in kinds {
+            let count = self.lines.get(&letter).copied().unwrap_or_default();
+            println!("{count:9} {what}");
+            met &= count > 0;
+        }
+        println!("{:9} of the labels name nothing", self.unresolved);
+        let total: u32 = self.refused.values().sum();
+        println!("{total} streams, {} differ", self.different);
+        if !met {
+            println!("a number from 0 to 6, or a kind of line, did not occur");
+        }
+        met && self.different == 0
+    }
+}
+
+fn is_scene(c: char) -> bool {
+    "SONVAIJKL".contains(c)
 }
 
 fn main() {
@@ -31,9 +227,9 @@ fn main() {
     };
     let cases = std::fs::read(cases).expect("the cases can be read");
     let answers = std::fs::read_to_string(answers).expect("the answers can be read");
-    let mut answers = answers.split("> ").skip(1);
+    let mut lines = answers.lines().peekable();
     let mut rest = &cases[..];
-    let (mut asked, mut different) = (BTreeMap::new(), 0);
+    let mut tally = Tally::default();
     while let Some(end) = rest.iter().position(|b| *b == b'\n') {
         let line = String::from_utf8_lossy(&rest[..end]).into_owned();
         let name = line.split(' ').nth(1).expect("a case has a name");
@@ -44,28 +240,13 @@ fn main() {
             .expect("a case has a length");
         let (stream, behind) = rest[end + 1..].split_at(length);
         rest = behind;
-        let answer = answers.next().expect("every case has an answer");
-        let mut lines = answer.lines();
-        assert_eq!(lines.next(), Some(name));
-        let Some(theirs) = expected(lines.next().unwrap_or_default()) else {
-            continue;
-        };
-        let ours = refusal(stream);
-        *asked.entry(theirs).or_insert(0u32) += 1;
-        if ours != theirs {
-            different += 1;
-            println!("{name}: {ours} instead of {theirs}");
+        let head = lines.next().and_then(|l| l.strip_prefix("> "));
+        assert_eq!(head, Some(name), "every case has an answer");
+        let mut answer = Vec::new();
+        while let Some(line) = lines.next_if(|l| !l.starts_with("> ")) {
+            answer.push(line);
         }
+        tally.compare(name, stream, &answer);
     }
-    println!("refusal  streams");
-    for (number, count) in &asked {
-        println!("{number:7}  {count:7}");
-    }
-    let total: u32 = asked.values().sum();
-    println!("{total} streams, {different} differ");
-    let unmet = (0..=6).any(|n| !asked.contains_key(&n));
-    if unmet {
-        println!("a number from 0 to 6 did not occur");
-    }
-    exit(i32::from(different > 0 || unmet));
+    exit(i32::from(!tally.report()));
 }

@@ -9,3 +9,4 @@ pub mod Arccosine
 pub mod Sine
 pub mod Tangent
 pub mod Mercator
+pub mod Ordinate

@@ -17,3 +17,5 @@ pub mod Units
 pub mod Integers
 pub mod Tests
 pub mod Comparisons
+pub mod Spans
+pub mod Numbers

@@ -1,8 +1,9 @@
-pub mod Tests
-pub mod Cases
-pub mod Names
-pub mod Steps
-pub mod Passes
-pub mod Near
-pub mod Choices
-pub mod Refusing
+pub mod Values
+pub mod Agreeing
+pub mod Keys
+pub mod Means
+pub mod Found
+pub mod Reading
+pub mod Items
+pub mod Starts
+pub mod Folds

@@ -1,4 +1,7 @@
 -- The laws of these definitions that callers use.
-pub mod Tests
-pub mod Records
-pub mod Walk
+pub mod Names
+pub mod Points
+pub mod Shift
+pub mod Widths
+pub mod Answers
+pub mod Rising

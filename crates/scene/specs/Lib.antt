@@ -1,12 +1,6 @@
--- The records of a stream, and the scene that they hold.
-pub mod Records
+-- The scene that a stream holds, and the point that a label names.
+pub mod Scene
+pub mod Labels
+pub mod Answers
 pub mod Samples
-pub mod Walk
-pub mod Layout
-pub mod Order
-pub mod Limits
-pub mod Floats
-pub mod Options
-pub mod Refusals
-pub mod Sheets
 pub mod Laws

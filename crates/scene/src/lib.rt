@@ -1,13 +1,36 @@
-// The records of a stream, and the scene that they hold.
-mod floats;
-mod options;
-mod order;
-mod records;
-mod refusals;
+// The scene that a stream holds. A position is one of the payload; a question that starts at a position asks of the records from there on.
+mod choices;
+mod labels;
+mod names;
+mod numbers;
+mod sections;
 
-pub use floats::limits;
-pub use order::layout;
-pub use records::Record;
-pub use records::Step;
-pub use records::next_record;
-pub use refusals::refusal;
+pub use choices::FrameChoice;
+pub use choices::anchor;
+pub use choices::bearing;
+pub use choices::flatten;
+pub use choices::frame;
+pub use choices::rescale;
+pub use choices::scale;
+pub use choices::view_scale;
+pub use labels::point_of_label;
+pub use labels::reference_point;
+pub use names::is_named;
+pub use names::same_name;
+pub use numbers::Point;
+pub use numbers::Spot;
+pub use numbers::Value;
+pub use numbers::point_at;
+pub use sections::Feature;
+pub use sections::Item;
+pub use sections::Path;
+pub use sections::Place;
+pub use sections::Points;
+pub use sections::Variable;
+pub use sections::next_feature;
+pub use sections::next_item;
+pub use sections::next_path;
+pub use sections::next_place;
+pub use sections::next_variable;
+pub use sections::points_of;
+pub use sections::value_of;

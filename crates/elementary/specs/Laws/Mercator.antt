@@ -41,7 +41,7 @@ c89·5 = fin false 179 (negsuc 0)
 abbrev pub m89·5 : Float
 m89·5 = fin true 179 (negsuc 0)
 
-abbrev slant : Expr
+abbrev pub slant : Expr
 slant = plus (lit fracPi4) (over (times (var 0) (over (lit K.pi) (lit K.c180))) (lit K.two))
 
 slant-test : T (encloses slant (iv m89·5 c89·5 ∷ []) c1/256 c1·5707)

@@ -12,7 +12,7 @@ use lib.Ieee.{Float, nan, inf, fin, binary64, up, down, round, isNan, neg, sub, 
 use lib.Ieee.Fits.{down-pos}
 use lib.Ieee.Order.{round-mono}
 use lib.Ieee.Positive.{positive, between}
-use lib.Ieee.Scale.{round-same}
+use lib.Ieee.Scale.{round-same, finite}
 use Rattle.float.specs.Functions.{pick, absOf, minOf, truncOf}
 use Rattle.float.specs.Laws.Signed.{le→}
 use Rattle.float.specs.Laws.Order.{le-trans}
@@ -36,7 +36,7 @@ c1·5707 = fin false 3536901967355419 (negsuc 50)
 abbrev pub Slanted : Float → Type 0
 Slanted a = Between c1/256 c1·5707 a
 
-slanted-positive : (a : Float) → Slanted a → T (positive a)
+pub slanted-positive : (a : Float) → Slanted a → T (positive a)
 slanted-positive a i = between c1/256 a c1·5707 tt tt (i .low) (i .high)
 
 -- ---- less than a turn, so the turn's part is a, rounded once
@@ -59,17 +59,18 @@ rounded-in m e i =
 short : (x d : ℕ) → 0 < d → x * 2 ^ 51 ≤ 3536901967355419 * d → x * 2 ^ 47 < 884279719003555 * 1 * d
 short x d D h = omega arith
 
-turn-in : (a : Float) → T (positive a) → Slanted a → Slanted (turnOf a)
+pub turn-is : (m : ℕ) (e : ℤ) → Slanted (fin false m e) → turnOf (fin false m e) ≡ round binary64 false (m * up e) (down e)
 unfolding turnOf absOf rem ofBits
+turn-is m e i =
+    let h = le→ (fin false m e) c1·5707 tt tt (i .high) in
+    ap (λ (j : ℕ). round binary64 false j (down e * 2 ^ 47)) (mod-eq-of-lt (short (m * up e) (down e) (down-pos e) (omega arith)))
+    ∙ round-same binary64 false (m * up e * 2 ^ 47) (down e * 2 ^ 47) (m * up e) (down e) (mul-pos (down-pos e) (pow-pos 47)) (down-pos e) (omega arith)
+
+turn-in : (a : Float) → T (positive a) → Slanted a → Slanted (turnOf a)
 turn-in nan p i = absurd p
 turn-in (inf s) p i = absurd p
 turn-in (fin true m e) p i = absurd p
-turn-in (fin false m e) p i =
-    let h = le→ (fin false m e) c1·5707 tt tt (i .high) in
-    subst Slanted
-    (sym (ap (λ (j : ℕ). round binary64 false j (down e * 2 ^ 47)) (mod-eq-of-lt (short (m * up e) (down e) (down-pos e) (omega arith)))
-    ∙ round-same binary64 false (m * up e * 2 ^ 47) (down e * 2 ^ 47) (m * up e) (down e) (mul-pos (down-pos e) (pow-pos 47)) (down-pos e) (omega arith)))
-    (rounded-in m e i)
+turn-in (fin false m e) p i = subst Slanted (sym (turn-is m e i)) (rounded-in m e i)
 
 -- ---- the first quadrant
 abbrev q-lo : Float
@@ -105,10 +106,12 @@ rest-test : T (encloses (rest-code K.zero) (iv c1/256 c1·5707 ∷ []) c1/256 c1
 unfolding ofBits sub mul le
 rest-test = tt
 
-rest-in : (r : Float) → Slanted r → Slanted (restOf r)
+pub rest-on : (lo hi r : Float) → T (encloses (rest-code K.zero) (iv lo hi ∷ []) lo hi) → Slanted r → Between lo hi r → Between lo hi (restOf r)
 unfolding restOf
-rest-in r i =
-    subst (λ (q : Float). Slanted (sub binary64 r (mul binary64 q K.fracPi2))) (sym (quadrant-is r i)) (enclosed (rest-code K.zero) (iv c1/256 c1·5707 ∷ []) (r ∷ []) c1/256 c1·5707 rest-test (i, tt))
+rest-on lo hi r t i j = subst (λ (q : Float). Between lo hi (sub binary64 r (mul binary64 q K.fracPi2))) (sym (quadrant-is r i)) (enclosed (rest-code K.zero) (iv lo hi ∷ []) (r ∷ []) lo hi t (j, tt))
+
+rest-in : (r : Float) → Slanted r → Slanted (restOf r)
+rest-in r i = rest-on c1/256 c1·5707 r rest-test i i
 
 -- ---- both series there
 abbrev sine-least : Float
@@ -137,27 +140,30 @@ above-zero : T (le K.zero c1/256)
 unfolding ofBits le
 above-zero = tt
 
-sin-in : (a : Float) → Slanted a → Between sine-least bound (sinOf a)
+-- what the series give where the rest lies from a to b
+pub sin-on : (lo hi a b x : Float) → T (finite lo) → T (finite hi) → T (fits-in 20 (odd-code sineTable) lo hi a b) → Slanted x → Between a b (restOf (turnOf x)) → Between lo hi (sinOf x)
 unfolding sinOf
-sin-in a i = go (lt a K.zero) (le→not-lt K.zero a (unfold ofBits in tt) (le-trans K.zero c1/256 a above-zero (i .low)))
+sin-on lo hi a b x p q t i k = go (lt x K.zero) (le→not-lt K.zero x (unfold ofBits in tt) (le-trans K.zero c1/256 x above-zero (i .low)))
   where
     r : Float
-    r = turnOf a
+    r = turnOf x
 
-    j : Slanted (turnOf a)
-    j = turn-in a (slanted-positive a i) i
-
-    go : (b : Bool) → T (not b) → Between sine-least bound (pick b (neg (sineAt (quadrantOf r) (restOf r))) (sineAt (quadrantOf r) (restOf r)))
+    go : (b : Bool) → T (not b) → Between lo hi (pick b (neg (sineAt (quadrantOf r) (restOf r))) (sineAt (quadrantOf r) (restOf r)))
     go true n = absurd n
     go false n =
-        subst (Between sine-least bound) (first-sine (quadrantOf r) (restOf r) (quadrant-is r j)) (odd-range 20 sineTable sine-least bound c1/256 c1·5707 (restOf r) tt tt sine-test (rest-in r j))
+        subst (Between lo hi) (first-sine (quadrantOf r) (restOf r) (quadrant-is r (turn-in x (slanted-positive x i) i))) (odd-range 20 sineTable lo hi a b (restOf r) p q t k)
+
+pub cos-on : (lo hi a b x : Float) → T (finite lo) → T (finite hi) → T (fits-in 20 (even-code cosineTable) lo hi a b) → Slanted x → Between a b (restOf (turnOf x)) → Between lo hi (cosOf x)
+unfolding cosOf
+cos-on lo hi a b x p q t i k =
+    let r = turnOf x in
+    subst (Between lo hi) (first-cosine (quadrantOf r) (restOf r) (quadrant-is r (turn-in x (slanted-positive x i) i))) (even-range 20 cosineTable lo hi a b (restOf r) p q t k)
+
+sin-in : (a : Float) → Slanted a → Between sine-least bound (sinOf a)
+sin-in a i = sin-on sine-least bound c1/256 c1·5707 a tt tt sine-test i (rest-in (turnOf a) (turn-in a (slanted-positive a i) i))
 
 cos-in : (a : Float) → Slanted a → Between cosine-least bound (cosOf a)
-unfolding cosOf
-cos-in a i =
-    let r = turnOf a in
-    let j = turn-in a (slanted-positive a i) i in
-    subst (Between cosine-least bound) (first-cosine (quadrantOf r) (restOf r) (quadrant-is r j)) (even-range 20 cosineTable cosine-least bound c1/256 c1·5707 (restOf r) tt tt cosine-test (rest-in r j))
+cos-in a i = cos-on cosine-least bound c1/256 c1·5707 a tt tt cosine-test i (rest-in (turnOf a) (turn-in a (slanted-positive a i) i))
 
 -- ---- the law
 abbrev pub tan-least : Float

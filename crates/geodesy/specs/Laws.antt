@@ -1,0 +1,2 @@
+-- What callers may know of the projection.
+pub mod Finite

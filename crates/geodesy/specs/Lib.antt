@@ -1,0 +1,4 @@
+-- Web Mercator.
+pub mod Geodesy
+pub mod Samples
+pub mod Laws

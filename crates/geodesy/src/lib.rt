@@ -1,0 +1,60 @@
+// Web Mercator, EPSG:3857, after the source's geodesy.rs.
+ghost use mathlib.Core.Path.{_≡_};
+ghost use Rattle.geodesy.specs.Geodesy.{normalizeLonOf, mercatorForwardOf, mercatorInverseOf};
+use elementary::atan;
+use elementary::exp;
+use elementary::ln;
+use elementary::tan;
+use elementary::to_degrees;
+use elementary::to_radians;
+use float::rem_euclid_360;
+
+// The radius of the projection's sphere, in metres.
+const MERCATOR_RADIUS: f64 = 6378137.0;
+
+const FRAC_PI_2: f64 = 1.5707963267948966;
+
+const FRAC_PI_4: f64 = 0.7853981633974483;
+
+// A WGS84 position, in degrees.
+pub struct LonLat {
+    pub lon: f64,
+    pub lat: f64,
+}
+
+// A position on the projection's plane, in metres.
+pub struct Metres {
+    pub x: f64,
+    pub y: f64,
+}
+
+// A longitude above -180 and up to 180.
+pub fn normalize_lon(lon: f64) -> f64
+    ensures { λ r. ⌜ r ≡ normalizeLonOf lon ⌝ }
+{
+    let l = rem_euclid_360(lon + 180.0) - 180.0;
+    if l == -180.0 {
+        return 180.0;
+    }
+    l
+}
+
+pub fn mercator_forward(p: LonLat) -> Metres
+    ensures { λ r. ⌜ r ≡ mercatorForwardOf p ⌝ }
+{
+    let x = MERCATOR_RADIUS * to_radians(p.lon);
+    let phi = to_radians(p.lat);
+    let y = MERCATOR_RADIUS * ln(tan(FRAC_PI_4 + phi / 2.0));
+    Metres { x: x, y: y }
+}
+
+pub fn mercator_inverse(m: Metres) -> LonLat
+    ensures { λ r. ⌜ r ≡ mercatorInverseOf m ⌝ }
+{
+    let lon = to_degrees(m.x / MERCATOR_RADIUS);
+    let lat = to_degrees(2.0 * atan(exp(m.y / MERCATOR_RADIUS)) - FRAC_PI_2);
+    LonLat {
+        lon: normalize_lon(lon),
+        lat: lat,
+    }
+}

@@ -1,0 +1,85 @@
+-- The order of two names of a payload, one byte further.
+use mathlib.Core.Path.{_≡_, refl, sym, ap, _∙_}
+use mathlib.Core.List.{List, [], _∷_}
+use mathlib.Core.Bool.{true, false}
+use Prim.Native.Nat.{ℕ, _+_, _≤_, _<_}
+use native.Mathlib.Numerals.{add-one}
+use native.Mathlib.Omega.{arith}
+use lib.ListN.{length, getD, drop, length-drop, length-take, drop-of-length-le}
+use lib.Seq.{drop-cons, getD-take, getD-drop}
+use borrow.Author.Tests.{lt-ltb, le-ltb, eq-eqb, ne-eqb}
+use Rattle.stream.specs.Payload.{payload, room, rest}
+use Rattle.stream.specs.Laws.Payload.{payload-length}
+use Rattle.records.specs.Layout.{before}
+use Rattle.records.specs.Order.{part}
+
+part-length : (l : List ℕ) (p n : ℕ) → p + n ≤ length l → length (part l p n) ≡ n
+unfolding part
+part-length l p n h = simp (length-take, length-drop) (omega arith)
+
+part-at : (l : List ℕ) (p n i : ℕ) → i < n → getD (part l p n) i 0 ≡ getD l (p + i) 0
+unfolding part
+part-at l p n i h = rw (getD-take, getD-drop)
+
+none-after : (l : List ℕ) → before l [] ≡ false
+unfolding before
+none-after [] = refl
+none-after (x ∷ xs) = refl
+
+module _ (a b : List ℕ) (i : ℕ) where
+  second-ends : length b ≤ i → before (drop i a) (drop i b) ≡ false
+  second-ends h = rw (drop-of-length-le b h) (none-after (drop i a))
+
+  first-ends : length a ≤ i → i < length b → before (drop i a) (drop i b) ≡ true
+  unfolding before
+  first-ends h k = rw (drop-of-length-le a h, drop-cons b i 0 k) refl
+
+  module _ (h : i < length a) (k : i < length b) where
+    less : getD a i 0 < getD b i 0 → before (drop i a) (drop i b) ≡ true
+    unfolding before
+    less e = rw (drop-cons a i 0 h, drop-cons b i 0 k, lt-ltb (getD a i 0) (getD b i 0) e) refl
+
+    greater : getD b i 0 < getD a i 0 → before (drop i a) (drop i b) ≡ false
+    unfolding before
+    greater e =
+        let n : getD a i 0 ≡ getD b i 0 → ⊥ = omega arith in
+        let g : getD b i 0 ≤ getD a i 0 = omega arith in
+        rw (drop-cons a i 0 h, drop-cons b i 0 k, le-ltb (getD a i 0) (getD b i 0) g, ne-eqb (getD a i 0) (getD b i 0) n) refl
+
+    same : getD a i 0 ≡ getD b i 0 → before (drop i a) (drop i b) ≡ before (drop (i + 1) a) (drop (i + 1) b)
+    unfolding before
+    same e =
+        let g : getD b i 0 ≤ getD a i 0 = omega arith in
+        rw (drop-cons a i 0 h, drop-cons b i 0 k, le-ltb (getD a i 0) (getD b i 0) g, eq-eqb (getD a i 0) (getD b i 0) e, add-one) refl
+
+-- the same of two parts of a payload, and of the values that the code has
+module _ (s : List ℕ) (p n q m i : ℕ) (u : p + n ≤ room s) (v : q + m ≤ room s) where
+  len-a : length (part (payload s) p n) ≡ n
+  len-a = part-length (payload s) p n (omega (arith, payload-length s))
+
+  len-b : length (part (payload s) q m) ≡ m
+  len-b = part-length (payload s) q m (omega (arith, payload-length s))
+
+  pub end-b : m ≤ i → before (drop i (part (payload s) p n)) (drop i (part (payload s) q m)) ≡ false
+  end-b h = second-ends _ _ i (omega (arith, len-b))
+
+  pub end-a : n ≤ i → i < m → before (drop i (part (payload s) p n)) (drop i (part (payload s) q m)) ≡ true
+  end-a h k = first-ends _ _ i (omega (arith, len-a)) (omega (arith, len-b))
+
+  module _ (h : i < n) (k : i < m) {x y : ℕ} (ex : x ≡ getD (rest s 0) (p + i) 0) (ey : y ≡ getD (rest s 0) (q + i) 0) where
+    at-a : x ≡ getD (part (payload s) p n) i 0
+    unfolding rest
+    at-a = ex ∙ sym (part-at (payload s) p n i h)
+
+    at-b : y ≡ getD (part (payload s) q m) i 0
+    unfolding rest
+    at-b = ey ∙ sym (part-at (payload s) q m i k)
+
+    pub is-less : x < y → before (drop i (part (payload s) p n)) (drop i (part (payload s) q m)) ≡ true
+    is-less e = less _ _ i (omega (arith, len-a)) (omega (arith, len-b)) (omega (arith, at-a, at-b))
+
+    pub is-greater : y < x → before (drop i (part (payload s) p n)) (drop i (part (payload s) q m)) ≡ false
+    is-greater e = greater _ _ i (omega (arith, len-a)) (omega (arith, len-b)) (omega (arith, at-a, at-b))
+
+    pub is-same : x ≤ y → y ≤ x → before (drop i (part (payload s) p n)) (drop i (part (payload s) q m)) ≡ before (drop (i + 1) (part (payload s) p n)) (drop (i + 1) (part (payload s) q m))
+    is-same e f = same _ _ i (omega (arith, len-a)) (omega (arith, len-b)) (omega (arith, at-a, at-b))

@@ -1,0 +1,5 @@
+-- The laws of these definitions that callers use.
+pub mod Tests
+pub mod Records
+pub mod Walk
+pub mod Search

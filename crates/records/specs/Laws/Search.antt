@@ -1,0 +1,130 @@
+-- A search: what it finds from one record on, and what a record that was found tells of its bytes.
+use mathlib.Core.Path.{_≡_, refl, ap}
+use mathlib.Core.List.{List, []}
+use mathlib.Core.Bool.{Bool, true, false, cond}
+use Prim.Native.Nat.{ℕ, _+_, _*_, _≤_, _<_}
+use native.Mathlib.Omega.{arith}
+use lib.ListN.{length, getD, drop, length-drop}
+use lib.Dec.{eqb}
+use borrow.Author.Tests.{eqb-true}
+use Rattle.stream.specs.Numbers.{u16At}
+use Rattle.records.specs.declared.records.Record.{Record}
+use Rattle.records.specs.declared.records.Record.the-variants.{Rescale, Choice, Feature, Variable, Place, Item, Points, Path}
+use Rattle.records.specs.declared.records.Step.the-variants.{Got, End, Bad}
+use Rattle.records.specs.declared.search.Turn.the-variants.{Here, On, Past}
+use Rattle.records.specs.Records.{choiceWidth, valuesWidth, recordOf}
+use Rattle.records.specs.Walk.{tagOf}
+use Rattle.records.specs.Search.{keyOf, past, pickTurn, turnOf, sought, recordsOf, recordsAt}
+use Rattle.records.specs.Hits.{Standing}
+use Rattle.records.specs.Laws.Tests.{and-left, and-right}
+use Rattle.records.specs.Laws.Records.{Name, Stands, stands, cubics-size, polyline-size}
+use Rattle.records.specs.Laws.Walk.{entries-bad, entries-end, entries-on}
+
+-- ---- from one record on
+module _ (l : List ℕ) (p t key : ℕ) where
+  pub search-bad : recordOf (drop p l) ≡ Bad → recordsAt l p t key ≡ []
+  unfolding recordsOf
+  search-bad e = ap (recordsOf t key) (entries-bad (drop p l) e)
+
+  pub search-end : recordOf (drop p l) ≡ End → recordsAt l p t key ≡ []
+  unfolding recordsOf
+  search-end e = ap (recordsOf t key) (entries-end (drop p l) e)
+
+  pub search-got : {r : Record} {k : ℕ} → recordOf (drop p l) ≡ Got r k → recordsAt l p t key ≡ sought (turnOf t key r) (drop p l) (recordsAt l (p + k) t key)
+  unfolding recordsOf
+  search-got e = ap (recordsOf t key) (entries-on l p e)
+
+-- ---- a search ends at a record of its tag and key
+is-here : (a b : Bool) → pickTurn a Here (pickTurn b Past On) ≡ Here → a ≡ true
+is-here true b h = refl
+is-here false true h = let z : _≡_ {A = ℕ} 0 1 = cc in absurd (omega arith)
+is-here false false h = let z : _≡_ {A = ℕ} 0 1 = cc in absurd (omega arith)
+
+pub here : (t key : ℕ) (r : Record) → turnOf t key r ≡ Here → (tagOf r ≡ t) × (keyOf r ≡ key)
+unfolding turnOf
+here t key r h =
+    let both = is-here _ (past t (tagOf r)) h in
+    (eqb-true (tagOf r) t (and-left _ _ both), eqb-true (keyOf r) key (and-right (eqb (tagOf r) t) _ both))
+
+-- ---- what a record of each tag tells, by its bytes b, its key k, its position and the next one
+pub record ChoiceFound (b : List ℕ) (k at next : ℕ) : Type 0 where
+  pub is : getD b 1 0 ≡ k
+  pub ends : next ≡ at + 2 + choiceWidth k
+
+-- a name, and so many bytes besides
+pub record NameFound (b : List ℕ) (at next more : ℕ) : Type 0 where
+  pub some : 1 ≤ getD b 1 0
+  pub short : getD b 1 0 ≤ 31
+  pub ends : next ≡ at + more + getD b 1 0
+
+pub record ItemFound (b : List ℕ) (at next : ℕ) : Type 0 where
+  pub short : getD b 3 0 ≤ 31
+  pub has : getD b (12 + getD b 3 0) 0 < 32
+  pub ends : next ≡ at + 13 + getD b 3 0 + valuesWidth (getD b (12 + getD b 3 0) 0)
+
+pub record PointsFound (b : List ℕ) (k at next : ℕ) : Type 0 where
+  pub role : getD b 1 0 ≡ k
+  pub ends : next ≡ at + 4 + 16 * u16At b 2
+
+pub record PathFound (b : List ℕ) (k at next : ℕ) : Type 0 where
+  pub role : getD b 1 0 ≡ k
+  pub closed : getD b 2 0 ≤ 1
+  pub form : getD b 3 0 ≤ 1
+  pub cubics : getD b 3 0 ≡ 0 → next ≡ at + 22 + 48 * u16At b 20
+  pub points : (getD b 3 0 ≡ 0 → ⊥) → next ≡ at + 6 + 16 * u16At b 4
+
+abbrev pub Found : ℕ → List ℕ → ℕ → ℕ → ℕ → Type 0
+Found t b k at next =
+    cond (eqb t 2) (ChoiceFound b k at next)
+    (cond (eqb t 3) (NameFound b at next 18)
+    (cond (eqb t 4) (NameFound b at next 10)
+    (cond (eqb t 5) (NameFound b at next 27)
+    (cond (eqb t 6) (ItemFound b at next)
+    (cond (eqb t 7) (PointsFound b k at next)
+    (cond (eqb t 8) (PathFound b k at next)
+    (Unit {0})))))))
+
+module _ (b : List ℕ) (k at next : ℕ) {size : ℕ} (e : next ≡ at + size) where
+  name-found : (more : ℕ) {n : ℕ} → size ≡ more + n → Name b 1 n → NameFound b at next more
+  name-found more s f = record { some = omega arith; short = omega arith; ends = omega arith }
+
+  found-of : (r : Record) → Stands b r size → keyOf r ≡ k → Found (tagOf r) b k at next
+  found-of Rescale s h = tt
+  found-of (Choice o) s h = record { is = omega arith; ends = rw (← h) (omega arith) }
+  found-of (Feature n) s h = name-found 18 (s .size) (s .fields)
+  found-of (Variable n) s h = name-found 10 (s .size) (s .fields)
+  found-of (Place n) s h = name-found 27 (s .size) (s .fields .0)
+  found-of (Item a f n m) s h =
+      let i = s .fields in
+      record {
+        short = omega arith;
+        has = rw (← i .label-is, ← i .has-is) (i .has);
+        ends = rw (← i .label-is, ← i .has-is) (omega arith);
+      }
+  found-of (Points r n) s h = record { role = omega arith; ends = omega arith }
+  found-of (Path r c f n) s h =
+      let i = s .fields in
+      record {
+        role = omega arith;
+        closed = omega arith;
+        form = omega arith;
+        cubics = λ z. let y : f ≡ 0 = omega arith in omega (arith, cubics-size r c f n y, i .cubics y);
+        points = λ z. let y : f ≡ 1 = omega arith in omega (arith, polyline-size r c f n y, i .points y);
+      }
+
+module _ {l : List ℕ} {t k at next : ℕ} (h : Standing l t k at next) where
+  stood : Stands (drop at l) (h .is) (h .size)
+  stood = stands (drop at l) (h .got)
+
+  pub standing-less : at < next
+  standing-less = omega (arith, stood)
+
+  pub standing-fits : next ≤ length l
+  standing-fits = omega (arith, stood, length-drop at l)
+
+  pub standing-tells : Found t (drop at l) k at next
+  standing-tells = rw (← h .tag) (found-of (drop at l) k at next (h .ends) (h .is) stood (h .key))
+
+-- an option's bytes lie within the list
+pub choice-within : {l : List ℕ} {k at next : ℕ} → Standing l 2 k at next → at + 2 + choiceWidth k ≤ length l
+choice-within h = omega (arith, standing-fits h, standing-tells h .ends)

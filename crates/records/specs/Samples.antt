@@ -1,0 +1,87 @@
+-- The definitions on known bytes: a record of each tag, the same cut off by a byte, and for each rule a record that breaks it.
+use mathlib.Core.Path.{_≡_, refl}
+use mathlib.Core.List.{List, [], _∷_, _++_, map}
+use Prim.Native.Nat.{ℕ, _-_}
+use lib.ListN.{length, take, replicate}
+use Rattle.stream.specs.Numbers.{u16At}
+use Rattle.records.specs.declared.records.Record.the-variants.{Rescale, Choice, Feature, Variable, Place, Item, Points, Path}
+use Rattle.records.specs.declared.records.Step.{Step}
+use Rattle.records.specs.declared.records.Step.the-variants.{Got, End, Bad}
+use Rattle.records.specs.Records.{plain, allTo, named, labelled, namedThen, counted, allZero, choiceWidth, choiceFits, valuesWidth, itemBegins, itemFits, itemWith}
+use Rattle.records.specs.Records.{endOf, rescaleOf, choiceOf, featureOf, variableOf, placeOf, itemOf, pointsOf, pathWith, cubicsOf, polylineOf, pathOf, byTag, recordOf}
+
+abbrev zeros : ℕ → List ℕ
+zeros n = replicate n 0
+
+-- each takes all of its bytes
+whole : List (List ℕ × Step)
+whole =
+    (1 ∷ zeros 8, Got Rescale 9)
+    -- a frame, an anchor, a scale, a view's scale
+    ∷ (2 ∷ 1 ∷ 1 ∷ [], Got (Choice 1) 3)
+    ∷ (2 ∷ 2 ∷ zeros 16, Got (Choice 2) 18)
+    ∷ (2 ∷ 3 ∷ zeros 8, Got (Choice 3) 10)
+    ∷ (2 ∷ 6 ∷ zeros 8, Got (Choice 6) 10)
+    -- the shortest name and the longest
+    ∷ (3 ∷ 1 ∷ 33 ∷ zeros 16, Got (Feature 1) 19)
+    ∷ (4 ∷ 31 ∷ replicate 31 126 ++ zeros 8, Got (Variable 31) 41)
+    ∷ (5 ∷ 1 ∷ 65 ∷ zeros 16 ++ 1 ∷ zeros 8, Got (Place 1) 28)
+    -- an item with nothing, with `at` alone, with `rad` alone, with everything
+    ∷ (6 ∷ 10 ∷ 31 ∷ 0 ∷ zeros 9, Got (Item 10 31 0 0) 13)
+    ∷ (6 ∷ 0 ∷ 0 ∷ 0 ∷ zeros 8 ++ 1 ∷ zeros 16, Got (Item 0 0 0 1) 29)
+    ∷ (6 ∷ 0 ∷ 0 ∷ 0 ∷ zeros 8 ++ 16 ∷ zeros 8, Got (Item 0 0 0 16) 21)
+    ∷ (6 ∷ 0 ∷ 0 ∷ 1 ∷ 65 ∷ zeros 8 ++ 31 ∷ zeros 48, Got (Item 0 0 1 31) 62)
+    ∷ (7 ∷ 0 ∷ 0 ∷ 0 ∷ [], Got (Points 0 0) 4)
+    ∷ (7 ∷ 1 ∷ 2 ∷ 0 ∷ zeros 32, Got (Points 1 2) 36)
+    ∷ (8 ∷ 0 ∷ 1 ∷ 0 ∷ zeros 16 ++ 1 ∷ 0 ∷ zeros 48, Got (Path 0 1 0 1) 70)
+    ∷ (8 ∷ 1 ∷ 0 ∷ 1 ∷ 2 ∷ 0 ∷ zeros 32, Got (Path 1 0 1 2) 38)
+    ∷ []
+
+cut : List ℕ × Step → List ℕ × Step
+cut s = (take (length (s .0) - 1) (s .0), Bad)
+
+-- the end, and a record with more after it
+ends : List (List ℕ × Step)
+ends = (0 ∷ [], End) ∷ (zeros 9, End) ∷ (1 ∷ zeros 20, Got Rescale 9) ∷ []
+
+broken : List (List ℕ)
+broken =
+    -- nothing, a tag that is none, more than zeros after the end
+    []
+    ∷ (9 ∷ zeros 99)
+    ∷ (0 ∷ zeros 5 ++ 1 ∷ [])
+    -- options 0 and 7, frame 2
+    ∷ (2 ∷ 0 ∷ zeros 16)
+    ∷ (2 ∷ 7 ∷ zeros 16)
+    ∷ (2 ∷ 1 ∷ 2 ∷ [])
+    -- a name's bytes 32 and 127, its lengths 0 and 32
+    ∷ (3 ∷ 1 ∷ 32 ∷ zeros 16)
+    ∷ (4 ∷ 2 ∷ 33 ∷ 127 ∷ zeros 8)
+    ∷ (3 ∷ 0 ∷ zeros 16)
+    ∷ (4 ∷ 32 ∷ replicate 32 65 ++ zeros 8)
+    -- nested 2
+    ∷ (5 ∷ 1 ∷ 65 ∷ zeros 16 ++ 2 ∷ zeros 8)
+    -- kind 11, flags 32, a label's byte 32 and its length 32, presence 32
+    ∷ (6 ∷ 11 ∷ zeros 11)
+    ∷ (6 ∷ 0 ∷ 32 ∷ zeros 10)
+    ∷ (6 ∷ 0 ∷ 0 ∷ 1 ∷ 32 ∷ zeros 9)
+    ∷ (6 ∷ 0 ∷ 0 ∷ 32 ∷ replicate 32 65 ++ zeros 9)
+    ∷ (6 ∷ 0 ∷ 0 ∷ 0 ∷ zeros 8 ++ 32 ∷ zeros 48)
+    -- roles 2, closed 2, form 2
+    ∷ (7 ∷ 2 ∷ 0 ∷ 0 ∷ [])
+    ∷ (8 ∷ 2 ∷ 0 ∷ 1 ∷ 0 ∷ 0 ∷ [])
+    ∷ (8 ∷ 0 ∷ 2 ∷ 1 ∷ 0 ∷ 0 ∷ [])
+    ∷ (8 ∷ 0 ∷ 0 ∷ 2 ∷ zeros 99)
+    ∷ []
+
+bad : List ℕ → List ℕ × Step
+bad l = (l, Bad)
+
+table : List (List ℕ × Step)
+table = whole ++ map cut whole ++ ends ++ map bad broken
+
+samples-agree : map (λ (s : List ℕ × Step). recordOf (s .0)) table ≡ map (λ (s : List ℕ × Step). s .1) table
+unfolding
+    whole cut ends broken bad table u16At plain allTo named labelled namedThen counted allZero choiceWidth choiceFits valuesWidth itemBegins itemFits itemWith
+    endOf rescaleOf choiceOf featureOf variableOf placeOf itemOf pointsOf pathWith cubicsOf polylineOf pathOf byTag recordOf
+samples-agree = refl

@@ -1,0 +1,185 @@
+// Condition 3, in one pass over the records.
+ghost use mathlib.Core.Path.{_≡_};
+ghost use Prim.Native.Nat.{ℕ, _+_, _≤_};
+ghost use lib.ListN.{drop};
+ghost use Rattle.stream.specs.Payload.{payload, room};
+ghost use Rattle.records.specs.Records.{recordOf};
+ghost use Rattle.records.specs.declared.records.Record.{Record};
+ghost use Rattle.records.specs.declared.records.Step.{Step};
+ghost use Rattle.records.specs.Layout.{before, hasRole, stepOf, laidOut};
+ghost use Rattle.records.specs.Order.{part, passOf, nextOf, turnOf, tagOf, Kept, KeptAfter};
+use crate::records::Record;
+use crate::records::Step;
+use crate::records::next_record;
+use crate::records::wide;
+use stream::byte;
+
+// What the records so far leave to know.
+pub struct State {
+    // the last tag, and the last option
+    pub last: u8,
+    pub option: u8,
+    // the last variable's name: its place in the payload, and its length
+    pub at: usize,
+    pub len: usize,
+    // of the last item's points: 1 for points, 2 for fill points
+    pub roles: u8,
+}
+
+pub enum Turn {
+    Go(State),
+    Stop,
+}
+
+// Whether the n bytes at p come before the m bytes at q.
+fn name_before(s: &[u8], p: usize, n: usize, q: usize, m: usize) -> bool
+    requires { ⌜ (p + n ≤ room (now s)) × (q + m ≤ room (now s)) ⌝ }
+    ensures { λ r. ⌜ r ≡ before (part (payload (now (s .entry))) p n) (part (payload (now (s .entry))) q m) ⌝ }
+{
+    let mut i = 0usize;
+    while i < m {
+        if i >= n {
+            return true;
+        }
+        let x = byte(s, 0, p + i);
+        let y = byte(s, 0, q + i);
+        if x < y {
+            return true;
+        }
+        if y < x {
+            return false;
+        }
+        i += 1;
+    }
+    false
+}
+
+fn has_role(roles: u8, role: u8) -> bool
+    ensures { λ r. ⌜ r ≡ hasRole roles role ⌝ }
+{
+    if role == 0 {
+        return roles % 2 == 1;
+    }
+    roles / 2 == 1
+}
+
+fn go_if(ok: bool, st: State) -> Turn
+    ensures { λ t. ⌜ t ≡ turnOf ok st ⌝ }
+{
+    if ok { Turn::Go(st) } else { Turn::Stop }
+}
+
+// A record whose tag has its place after the tags from 1 to its own.
+fn tag(st: State, tag: u8) -> Turn
+    ensures { λ t. ⌜ t ≡ tagOf st tag ⌝ }
+{
+    let last = st.last;
+    if last < 1 {
+        return Turn::Stop;
+    }
+    let mut next = st;
+    next.last = tag;
+    go_if(last <= tag, next)
+}
+
+// A variable, which stands at p.
+fn variable(s: &[u8], st: State, p: usize, name: u8) -> Turn
+    requires { ⌜ Kept st (room (now s)) × (p + 2 + name ≤ room (now s)) ⌝ }
+    ensures { λ t. ⌜ nextOf (payload (now (s .entry))) t ≡ stepOf (passOf (payload (now (s .entry))) st) (drop p (payload (now (s .entry)))) (Record.Variable name) ⌝ }
+    ensures { λ t. ⌜ KeptAfter t (room (now (s .entry))) ⌝ }
+{
+    let at = st.at;
+    let len = st.len;
+    let n = wide(name);
+    if !name_before(s, at, len, p + 2, n) {
+        return Turn::Stop;
+    }
+    let mut next = st;
+    next.at = p + 2;
+    next.len = n;
+    tag(next, 4)
+}
+
+// One record, which stands at p and takes k bytes.
+fn step(s: &[u8], st: State, p: usize, r: Record, k: usize) -> Turn
+    requires { ⌜ Kept st (room (now s)) × (recordOf (drop p (payload (now s))) ≡ Step.Got r k) ⌝ }
+    ensures { λ t. ⌜ nextOf (payload (now (s .entry))) t ≡ stepOf (passOf (payload (now (s .entry))) st) (drop p (payload (now (s .entry)))) r ⌝ }
+    ensures { λ t. ⌜ KeptAfter t (room (now (s .entry))) ⌝ }
+{
+    let last = st.last;
+    let option = st.option;
+    let roles = st.roles;
+    let mut next = st;
+    match r {
+        Record::Rescale => {
+            next.last = 1;
+            go_if(last == 0, next)
+        }
+        Record::Choice(o) => {
+            if o <= option {
+                return Turn::Stop;
+            }
+            next.option = o;
+            tag(next, 2)
+        }
+        Record::Feature(_) => tag(st, 3),
+        Record::Variable(name) => variable(s, st, p, name),
+        Record::Place(_) => tag(st, 5),
+        Record::Item {
+            kind: _,
+            flags: _,
+            label: _,
+            has: _,
+        } => {
+            next.roles = 0;
+            tag(next, 6)
+        }
+        Record::Points { role, count: _ } => {
+            if has_role(roles, role) {
+                return Turn::Stop;
+            }
+            next.roles = roles + 1 + role;
+            go_if(last == 6, next)
+        }
+        Record::Path {
+            role: _,
+            closed: _,
+            form: _,
+            count: _,
+        } => go_if(last == 6, st),
+    }
+}
+
+pub fn layout(s: &[u8]) -> bool
+    ensures { λ r. ⌜ r ≡ laidOut (payload (now (s .entry))) ⌝ }
+{
+    let mut p = 0usize;
+    let mut st = State {
+        last: 0,
+        option: 0,
+        at: 0,
+        len: 0,
+        roles: 0,
+    };
+    loop {
+        let part = stream::part_from(s, p);
+        let off = p % stream::PAYLOAD;
+        match next_record(part, off) {
+            Step::Bad => {
+                return false;
+            }
+            Step::End => {
+                return st.last >= 1;
+            }
+            Step::Got(r, k) => match step(s, st, p, r, k) {
+                Turn::Stop => {
+                    return false;
+                }
+                Turn::Go(t) => {
+                    st = t;
+                    p = p + k;
+                }
+            },
+        }
+    }
+}

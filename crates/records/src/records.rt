@@ -1,0 +1,415 @@
+// One reader for each record, by the part of the stream that starts at the record's block and the offset in that block.
+ghost use mathlib.Core.Path.{_≡_};
+ghost use Prim.Native.Nat.{_+_, _<_, _≤_};
+ghost use lib.ListN.{length, drop};
+ghost use Rattle.stream.specs.Payload.{room, rest};
+ghost use Rattle.records.specs.Records.{plains, named, labelled, namedThen, counted, allZero, choiceWidth, choiceFits, valuesWidth, itemBegins};
+ghost use Rattle.records.specs.Records.{endOf, rescaleOf, choiceOf, featureOf, variableOf, placeOf, itemOf, pointsOf, pathWith, pathOf, recordOf};
+use stream::byte;
+use stream::left;
+use stream::short;
+use stream::word;
+
+// A record. Names, floats and pairs stay in the stream, at places that the fields here settle.
+pub enum Record {
+    Rescale,
+    // an option: which
+    Choice(u8),
+    // the name's length
+    Feature(u8),
+    Variable(u8),
+    Place(u8),
+    Item {
+        kind: u8,
+        flags: u8,
+        // the label's length, 0 for none
+        label: u8,
+        // the presence byte
+        has: u8,
+    },
+    Points {
+        role: u8,
+        count: u16,
+    },
+    Path {
+        role: u8,
+        closed: u8,
+        form: u8,
+        // cubics, or points
+        count: u16,
+    },
+}
+
+// What stands at a place: a record and how many bytes it takes, the end, or neither.
+pub enum Step {
+    Got(Record, usize),
+    End,
+    Bad,
+}
+
+pub fn wide(x: u8) -> usize
+    ensures { λ r. ⌜ (r ≡ x) × (r < 256) ⌝ }
+{
+    x as usize
+}
+
+pub fn wide16(x: u16) -> usize
+    ensures { λ r. ⌜ (r ≡ x) × (r < 65536) ⌝ }
+{
+    x as usize
+}
+
+// Whether n bytes from p on are all of 33 to 126.
+fn all_plain(part: &[u8], off: usize, p: usize, n: usize) -> bool
+    requires { ⌜ (off ≤ room (now part)) × (p + n ≤ length (rest (now part) off)) ⌝ }
+    ensures { λ r. ⌜ r ≡ plains (rest (now (part .entry)) off) p n ⌝ }
+{
+    let mut i = 0usize;
+    while i < n {
+        let x = byte(part, off, p + i);
+        if x < 33 {
+            return false;
+        }
+        if x > 126 {
+            return false;
+        }
+        i += 1;
+    }
+    true
+}
+
+// Whether a name stands at p.
+fn is_name(part: &[u8], off: usize, p: usize) -> bool
+    requires { ⌜ off ≤ room (now part) ⌝ }
+    ensures { λ r. ⌜ r ≡ named (rest (now (part .entry)) off) p ⌝ }
+{
+    let len = left(part, off);
+    if p >= len {
+        return false;
+    }
+    let n = wide(byte(part, off, p));
+    if n < 1 {
+        return false;
+    }
+    if n > 31 {
+        return false;
+    }
+    if len - p - 1 < n {
+        return false;
+    }
+    all_plain(part, off, p + 1, n)
+}
+
+// Whether a name stands at p, or length 0 for none.
+fn is_label(part: &[u8], off: usize, p: usize) -> bool
+    requires { ⌜ (off ≤ room (now part)) × (p < length (rest (now part) off)) ⌝ }
+    ensures { λ r. ⌜ r ≡ labelled (rest (now (part .entry)) off) p ⌝ }
+{
+    if byte(part, off, p) == 0 {
+        return true;
+    }
+    is_name(part, off, p)
+}
+
+// Whether a name stands after the tag, and `more` bytes after it.
+fn named_then(part: &[u8], off: usize, more: usize) -> bool
+    requires { ⌜ (off ≤ room (now part)) × (more < 256) ⌝ }
+    ensures { λ r. ⌜ r ≡ namedThen (rest (now (part .entry)) off) more ⌝ }
+{
+    if !is_name(part, off, 1) {
+        return false;
+    }
+    left(part, off) >= 2 + more + wide(byte(part, off, 1))
+}
+
+// Whether a count stands at p, and `each` bytes for each after it.
+fn counts(part: &[u8], off: usize, p: usize, each: usize) -> bool
+    requires { ⌜ (off ≤ room (now part)) × (p < 256) × (each < 256) ⌝ }
+    ensures { λ r. ⌜ r ≡ counted (rest (now (part .entry)) off) p each ⌝ }
+{
+    let len = left(part, off);
+    if len < p + 2 {
+        return false;
+    }
+    len >= p + 2 + each * wide16(short(part, off, p))
+}
+
+// Whether the bytes from i on are zeros.
+fn zeros_from(part: &[u8], off: usize, i: usize) -> bool
+    requires { ⌜ off ≤ room (now part) ⌝ }
+    ensures { λ r. ⌜ r ≡ allZero (drop i (rest (now (part .entry)) off)) ⌝ }
+{
+    let len = left(part, off);
+    let mut k = i;
+    while k < len {
+        if byte(part, off, k) != 0 {
+            return false;
+        }
+        k += 1;
+    }
+    true
+}
+
+// Whether all bytes are zeros: four at a time, since they may be the stream's most.
+fn zeros(part: &[u8], off: usize) -> bool
+    requires { ⌜ off ≤ room (now part) ⌝ }
+    ensures { λ r. ⌜ r ≡ allZero (rest (now (part .entry)) off) ⌝ }
+{
+    let len = left(part, off);
+    let mut i = 0usize;
+    while len - i >= 4 {
+        if word(part, off, i) != 0 {
+            return false;
+        }
+        i += 4;
+    }
+    zeros_from(part, off, i)
+}
+
+fn read_end(part: &[u8], off: usize) -> Step
+    requires { ⌜ off ≤ room (now part) ⌝ }
+    ensures { λ r. ⌜ r ≡ endOf (rest (now (part .entry)) off) ⌝ }
+{
+    if zeros(part, off) {
+        Step::End
+    } else {
+        Step::Bad
+    }
+}
+
+fn read_rescale(part: &[u8], off: usize) -> Step
+    requires { ⌜ off ≤ room (now part) ⌝ }
+    ensures { λ r. ⌜ r ≡ rescaleOf (rest (now (part .entry)) off) ⌝ }
+{
+    if left(part, off) < 9 {
+        return Step::Bad;
+    }
+    Step::Got(Record::Rescale, 9)
+}
+
+// How many bytes an option's value takes.
+pub fn choice_width(option: u8) -> usize
+    ensures { λ r. ⌜ (r ≡ choiceWidth option) × (1 ≤ r) × (r ≤ 16) ⌝ }
+{
+    if option == 1 {
+        return 1;
+    }
+    if option == 2 {
+        return 16;
+    }
+    8
+}
+
+fn choice_fits(part: &[u8], off: usize, option: u8) -> bool
+    requires { ⌜ off ≤ room (now part) ⌝ }
+    ensures { λ r. ⌜ r ≡ choiceFits (rest (now (part .entry)) off) option ⌝ }
+{
+    if option < 1 {
+        return false;
+    }
+    if option > 6 {
+        return false;
+    }
+    if left(part, off) < 2 + choice_width(option) {
+        return false;
+    }
+    if option > 1 {
+        return true;
+    }
+    byte(part, off, 2) <= 1
+}
+
+fn read_choice(part: &[u8], off: usize) -> Step
+    requires { ⌜ off ≤ room (now part) ⌝ }
+    ensures { λ r. ⌜ r ≡ choiceOf (rest (now (part .entry)) off) ⌝ }
+{
+    if left(part, off) < 2 {
+        return Step::Bad;
+    }
+    let option = byte(part, off, 1);
+    if !choice_fits(part, off, option) {
+        return Step::Bad;
+    }
+    Step::Got(Record::Choice(option), 2 + choice_width(option))
+}
+
+fn read_feature(part: &[u8], off: usize) -> Step
+    requires { ⌜ off ≤ room (now part) ⌝ }
+    ensures { λ r. ⌜ r ≡ featureOf (rest (now (part .entry)) off) ⌝ }
+{
+    if !named_then(part, off, 16) {
+        return Step::Bad;
+    }
+    let name = byte(part, off, 1);
+    Step::Got(Record::Feature(name), 18 + wide(name))
+}
+
+fn read_variable(part: &[u8], off: usize) -> Step
+    requires { ⌜ off ≤ room (now part) ⌝ }
+    ensures { λ r. ⌜ r ≡ variableOf (rest (now (part .entry)) off) ⌝ }
+{
+    if !named_then(part, off, 8) {
+        return Step::Bad;
+    }
+    let name = byte(part, off, 1);
+    Step::Got(Record::Variable(name), 10 + wide(name))
+}
+
+fn read_place(part: &[u8], off: usize) -> Step
+    requires { ⌜ off ≤ room (now part) ⌝ }
+    ensures { λ r. ⌜ r ≡ placeOf (rest (now (part .entry)) off) ⌝ }
+{
+    if !named_then(part, off, 25) {
+        return Step::Bad;
+    }
+    let name = byte(part, off, 1);
+    let n = wide(name);
+    if byte(part, off, 18 + n) > 1 {
+        return Step::Bad;
+    }
+    Step::Got(Record::Place(name), 27 + n)
+}
+
+// How many bytes the values take that a presence byte names.
+pub fn values_width(m: usize) -> usize
+    requires { ⌜ m < 32 ⌝ }
+    ensures { λ r. ⌜ (r ≡ valuesWidth m) × (r ≤ 48) ⌝ }
+{
+    16 * (m % 2) + 8 * (m / 2 % 2) + 8 * (m / 4 % 2) + 8 * (m / 8 % 2) + 8 * (m / 16 % 2)
+}
+
+// Whether an item's kind, flags and label are right.
+fn item_begins(part: &[u8], off: usize) -> bool
+    requires { ⌜ off ≤ room (now part) ⌝ }
+    ensures { λ r. ⌜ r ≡ itemBegins (rest (now (part .entry)) off) ⌝ }
+{
+    if left(part, off) < 4 {
+        return false;
+    }
+    if byte(part, off, 1) > 10 {
+        return false;
+    }
+    if byte(part, off, 2) >= 32 {
+        return false;
+    }
+    is_label(part, off, 3)
+}
+
+fn read_item(part: &[u8], off: usize) -> Step
+    requires { ⌜ off ≤ room (now part) ⌝ }
+    ensures { λ r. ⌜ r ≡ itemOf (rest (now (part .entry)) off) ⌝ }
+{
+    if !item_begins(part, off) {
+        return Step::Bad;
+    }
+    let len = left(part, off);
+    let kind = byte(part, off, 1);
+    let flags = byte(part, off, 2);
+    let label = byte(part, off, 3);
+    let n = wide(label);
+    if len < 13 + n {
+        return Step::Bad;
+    }
+    let has = byte(part, off, 12 + n);
+    if has >= 32 {
+        return Step::Bad;
+    }
+    let size = 13 + n + values_width(wide(has));
+    if len < size {
+        return Step::Bad;
+    }
+    Step::Got(
+        Record::Item {
+            kind: kind,
+            flags: flags,
+            label: label,
+            has: has,
+        },
+        size,
+    )
+}
+
+fn read_points(part: &[u8], off: usize) -> Step
+    requires { ⌜ off ≤ room (now part) ⌝ }
+    ensures { λ r. ⌜ r ≡ pointsOf (rest (now (part .entry)) off) ⌝ }
+{
+    if !counts(part, off, 2, 16) {
+        return Step::Bad;
+    }
+    let role = byte(part, off, 1);
+    if role > 1 {
+        return Step::Bad;
+    }
+    let count = short(part, off, 2);
+    Step::Got(
+        Record::Points {
+            role: role,
+            count: count,
+        },
+        4 + 16 * wide16(count),
+    )
+}
+
+// A path of a form whose count stands at p, with `each` bytes for each after it.
+fn read_form(part: &[u8], off: usize, form: u8, p: usize, each: usize) -> Step
+    requires { ⌜ (off ≤ room (now part)) × (1 ≤ p) × (p < 256) × (each < 256) ⌝ }
+    ensures { λ r. ⌜ r ≡ pathWith (rest (now (part .entry)) off) form p each ⌝ }
+{
+    if !counts(part, off, p, each) {
+        return Step::Bad;
+    }
+    let role = byte(part, off, 1);
+    let closed = byte(part, off, 2);
+    let count = short(part, off, p);
+    Step::Got(
+        Record::Path {
+            role: role,
+            closed: closed,
+            form: form,
+            count: count,
+        },
+        p + 2 + each * wide16(count),
+    )
+}
+
+fn read_path(part: &[u8], off: usize) -> Step
+    requires { ⌜ off ≤ room (now part) ⌝ }
+    ensures { λ r. ⌜ r ≡ pathOf (rest (now (part .entry)) off) ⌝ }
+{
+    if left(part, off) < 4 {
+        return Step::Bad;
+    }
+    if byte(part, off, 1) > 1 {
+        return Step::Bad;
+    }
+    if byte(part, off, 2) > 1 {
+        return Step::Bad;
+    }
+    match byte(part, off, 3) {
+        0 => read_form(part, off, 0, 20, 48),
+        1 => read_form(part, off, 1, 4, 16),
+        _ => Step::Bad,
+    }
+}
+
+// What stands at the offset of a part of the stream that starts at the record's block.
+pub fn next_record(part: &[u8], off: usize) -> Step
+    requires { ⌜ off ≤ room (now part) ⌝ }
+    ensures { λ r. ⌜ r ≡ recordOf (rest (now (part .entry)) off) ⌝ }
+{
+    if left(part, off) == 0 {
+        return Step::Bad;
+    }
+    match byte(part, off, 0) {
+        0 => read_end(part, off),
+        1 => read_rescale(part, off),
+        2 => read_choice(part, off),
+        3 => read_feature(part, off),
+        4 => read_variable(part, off),
+        5 => read_place(part, off),
+        6 => read_item(part, off),
+        7 => read_points(part, off),
+        8 => read_path(part, off),
+        _ => Step::Bad,
+    }
+}

@@ -1,0 +1,161 @@
+// The next record that a question asks for.
+ghost use mathlib.Core.Path.{_≡_};
+ghost use mathlib.Core.Bool.{Bool, true, false};
+ghost use Prim.Native.Nat.{_≤_};
+ghost use lib.ListN.{drop};
+ghost use Rattle.stream.specs.Payload.{payload};
+ghost use Rattle.records.specs.Records.{recordOf};
+ghost use Rattle.records.specs.Walk.{tagOf};
+ghost use Rattle.records.specs.Search.{keyOf, past, turnOf, recordsAt};
+ghost use Rattle.records.specs.Hits.{Standing, hitsOf};
+use crate::records::Record;
+use crate::records::Step;
+use crate::records::next_record;
+
+// Where a search stands at a record: it is one asked for, it is passed over, or none can follow.
+enum Turn {
+    Here,
+    On,
+    Past,
+}
+
+// What a search found: whether a record, where it stands in the payload, and where the one after it.
+pub struct Hit {
+    pub some: bool,
+    pub at: usize,
+    pub next: usize,
+}
+
+// What stands at byte p of the payload; nothing behind its end.
+pub fn record_at(s: &[u8], p: usize) -> Step
+    ensures { λ r. ⌜ r ≡ recordOf (drop p (payload (now (s .entry)))) ⌝ }
+{
+    if p > stream::left(s, 0) {
+        return Step::Bad;
+    }
+    next_record(stream::part_from(s, p), p % stream::PAYLOAD)
+}
+
+fn tag_of(r: Record) -> u8
+    ensures { λ t. ⌜ t ≡ tagOf r ⌝ }
+{
+    match r {
+        Record::Rescale => 1,
+        Record::Choice(_) => 2,
+        Record::Feature(_) => 3,
+        Record::Variable(_) => 4,
+        Record::Place(_) => 5,
+        Record::Item {
+            kind: _,
+            flags: _,
+            label: _,
+            has: _,
+        } => 6,
+        Record::Points { role: _, count: _ } => 7,
+        Record::Path {
+            role: _,
+            closed: _,
+            form: _,
+            count: _,
+        } => 8,
+    }
+}
+
+fn key_of(r: Record) -> u8
+    ensures { λ k. ⌜ k ≡ keyOf r ⌝ }
+{
+    match r {
+        Record::Rescale => 0,
+        Record::Choice(option) => option,
+        Record::Feature(_) => 0,
+        Record::Variable(_) => 0,
+        Record::Place(_) => 0,
+        Record::Item {
+            kind: _,
+            flags: _,
+            label: _,
+            has: _,
+        } => 0,
+        Record::Points { role, count: _ } => role,
+        Record::Path {
+            role,
+            closed: _,
+            form: _,
+            count: _,
+        } => role,
+    }
+}
+
+// Whether a record of tag x ends a search for tag t.
+fn is_past(t: u8, x: u8) -> bool
+    ensures { λ r. ⌜ r ≡ past t x ⌝ }
+{
+    if t < 6 {
+        return t < x;
+    }
+    if t == 6 {
+        return false;
+    }
+    x < 7
+}
+
+fn turn_at(r: Record, tag: u8, key: u8) -> Turn
+    ensures { λ t. ⌜ t ≡ turnOf tag key r ⌝ }
+{
+    let x = tag_of(r);
+    if x == tag {
+        if key_of(r) == key {
+            return Turn::Here;
+        }
+    }
+    if is_past(tag, x) {
+        return Turn::Past;
+    }
+    Turn::On
+}
+
+// The first record of a tag and key from p on, as far as such a record can stand.
+pub fn find(s: &[u8], p: usize, tag: u8, key: u8) -> Hit
+    ensures { λ r. ⌜ recordsAt (payload (now (s .entry))) p tag key ≡ hitsOf (payload (now (s .entry))) tag key r ⌝ }
+    ensures { λ r. ⌜ (r .some ≡ true → Standing (payload (now (s .entry))) tag key (r .at) (r .next)) ⌝ }
+    ensures { λ r. ⌜ p ≤ r .at ⌝ }
+{
+    let mut q = p;
+    loop {
+        match record_at(s, q) {
+            Step::Bad => {
+                return Hit {
+                    some: false,
+                    at: q,
+                    next: q,
+                };
+            }
+            Step::End => {
+                return Hit {
+                    some: false,
+                    at: q,
+                    next: q,
+                };
+            }
+            Step::Got(r, k) => match turn_at(r, tag, key) {
+                Turn::Here => {
+                    return Hit {
+                        some: true,
+                        at: q,
+                        next: q + k,
+                    };
+                }
+                Turn::Past => {
+                    return Hit {
+                        some: false,
+                        at: q,
+                        next: q,
+                    };
+                }
+                Turn::On => {
+                    q = q + k;
+                }
+            },
+        }
+    }
+}

@@ -1,0 +1,47 @@
+-- Two names of equal length, of which the first i bytes agree; and the bytes of a name in a payload.
+use mathlib.Core.Path.{_≡_, refl, sym, _∙_}
+use mathlib.Core.Bool.{Bool, true, false}
+use mathlib.Core.List.{List}
+use Prim.Native.Nat.{ℕ, _+_, _≤_, _<_}
+use native.Mathlib.Omega.{arith}
+use lib.ListN.{length, getD, drop}
+use borrow.Author.Tests.{lt-ltb}
+use Rattle.stream.specs.Payload.{payload, room, rest}
+use Rattle.stream.specs.Laws.Payload.{payload-length}
+use Rattle.records.specs.Order.{part}
+use Rattle.scene.specs.Labels.{same, carries}
+use Rattle.scene.specs.Answers.{labelBy}
+use Rattle.scene.specs.Laws.Names.{part-length, part-at, same-lengths, same-ends, same-step, same-fails}
+
+module _ (s : List ℕ) (p n : ℕ) where
+  pub name-length : p + n ≤ room s → length (part (payload s) p n) ≡ n
+  name-length h = part-length (payload s) p n (omega (arith, payload-length s))
+
+  pub name-at : {i x : ℕ} → i < n → x ≡ getD (rest s 0) (p + i) 0 → x ≡ getD (part (payload s) p n) i 0
+  unfolding rest
+  name-at {i} h e = e ∙ sym (part-at (payload s) p n i h)
+
+module _ (a b : List ℕ) {n m : ℕ} (la : length a ≡ n) (lb : length b ≡ m) where
+  pub lengths-differ : (n ≡ m → ⊥) → false ≡ same a b
+  lengths-differ h = sym (same-lengths a b (λ e. h (omega arith)))
+
+  module _ (e : n ≡ m) {i : ℕ} (so : same a b ≡ same (drop i a) (drop i b)) where
+    pub all-agree : n ≤ i → true ≡ same a b
+    all-agree h = sym (so ∙ same-ends a b i (omega arith) (omega arith))
+
+    module _ (h : i < n) {x y : ℕ} (ex : x ≡ getD a i 0) (ey : y ≡ getD b i 0) where
+      pub one-differs : (x ≡ y → ⊥) → false ≡ same a b
+      one-differs d = sym (so ∙ same-fails a b i (omega arith) (omega arith) (λ g. d (omega arith)))
+
+      pub one-agrees : x ≡ y → same a b ≡ same (drop (i + 1) a) (drop (i + 1) b)
+      one-agrees g = so ∙ same-step a b i (omega arith) (omega arith) (omega arith)
+
+-- ---- a label that may be absent
+module _ (l : List ℕ) (p n : ℕ) (name : List ℕ) where
+  pub no-label : n ≡ 0 → false ≡ carries (labelBy l p n) name
+  unfolding carries
+  no-label e = rw e refl
+
+  pub a-label : {r : Bool} → (n ≡ 0 → ⊥) → r ≡ same (part l p n) name → r ≡ carries (labelBy l p n) name
+  unfolding carries
+  a-label h e = rw (lt-ltb 0 n (omega arith)) e

@@ -1,0 +1,104 @@
+-- What an answer of `find` says: of the records that a question asks for, each read by f, and of where the one that was found lies.
+use mathlib.Core.Path.{_≡_, refl, sym, subst}
+use mathlib.Core.Logic.{⊎-elim}
+use mathlib.Core.Bool.{true, false, not}
+use mathlib.Core.List.{List, [], _∷_, map}
+use Prim.Native.Nat.{ℕ, _+_, _*_, _≤_, _<_}
+use native.Mathlib.Nat.{eq-zero-or-pos}
+use native.Mathlib.Omega.{arith}
+use lib.ListN.{drop, getD}
+use lib.Dec.{T}
+use lib.Seq.{getD-drop}
+use borrow.Author.Tests.{not-true, not-false}
+use Rattle.stream.specs.Numbers.{u16At}
+use Rattle.stream.specs.Laws.Numbers.{u16-drop}
+use Rattle.stream.specs.Payload.{payload, room}
+use Rattle.stream.specs.Laws.Payload.{payload-length}
+use Rattle.records.specs.declared.search.Hit.{Hit}
+use Rattle.records.specs.Records.{choiceWidth}
+use Rattle.records.specs.Search.{recordsAt}
+use Rattle.records.specs.Hits.{Standing, hitsOf}
+use Rattle.records.specs.Laws.Search.{standing-less, standing-fits, choice-within, NameFound, PointsFound, PathFound}
+use Rattle.scene.specs.Scene.{none, some, first}
+
+-- an answer that says of itself that there is none
+pub nothing : {A : Type 0} → false ≡ true → A
+nothing e = absurd (subst T (sym e) tt)
+
+-- what `find` ensures
+abbrev pub Answer : List ℕ → ℕ → ℕ → ℕ → Hit → Type 0
+Answer s p t k h = (recordsAt (payload s) p t k ≡ hitsOf (payload s) t k h) × ((h .some ≡ true → Standing (payload s) t k (h .at) (h .next)) × (p ≤ h .at))
+
+-- a record of tag t and key k was found from p on
+pub record One (s : List ℕ) (p t k : ℕ) (h : Hit) : Type 0 where
+  pub all : recordsAt (payload s) p t k ≡ drop (h .at) (payload s) ∷ recordsAt (payload s) (h .next) t k
+  pub stands : Standing (payload s) t k (h .at) (h .next)
+  pub from : p ≤ h .at
+  pub more : h .at < h .next
+  pub fits : h .next ≤ room s
+
+module _ (s : List ℕ) (p t k : ℕ) (h : Hit) (a : Answer s p t k h) where
+  pub one-found : not (h .some) ≡ false → One s p t k h
+  unfolding hitsOf
+  one-found n =
+      let m = not-false (h .some) n in
+      let o = a .1 .0 m in
+      record { all = rw (a .0, m) refl; stands = o; from = a .1 .1; more = standing-less o; fits = omega (arith, standing-fits o, payload-length s) }
+
+  module _ {A : Type 0} (f : List ℕ → A) (n : not (h .some) ≡ true) where
+    pub none-listed : map f (recordsAt (payload s) p t k) ≡ []
+    unfolding hitsOf
+    none-listed = rw (a .0, not-true (h .some) n) refl
+
+    pub none-first : none ≡ first f (recordsAt (payload s) p t k)
+    unfolding hitsOf
+    none-first = rw (a .0, not-true (h .some) n) refl
+
+module _ {s : List ℕ} {p t k : ℕ} {h : Hit} (o : One s p t k h) where
+  module _ {A : Type 0} (f : List ℕ → A) {x : A} (e : f (drop (h .at) (payload s)) ≡ x) where
+    pub one-listed : map f (recordsAt (payload s) p t k) ≡ x ∷ map f (recordsAt (payload s) (h .next) t k)
+    one-listed = rw (o .all, ← e) refl
+
+    pub one-first : some x ≡ first f (recordsAt (payload s) p t k)
+    one-first = rw (o .all, ← e) refl
+
+  -- ---- points: a count and 16 bytes for each
+  module _ (f : PointsFound (drop (h .at) (payload s)) k (h .at) (h .next)) where
+    pub points-begin : h .at + 4 ≤ room s
+    points-begin = omega arith
+
+    pub points-end : {n : ℕ} → n ≡ u16At (payload s) (h .at + 2) → h .at + 4 + 16 * n ≤ room s
+    points-end e = rw (e, ← u16-drop (h .at) (payload s) 2) (omega arith)
+
+  -- ---- a path, of cubics or of points
+  module _ (f : PathFound (drop (h .at) (payload s)) k (h .at) (h .next)) where
+    pub path-begins : h .at + 6 ≤ room s
+    path-begins = ⊎-elim (λ e. omega (arith, f .cubics e)) (λ e. omega (arith, f .points (λ z. omega arith))) (eq-zero-or-pos (getD (drop (h .at) (payload s)) 3 0))
+
+    module _ {x : ℕ} (e : x ≡ getD (payload s) (h .at + 3) 0) where
+      form-is : x ≡ getD (drop (h .at) (payload s)) 3 0
+      form-is = rw getD-drop e
+
+      pub cubics-end : {n : ℕ} → x ≡ 0 → n ≡ u16At (payload s) (h .at + 20) → h .at + 22 + 48 * n ≤ room s
+      cubics-end z g = rw (g, ← u16-drop (h .at) (payload s) 20) (omega (arith, f .cubics (omega (arith, form-is))))
+
+      pub polyline-ends : {n : ℕ} → (x ≡ 0 → ⊥) → n ≡ u16At (payload s) (h .at + 4) → h .at + 6 + 16 * n ≤ room s
+      polyline-ends z g = rw (g, ← u16-drop (h .at) (payload s) 4) (omega (arith, f .points (λ y. z (omega (arith, form-is)))))
+
+-- ---- an option
+pub option-fits : {s : List ℕ} {p k : ℕ} {h : Hit} → One s p 2 k h → h .at + 2 + choiceWidth k ≤ room s
+option-fits {s} o = omega (arith, choice-within (o .stands), payload-length s)
+
+-- ---- a record that begins with a name, of n bytes, and has so many besides
+pub record Named (s : List ℕ) (p t : ℕ) (h : Hit) (more n : ℕ) : Type 0 where
+  pub one : One s p t 0 h
+  pub is : n ≡ getD (payload s) (h .at + 1) 0
+  pub short : n ≤ 31
+  pub ends : h .next ≡ h .at + more + n
+
+module _ {s : List ℕ} {p t more : ℕ} {h : Hit} (o : One s p t 0 h) (f : NameFound (drop (h .at) (payload s)) (h .at) (h .next) more) where
+  pub name-begins : h .at + more + 1 ≤ room s
+  name-begins = omega arith
+
+  pub named : {n : ℕ} → n ≡ getD (payload s) (h .at + 1) 0 → Named s p t h more n
+  named e = record { one = o; is = e; short = rw (e, ← getD-drop (h .at) (payload s) 1 0) (f .short); ends = rw (e, ← getD-drop (h .at) (payload s) 1 0) (f .ends) }

@@ -1,0 +1,223 @@
+use borrow.Author.Needs.{needs}
+use mathlib.Core.Path.{_≡_, refl, sym, _∙_}
+use Prim.Native.Nat.{_+_, _<_, _≤_}
+use native.Mathlib.Omega.{arith}
+use Rattle.stream.specs.Payload.{payload, room, rest}
+use Rattle.stream.specs.Laws.Payload.{rest-length}
+use Rattle.records.specs.Records.{valuesWidth}
+use Rattle.scene.specs.Laws.Widths.{at-within, w-within, h-within, r-within, rad-within}
+use Rattle.scene.proofs.Items.{item-ends, value-fits, value-is, item-is}
+use Rattle.scene.proofs.sections.item_at.Statement.{statement}
+use Rattle.scene.proofs.sections.item_at.Tie as tie
+
+ends : (o : tie.Start) → (o .args .m < 32) × (o .args .next ≡ o .args .q + 13 + o .args .n + valuesWidth (o .args .m)) × (o .args .next ≤ room (o .args .s .now))
+ends o = item-ends _ (o .pre)
+
+-- far from the start, omega does not see how long a slice can be
+room-less : (o : tie.Start) → room (o .args .s .now) + 48 < 18446744073709551616
+room-less o = omega arith
+
+add-byte : tie.Need-add-byte
+add-byte c = omega (arith, ends (c .before))
+
+byte-requires : tie.Need-byte-requires
+byte-requires c κs = let o = c .before in (omega arith, omega (arith, ends o, rest-length (o .args .s .now) 0))
+
+wide-requires : tie.Need-wide-requires
+wide-requires c κs = search needs
+
+add-b : tie.Need-add-b
+add-b c = omega (arith, ends (c .before .before .before))
+
+add-b-2 : tie.Need-add-b-2
+add-b-2 c = omega (arith, ends (c .before .before .before))
+
+add-byte-2 : tie.Need-add-byte-2
+add-byte-2 c = omega (arith, ends (c .before .before .before))
+
+byte-requires-2 : tie.Need-byte-requires-2
+byte-requires-2 c κs = let o = c .before .before .before in (omega arith, omega (arith, ends o, rest-length (o .args .s .now) 0))
+
+has-bit-requires : tie.Need-has-bit-requires
+has-bit-requires c κs = search needs
+
+has-bit-requires-2 : tie.Need-has-bit-requires-2
+has-bit-requires-2 c κs = search needs
+
+has-bit-requires-3 : tie.Need-has-bit-requires-3
+has-bit-requires-3 c κs = search needs
+
+has-bit-requires-4 : tie.Need-has-bit-requires-4
+has-bit-requires-4 c κs = search needs
+
+has-bit-requires-5 : tie.Need-has-bit-requires-5
+has-bit-requires-5 c κs = search needs
+
+add-t16 : tie.Need-add-t16
+add-t16 c = omega (arith, ends (c .before .before .before .before .before .before .before .before .before))
+
+add-word : tie.Need-add-word
+add-word c = omega (arith, ends (c .before .before .before .before .before .before .before .before .before))
+
+add-word-2 : tie.Need-add-word-2
+add-word-2 c = omega (arith, ends (c .before .before .before .before .before .before .before .before .before))
+
+word-requires : tie.Need-word-requires
+word-requires c κs = let o = c .before .before .before .before .before .before .before .before .before in (omega arith, omega (arith, ends o, rest-length (o .args .s .now) 0))
+
+add-word-3 : tie.Need-add-word-3
+add-word-3 c = omega (arith, ends (c .before .before .before .before .before .before .before .before .before .before))
+
+add-word-4 : tie.Need-add-word-4
+add-word-4 c = omega (arith, ends (c .before .before .before .before .before .before .before .before .before .before))
+
+word-requires-2 : tie.Need-word-requires-2
+word-requires-2 c κs = let o = c .before .before .before .before .before .before .before .before .before .before in (omega arith, omega (arith, ends o, rest-length (o .args .s .now) 0))
+
+has-bit-requires-6 : tie.Need-has-bit-requires-6
+has-bit-requires-6 c κs = search needs
+
+spot-if-requires : tie.Need-spot-if-requires
+spot-if-requires c κs =
+    let o = c .before .before .before .before .before .before .before .before .before .before .before .before in
+    λ e. omega (arith, ends o, at-within _ (ends o .0) (sym (c .has-bit6 .ensures) ∙ e))
+
+has-bit-requires-7 : tie.Need-has-bit-requires-7
+has-bit-requires-7 c κs = search needs
+
+values-width-requires : tie.Need-values-width-requires
+values-width-requires c κs = search needs
+
+add-value-if : tie.Need-add-value-if
+add-value-if c =
+    let o = c .before .before .before .before .before .before .before .before .before .before .before .before .before .before .before in
+    omega (arith, ends o, c .values-width .ensures .1, room-less o)
+
+value-if-requires : tie.Need-value-if-requires
+value-if-requires c κs =
+    let w = c .before .before .before .before .before .before .before .before .before .before .before .before in
+    let o = w .before .before .before in
+    value-fits _ (o .pre) 2 (c .before .has-bit7 .ensures) (w .wide .ensures .0) (c .values-width .ensures .0) (w-within _ (ends o .0))
+
+has-bit-requires-8 : tie.Need-has-bit-requires-8
+has-bit-requires-8 c κs = search needs
+
+values-width-requires-2 : tie.Need-values-width-requires-2
+values-width-requires-2 c κs = search needs
+
+add-value-if-2 : tie.Need-add-value-if-2
+add-value-if-2 c =
+    let o = c .before .before .before .before .before .before .before .before .before .before .before .before .before .before .before .before .before .before in
+    omega (arith, ends o, c .values-width2 .ensures .1, room-less o)
+
+value-if-requires-2 : tie.Need-value-if-requires-2
+value-if-requires-2 c κs =
+    let w = c .before .before .before .before .before .before .before .before .before .before .before .before .before .before .before in
+    let o = w .before .before .before in
+    value-fits _ (o .pre) 4 (c .before .has-bit8 .ensures) (w .wide .ensures .0) (c .values-width2 .ensures .0) (h-within _ (ends o .0))
+
+has-bit-requires-9 : tie.Need-has-bit-requires-9
+has-bit-requires-9 c κs = search needs
+
+values-width-requires-3 : tie.Need-values-width-requires-3
+values-width-requires-3 c κs = search needs
+
+add-value-if-3 : tie.Need-add-value-if-3
+add-value-if-3 c =
+    let o = c .before .before .before .before .before .before .before .before .before .before .before .before .before .before .before .before .before .before .before .before .before in
+    omega (arith, ends o, c .values-width3 .ensures .1, room-less o)
+
+value-if-requires-3 : tie.Need-value-if-requires-3
+value-if-requires-3 c κs =
+    let w = c .before .before .before .before .before .before .before .before .before .before .before .before .before .before .before .before .before .before in
+    let o = w .before .before .before in
+    value-fits _ (o .pre) 8 (c .before .has-bit9 .ensures) (w .wide .ensures .0) (c .values-width3 .ensures .0) (r-within _ (ends o .0))
+
+has-bit-requires-10 : tie.Need-has-bit-requires-10
+has-bit-requires-10 c κs = search needs
+
+values-width-requires-4 : tie.Need-values-width-requires-4
+values-width-requires-4 c κs = search needs
+
+add-value-if-4 : tie.Need-add-value-if-4
+add-value-if-4 c =
+    let o = c .before .before .before .before .before .before .before .before .before .before .before .before .before .before .before .before .before .before .before .before .before .before .before .before in
+    omega (arith, ends o, c .values-width4 .ensures .1, room-less o)
+
+value-if-requires-4 : tie.Need-value-if-requires-4
+value-if-requires-4 c κs =
+    let w = c .before .before .before .before .before .before .before .before .before .before .before .before .before .before .before .before .before .before .before .before .before in
+    let o = w .before .before .before in
+    value-fits _ (o .pre) 16 (c .before .has-bit10 .ensures) (w .wide .ensures .0) (c .values-width4 .ensures .0) (rad-within _ (ends o .0))
+
+returns : tie.Need-returns
+unfolding rest
+returns c =
+    let p = c .before .before .before .before .before .before .before .before .before .before .before .before in
+    let f = p .before .before .before .before in
+    let w = f .before .before .before .before .before .before in
+    let o = w .before .before .before in
+    let m = w .wide .ensures .0 in (
+      item-is (payload (o .args .s .now)) (o .pre) _
+          (w .before .byte .ensures)
+          (f .before .before .before .before .before .byte2 .ensures)
+          (f .before .before .before .before .has-bit .ensures)
+          (f .before .before .before .has-bit2 .ensures)
+          (f .before .before .has-bit3 .ensures)
+          (f .before .has-bit4 .ensures)
+          (f .has-bit5 .ensures)
+          refl
+          refl
+          (p .before .before .before .word .ensures)
+          (p .before .before .word2 .ensures)
+          (rw (← p .before .has-bit6 .ensures) (p .spot-if .ensures))
+          (value-is _ (o .pre) 2 (c .before .before .before .before .before .before .before .before .before .before .before .has-bit7 .ensures) m (c .before .before .before .before .before .before .before .before .before .before .values-width .ensures .0) (c .before .before .before .before .before .before .before .before .before .value-if .ensures))
+          (value-is _ (o .pre) 4 (c .before .before .before .before .before .before .before .before .has-bit8 .ensures) m (c .before .before .before .before .before .before .before .values-width2 .ensures .0) (c .before .before .before .before .before .before .value-if2 .ensures))
+          (value-is _ (o .pre) 8 (c .before .before .before .before .before .has-bit9 .ensures) m (c .before .before .before .before .values-width3 .ensures .0) (c .before .before .before .value-if3 .ensures))
+          (value-is _ (o .pre) 16 (c .before .before .has-bit10 .ensures) m (c .before .values-width4 .ensures .0) (c .value-if4 .ensures))
+          refl,
+      (refl, refl, refl, refl),
+    )
+
+pub item-at-spec : {M : Type 1} → statement M
+item-at-spec =
+    tie.close
+    (tie.spec
+    add-byte
+    byte-requires
+    wide-requires
+    add-b
+    add-b-2
+    add-byte-2
+    byte-requires-2
+    has-bit-requires
+    has-bit-requires-2
+    has-bit-requires-3
+    has-bit-requires-4
+    has-bit-requires-5
+    add-t16
+    add-word
+    add-word-2
+    word-requires
+    add-word-3
+    add-word-4
+    word-requires-2
+    has-bit-requires-6
+    spot-if-requires
+    has-bit-requires-7
+    values-width-requires
+    add-value-if
+    value-if-requires
+    has-bit-requires-8
+    values-width-requires-2
+    add-value-if-2
+    value-if-requires-2
+    has-bit-requires-9
+    values-width-requires-3
+    add-value-if-3
+    value-if-requires-3
+    has-bit-requires-10
+    values-width-requires-4
+    add-value-if-4
+    value-if-requires-4
+    returns)

@@ -1,0 +1,42 @@
+-- Names: how long a part of a list is and what it holds, and how two lists are compared one number after another.
+use mathlib.Core.Path.{_≡_, refl}
+use mathlib.Core.Bool.{true, false, and-false}
+use mathlib.Core.List.{List, [], _∷_}
+use Prim.Native.Nat.{ℕ, _+_, _≤_, _<_}
+use native.Mathlib.Numerals.{add-one}
+use native.Mathlib.Omega.{arith}
+use lib.ListN.{length, getD, drop, length-drop, length-take, drop-of-length-le}
+use lib.Seq.{drop-cons, getD-take, getD-drop}
+use borrow.Author.Tests.{eq-eqb, ne-eqb}
+use Rattle.records.specs.Order.{part}
+use Rattle.scene.specs.Labels.{same}
+
+pub part-length : (l : List ℕ) (p n : ℕ) → p + n ≤ length l → length (part l p n) ≡ n
+unfolding part
+part-length l p n h = simp (length-take, length-drop) (omega arith)
+
+pub part-at : (l : List ℕ) (p n i : ℕ) → i < n → getD (part l p n) i 0 ≡ getD l (p + i) 0
+unfolding part
+part-at l p n i h = rw (getD-take, getD-drop)
+
+pub same-lengths : (a b : List ℕ) → (length a ≡ length b → ⊥) → same a b ≡ false
+unfolding same
+same-lengths [] [] h = absurd (h refl)
+same-lengths [] (y ∷ ys) h = refl
+same-lengths (x ∷ xs) [] h = refl
+same-lengths (x ∷ xs) (y ∷ ys) h = rw (same-lengths xs ys (λ e. h (omega arith)), and-false) refl
+
+-- from position i on
+module _ (a b : List ℕ) (i : ℕ) where
+  pub same-ends : length a ≤ i → length b ≤ i → same (drop i a) (drop i b) ≡ true
+  unfolding same
+  same-ends h k = rw (drop-of-length-le a h, drop-of-length-le b k) refl
+
+  module _ (h : i < length a) (k : i < length b) where
+    pub same-step : getD a i 0 ≡ getD b i 0 → same (drop i a) (drop i b) ≡ same (drop (i + 1) a) (drop (i + 1) b)
+    unfolding same
+    same-step e = rw (drop-cons a i 0 h, drop-cons b i 0 k, eq-eqb (getD a i 0) (getD b i 0) e, add-one) refl
+
+    pub same-fails : (getD a i 0 ≡ getD b i 0 → ⊥) → same (drop i a) (drop i b) ≡ false
+    unfolding same
+    same-fails e = rw (drop-cons a i 0 h, drop-cons b i 0 k, ne-eqb (getD a i 0) (getD b i 0) e) refl

@@ -1,0 +1,227 @@
+// The point that a label names, after the source's `reference_point` and `point_of_label`.
+ghost use mathlib.Core.Path.{_≡_};
+ghost use mathlib.Core.Bool.{Bool, true, false};
+ghost use Prim.Native.Nat.{_+_, _*_, _≤_};
+ghost use Rattle.stream.specs.Payload.{payload, room};
+ghost use Rattle.records.specs.Order.{part};
+ghost use Rattle.scene.specs.Scene.{Maybe, some, none, pointsAt};
+ghost use Rattle.scene.specs.Labels.{meanPoint, firstStart, meanOrStart, referencePoint, greater, consider, considerAt, itemKey, bestPlace, bestItem, pointOfLabel};
+ghost use Rattle.scene.specs.Answers.{pointBy, spotBy, keyBy, bestBy, pointsFrom, pathsFrom, placesAt, itemsAt, itemBy};
+use crate::names::is_labelled;
+use crate::names::same_name;
+use crate::numbers::Point;
+use crate::numbers::Spot;
+use crate::numbers::point_at;
+use crate::numbers::spot_if;
+use crate::sections::Item;
+use crate::sections::next_item;
+use crate::sections::next_path;
+use crate::sections::next_place;
+use crate::sections::points_of;
+use records::wide16;
+
+// Where in the source a label is defined. Of equal ones the first stays.
+pub struct Key {
+    pub top: bool,
+    pub line: u32,
+    pub col: u32,
+    pub order: usize,
+}
+
+pub struct Best {
+    pub some: bool,
+    pub key: Key,
+    pub x: f64,
+    pub y: f64,
+}
+
+// The mean of points, each sum from 0 in their order.
+fn mean(s: &[u8], at: usize, count: u16) -> Point
+    requires { ⌜ at + 16 * count ≤ room (now s) ⌝ }
+    ensures { λ r. ⌜ pointBy r ≡ meanPoint (pointsAt (payload (now (s .entry))) at count) ⌝ }
+{
+    let mut x = 0.0f64;
+    let mut y = 0.0f64;
+    for i in 0..wide16(count) {
+        let p = point_at(s, at, i);
+        x = x + p.x;
+        y = y + p.y;
+    }
+    let n = count as f64;
+    Point { x: x / n, y: y / n }
+}
+
+// The start of the first path among what follows an item.
+fn first_start(s: &[u8], p: usize) -> Spot
+    ensures { λ r. ⌜ spotBy r ≡ firstStart (pathsFrom (payload (now (s .entry))) p 0) ⌝ }
+{
+    let c = next_path(s, p, 0);
+    if !c.some {
+        return Spot {
+            some: false,
+            x: 0.0,
+            y: 0.0,
+        };
+    }
+    if !c.curve {
+        if c.count == 0 {
+            return Spot {
+                some: false,
+                x: 0.0,
+                y: 0.0,
+            };
+        }
+    }
+    spot_if(s, true, c.start)
+}
+
+fn mean_or_start(s: &[u8], p: usize) -> Spot
+    ensures { λ r. ⌜ spotBy r ≡ meanOrStart (pointsFrom (payload (now (s .entry))) p 0) (pathsFrom (payload (now (s .entry))) p 0) ⌝ }
+{
+    let ps = points_of(s, p, 0);
+    if !ps.some {
+        return first_start(s, p);
+    }
+    if ps.count == 0 {
+        return first_start(s, p);
+    }
+    let m = mean(s, ps.at, ps.count);
+    Spot {
+        some: true,
+        x: m.x,
+        y: m.y,
+    }
+}
+
+// A point that stands for the item: where it is, else the mean of its points, else the start of its first path.
+pub fn reference_point(s: &[u8], it: Item) -> Spot
+    ensures { λ r. ⌜ spotBy r ≡ referencePoint (itemBy (payload (now (s .entry))) it) ⌝ }
+{
+    let at = it.at;
+    if at.some {
+        return at;
+    }
+    mean_or_start(s, it.next)
+}
+
+// Whether a comes after b.
+fn is_greater(a: Key, b: Key) -> bool
+    ensures { λ r. ⌜ r ≡ greater (keyBy a) (keyBy b) ⌝ }
+{
+    if a.top != b.top {
+        return a.top;
+    }
+    if a.line != b.line {
+        return a.line > b.line;
+    }
+    if a.col != b.col {
+        return a.col > b.col;
+    }
+    a.order > b.order
+}
+
+// Only a strictly greater key replaces.
+fn consider_point(b: Best, key: Key, x: f64, y: f64) -> Best
+    ensures { λ r. ⌜ bestBy r ≡ consider (bestBy b) (keyBy key) (record { x = x; y = y }) ⌝ }
+{
+    let old = b.key;
+    if b.some {
+        if !is_greater(key, old) {
+            return b;
+        }
+    }
+    Best {
+        some: true,
+        key: key,
+        x: x,
+        y: y,
+    }
+}
+
+// The best of the places from p on, the name having n bytes at `at`.
+fn best_place(s: &[u8], p: usize, at: usize, n: usize) -> Best
+    requires { ⌜ at + n ≤ room (now s) ⌝ }
+    ensures { λ r. ⌜ bestBy r ≡ bestPlace (part (payload (now (s .entry))) at n) 0 (placesAt (payload (now (s .entry))) p) none ⌝ }
+{
+    let mut b = Best {
+        some: false,
+        key: Key {
+            top: false,
+            line: 0,
+            col: 0,
+            order: 0,
+        },
+        x: 0.0,
+        y: 0.0,
+    };
+    let mut q = p;
+    let mut i = 0usize;
+    loop {
+        let c = next_place(s, q);
+        if !c.some {
+            return b;
+        }
+        if same_name(s, c.at, c.len, at, n) {
+            let key = Key {
+                top: !c.nested,
+                line: c.line,
+                col: c.col,
+                order: i,
+            };
+            b = consider_point(b, key, c.x, c.y);
+        }
+        q = c.next;
+        i += 1;
+    }
+}
+
+// An item of the label: its reference point, if it has one.
+fn consider_item(s: &[u8], b: Best, it: Item, i: usize) -> Best
+    ensures { λ r. ⌜ bestBy r ≡ considerAt (bestBy b) (itemKey (itemBy (payload (now (s .entry))) it) i) (referencePoint (itemBy (payload (now (s .entry))) it)) ⌝ }
+{
+    let spot = reference_point(s, it);
+    if !spot.some {
+        return b;
+    }
+    let key = Key {
+        top: !it.nested,
+        line: it.line,
+        col: it.col,
+        order: i,
+    };
+    consider_point(b, key, spot.x, spot.y)
+}
+
+// The best of these and of the items from p on.
+fn best_item(s: &[u8], p: usize, at: usize, n: usize, best: Best) -> Best
+    requires { ⌜ at + n ≤ room (now s) ⌝ }
+    ensures { λ r. ⌜ bestBy r ≡ bestItem (part (payload (now (s .entry))) at n) 0 (itemsAt (payload (now (s .entry))) p) (bestBy best) ⌝ }
+{
+    let mut b = best;
+    let mut q = p;
+    let mut i = 0usize;
+    loop {
+        let it = next_item(s, q);
+        if !it.some {
+            return b;
+        }
+        if is_labelled(s, it.label, it.len, at, n) {
+            b = consider_item(s, b, it, i);
+        }
+        q = it.next;
+        i += 1;
+    }
+}
+
+// The point that the label of n bytes at `at` names, among the places and items from p on.
+pub fn point_of_label(s: &[u8], p: usize, at: usize, n: usize) -> Spot
+    requires { ⌜ at + n ≤ room (now s) ⌝ }
+    ensures { λ r. ⌜ spotBy r ≡ pointOfLabel (part (payload (now (s .entry))) at n) (placesAt (payload (now (s .entry))) p) (itemsAt (payload (now (s .entry))) p) ⌝ }
+{
+    let b = best_item(s, p, at, n, best_place(s, p, at, n));
+    Spot {
+        some: b.some,
+        x: b.x,
+        y: b.y,
+    }
+}

@@ -1,0 +1,95 @@
+// Floats and points of the payload, and bits of a byte.
+ghost use mathlib.Core.Path.{_≡_};
+ghost use mathlib.Core.Bool.{Bool, true, false};
+ghost use Prim.Native.Nat.{_+_, _*_, _≤_};
+ghost use Rattle.stream.specs.Payload.{payload, room};
+ghost use Rattle.scene.specs.Scene.{given, bit, numberAt, pointAt};
+ghost use Rattle.scene.specs.Answers.{valueBy, spotBy, pointBy};
+use stream::Float64;
+
+#[repr(C)]
+pub struct Point {
+    pub x: f64,
+    pub y: f64,
+}
+
+// A number, or a point, that may be absent: `some` says whether it is there.
+#[repr(C)]
+pub struct Value {
+    pub some: bool,
+    pub value: f64,
+}
+
+#[repr(C)]
+pub struct Spot {
+    pub some: bool,
+    pub x: f64,
+    pub y: f64,
+}
+
+// The float at p: 0 stands for one that is not finite, which condition 4 refuses.
+pub fn number(s: &[u8], p: usize) -> f64
+    requires { ⌜ p + 8 ≤ room (now s) ⌝ }
+    ensures { λ r. ⌜ r ≡ numberAt (payload (now (s .entry))) p ⌝ }
+{
+    match stream::float(s, 0, p) {
+        Float64::Finite(v) => v,
+        Float64::NotFinite => 0.0,
+    }
+}
+
+// The float at p, or none.
+pub fn value_if(s: &[u8], some: bool, p: usize) -> Value
+    requires { ⌜ (some ≡ true → p + 8 ≤ room (now s)) ⌝ }
+    ensures { λ r. ⌜ valueBy r ≡ given some (numberAt (payload (now (s .entry))) p) ⌝ }
+{
+    if !some {
+        return Value {
+            some: false,
+            value: 0.0,
+        };
+    }
+    Value {
+        some: true,
+        value: number(s, p),
+    }
+}
+
+// The point at p, or none.
+pub fn spot_if(s: &[u8], some: bool, p: usize) -> Spot
+    requires { ⌜ (some ≡ true → p + 16 ≤ room (now s)) ⌝ }
+    ensures { λ r. ⌜ spotBy r ≡ given some (pointAt (payload (now (s .entry))) p) ⌝ }
+{
+    if !some {
+        return Spot {
+            some: false,
+            x: 0.0,
+            y: 0.0,
+        };
+    }
+    Spot {
+        some: true,
+        x: number(s, p),
+        y: number(s, p + 8),
+    }
+}
+
+// The i-th point of those from `at` on.
+pub fn point_at(s: &[u8], at: usize, i: usize) -> Point
+    requires { ⌜ at + 16 * i + 16 ≤ room (now s) ⌝ }
+    ensures { λ r. ⌜ pointBy r ≡ pointAt (payload (now (s .entry))) (at + 16 * i) ⌝ }
+{
+    let p = at + 16 * i;
+    Point {
+        x: number(s, p),
+        y: number(s, p + 8),
+    }
+}
+
+// Whether the bit of weight k is set.
+pub fn has_bit(x: u8, k: u8) -> bool
+    requires { ⌜ 1 ≤ k ⌝ }
+    ensures { λ r. ⌜ r ≡ bit x k ⌝ }
+{
+    x / k % 2 == 1
+}

@@ -1,0 +1,3 @@
+-- The comparison's questions, and refusals computed on whole streams.
+pub mod Guarded
+pub mod Sheets

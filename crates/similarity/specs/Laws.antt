@@ -1,0 +1,4 @@
+-- What callers may know of the projection and of the fit.
+pub mod Project
+pub mod Bearing
+pub mod Fitted

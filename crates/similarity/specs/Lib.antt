@@ -1,0 +1,4 @@
+-- The similarity that places a drawing on the Earth.
+pub mod Projection
+pub mod Fit
+pub mod Laws

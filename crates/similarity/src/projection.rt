@@ -1,0 +1,72 @@
+// Canvas points to the Earth.
+ghost use mathlib.Core.Path.{_≡_};
+ghost use Rattle.similarity.specs.Projection.{projectionOf, projectOf};
+use elementary::cos;
+use elementary::sin;
+use elementary::to_radians;
+use geodesy::LonLat;
+use geodesy::Metres;
+use geodesy::mercator_forward;
+use geodesy::mercator_inverse;
+
+// A canvas point p goes to the anchor's plane: p less the origin, times the scale, turned so that the canvas's y axis points to the bearing.
+#[repr(C)]
+pub struct Registration {
+    // the anchor, in degrees
+    pub lon: f64,
+    pub lat: f64,
+    // the canvas point that sits there
+    pub x: f64,
+    pub y: f64,
+    // metres an inch, and degrees clockwise from north
+    pub scale: f64,
+    pub bearing: f64,
+    // 0 an anchor, 1 two control points, 2 more
+    pub method: u32,
+    pub controls: u32,
+}
+
+// What is the same for every point.
+pub struct Projection {
+    pub x: f64,
+    pub y: f64,
+    pub scale: f64,
+    pub sin: f64,
+    pub cos: f64,
+    // the anchor's position on the plane
+    pub east: f64,
+    pub north: f64,
+}
+
+pub fn projection_of(r: Registration) -> Projection
+    ensures { λ p. ⌜ p ≡ projectionOf r ⌝ }
+{
+    let b = to_radians(r.bearing);
+    let a = mercator_forward(LonLat {
+        lon: r.lon,
+        lat: r.lat,
+    });
+    Projection {
+        x: r.x,
+        y: r.y,
+        scale: r.scale,
+        sin: sin(b),
+        cos: cos(b),
+        east: a.x,
+        north: a.y,
+    }
+}
+
+// The source's `to_lonlat`, for the registration that the projection is of.
+pub fn project(p: Projection, x: f64, y: f64) -> LonLat
+    ensures { λ r. ⌜ r ≡ projectOf p x y ⌝ }
+{
+    let dx = (x - p.x) * p.scale;
+    let dy = (y - p.y) * p.scale;
+    let e = dx * p.cos + dy * p.sin;
+    let n = -dx * p.sin + dy * p.cos;
+    mercator_inverse(Metres {
+        x: p.east + e,
+        y: p.north + n,
+    })
+}
