@@ -1,12 +1,15 @@
 // oracle place [OPTIONS] < stream
 // oracle batch [OPTIONS] < cases
+// oracle project < points
 //
 // `place` answers one stream under the sizes of document 01's program. `batch`
 // answers cases one after another; each is a line
 //     case NAME LIMIT WORK POSITIONS FEATURES WARNINGS ALLOWANCE LENGTH
 // (LIMIT bytes of stream at most, 0 for any; then whole points, positions,
 // feature lines, warnings), followed by LENGTH bytes; each answer stands
-// after a line `> NAME`.
+// after a line `> NAME`. `project` takes eight f64 for each point, little-endian
+// (anchor's longitude and latitude, origin, scale, bearing, the canvas point),
+// and answers two: the longitude and latitude that `to_lonlat` gives.
 //
 // Options: --work N, --positions N, --features N, --warnings N, --allowance N
 // and --limit N set sizes for `place`. --scene prints the parsed scene before
@@ -17,6 +20,7 @@
 
 use geopic_core::front::{self, Answer, Producer, Sizes};
 use geopic_core::stream::{self, Parsed};
+use geopic_core::{Frame, LonLat, Method, Registration};
 use std::collections::BTreeMap;
 use std::fmt::Write as _;
 use std::io::{self, Read, Write as _};
@@ -77,12 +81,13 @@ fn main() {
             print(&out);
         }
         "batch" => batch(&input, &shown),
+        "project" => project(&input),
         _ => usage(),
     }
 }
 
 fn usage() -> ! {
-    eprintln!("oracle place|batch [OPTIONS] < INPUT");
+    eprintln!("oracle place|batch|project [OPTIONS] < INPUT");
     exit(2);
 }
 
@@ -129,6 +134,33 @@ fn batch(mut input: &[u8], shown: &Shown) {
         print(&out);
         input = rest;
     }
+}
+
+fn project(input: &[u8]) {
+    let mut out = Vec::new();
+    for point in input.chunks_exact(64) {
+        let mut numbers = [0.0; 8];
+        for (number, bytes) in numbers.iter_mut().zip(point.chunks_exact(8)) {
+            *number = f64::from_le_bytes(bytes.try_into().expect("eight bytes"));
+        }
+        let [lon, lat, x, y, scale, bearing, px, py] = numbers;
+        let registration = Registration {
+            frame: Frame::Mercator,
+            anchor: LonLat { lon, lat },
+            origin: [x, y],
+            scale_m_per_in: scale,
+            bearing_deg: bearing,
+            method: Method::Anchor,
+            control_points: 0,
+            rms_m: None,
+        };
+        let p = registration.to_lonlat([px, py]);
+        out.extend(p.lon.to_le_bytes());
+        out.extend(p.lat.to_le_bytes());
+    }
+    io::stdout()
+        .write_all(&out)
+        .expect("the answer can be written");
 }
 
 fn answer(bytes: &[u8], limit: usize, sizes: Sizes, shown: &Shown, out: &mut String) {

@@ -6,7 +6,8 @@
 use std::collections::BTreeMap;
 use std::process::exit;
 
-#[path = "host.rs"]
+#[path = "../answers.rs"]
+mod answers;
 mod host;
 
 use host::Stream;
@@ -147,13 +148,9 @@ struct Tally {
 
 impl Tally {
     fn compare(&mut self, name: &str, stream: &[u8], answer: &[&str]) {
-        let theirs: u32 = match answer.last().and_then(|l| l.strip_prefix("E ")) {
-            Some(number) => number.parse().expect("a refusal has a number"),
-            None => 0,
-        };
-        if theirs == 0 && answer.len() == 1 {
+        let Some(theirs) = answers::refusal(answer) else {
             return;
-        }
+        };
         let theirs = if theirs <= 6 { theirs } else { 0 };
         let stream = Stream::new(stream);
         let ours = stream.refusal();
@@ -227,26 +224,9 @@ fn main() {
     };
     let cases = std::fs::read(cases).expect("the cases can be read");
     let answers = std::fs::read_to_string(answers).expect("the answers can be read");
-    let mut lines = answers.lines().peekable();
-    let mut rest = &cases[..];
     let mut tally = Tally::default();
-    while let Some(end) = rest.iter().position(|b| *b == b'\n') {
-        let line = String::from_utf8_lossy(&rest[..end]).into_owned();
-        let name = line.split(' ').nth(1).expect("a case has a name");
-        let length: usize = line
-            .rsplit(' ')
-            .next()
-            .and_then(|n| n.parse().ok())
-            .expect("a case has a length");
-        let (stream, behind) = rest[end + 1..].split_at(length);
-        rest = behind;
-        let head = lines.next().and_then(|l| l.strip_prefix("> "));
-        assert_eq!(head, Some(name), "every case has an answer");
-        let mut answer = Vec::new();
-        while let Some(line) = lines.next_if(|l| !l.starts_with("> ")) {
-            answer.push(line);
-        }
-        tally.compare(name, stream, &answer);
-    }
+    answers::each(&cases, &answers, |name, stream, answer| {
+        tally.compare(name, stream, answer)
+    });
     exit(i32::from(!tally.report()));
 }

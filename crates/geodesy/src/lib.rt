@@ -17,6 +17,7 @@ const FRAC_PI_2: f64 = 1.5707963267948966;
 const FRAC_PI_4: f64 = 0.7853981633974483;
 
 // A WGS84 position, in degrees.
+#[repr(C)]
 pub struct LonLat {
     pub lon: f64,
     pub lat: f64,

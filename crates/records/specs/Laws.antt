@@ -3,3 +3,4 @@ pub mod Tests
 pub mod Records
 pub mod Walk
 pub mod Search
+pub mod Refusals

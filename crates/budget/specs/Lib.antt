@@ -1,0 +1,5 @@
+-- The vertex allowance.
+pub mod Budget
+pub mod Draws
+pub mod Samples
+pub mod Laws

@@ -1,0 +1,195 @@
+-- Every producer's draws, replayed through `take` from the budget that it was handed, give the budget that it hands back.
+use Prim.Native.Nat.{ℕ, zero, suc, _+_, _-_, _≤_}
+use native.Mathlib.Omega.{arith}
+use mathlib.Core.Path.{_≡_, refl, ap, ap₂, subst, _∙_}
+use mathlib.Core.Bool.{Bool, true, false, _||_, or-false, or-assoc}
+use mathlib.Core.List.{List, [], _∷_, _++_, map}
+use lib.Dec.{ltb}
+use lib.Ieee.{Float, binary64, div, le}
+use Rattle.float.specs.Functions.{maxOf, minOf}
+use Rattle.elementary.specs.Constants as K
+use Rattle.budget.specs.declared.Budget.{Budget}
+use Rattle.budget.specs.Budget.{grantOf, takeOf}
+use Rattle.budget.specs.Draws.{Draw, leftAfter, granted, overrun, shortFloors}
+use Rattle.budget.specs.Laws.Draws.{claim}
+use Rattle.scene.specs.Scene.{Point, Cubic, Form, curve, polyline, DrawnPath}
+use Rattle.densify.specs.Densify.{Drawn, Made, plain, drawing, andThen, tiny, Block, flatOf, firstOf, secondOf, leafOf, pickMade, splitOf, flattenCubicOf, cubicsOf}
+use Rattle.densify.specs.Densify.{formPoints, closedIf, pathPointsOf, segmentOf, segmentsOf, densifyPolylineOf, ellipseRingOf, boxRingOf}
+
+abbrev pub drawOf : Drawn → Draw
+drawOf d = record { want = d .want; floor = d .floor }
+
+abbrev pub drawsOf : List Drawn → List Draw
+drawsOf ds = map drawOf ds
+
+-- the budget after one draw: the mark first, then `take`
+abbrev pub drawn : Budget → Drawn → Budget
+drawn b d = takeOf (record { left = b .left; hit = b .hit || d .cut }) (d .want) (d .floor) .budget
+
+unfoldable pub replayed : Budget → List Drawn → Budget
+replayed b [] = b
+replayed b (d ∷ ds) = replayed (drawn b d) ds
+
+-- each draw is granted what `take` grants at its turn
+abbrev pub Granted : Budget → List Drawn → Type 0
+Granted b [] = Unit {0}
+Granted b (d ∷ ds) = (d .granted ≡ grantOf (b .left) (d .want) (d .floor)) × Granted (drawn b d) ds
+
+pub record Replays (b : Budget) (m : Made) : Type 0 where
+  pub after-is : m .after ≡ replayed b (m .draws)
+  pub grants : Granted b (m .draws)
+  pub left-is : m .after .left ≡ leftAfter (b .left) (drawsOf (m .draws))
+
+-- ---- lists of draws
+pub replayed-append : (b : Budget) (ds es : List Drawn) → replayed b (ds ++ es) ≡ replayed (replayed b ds) es
+unfolding replayed
+replayed-append b [] es = refl
+replayed-append b (d ∷ ds) es = replayed-append (drawn b d) ds es
+
+pub leftAfter-append : (left : ℕ) (ds es : List Draw) → leftAfter left (ds ++ es) ≡ leftAfter (leftAfter left ds) es
+unfolding leftAfter
+leftAfter-append left [] es = refl
+leftAfter-append left (d ∷ ds) es = leftAfter-append (left - grantOf left (d .want) (d .floor)) ds es
+
+granted-append : (b : Budget) (ds es : List Drawn) → Granted b ds → Granted (replayed b ds) es → Granted b (ds ++ es)
+unfolding replayed
+granted-append b [] es g h = h
+granted-append b (d ∷ ds) es g h = (g .0, granted-append (drawn b d) ds es (g .1) h)
+
+pub replayed-left : (b : Budget) (ds : List Drawn) → replayed b ds .left ≡ leftAfter (b .left) (drawsOf ds)
+unfolding replayed leftAfter takeOf
+replayed-left b [] = refl
+replayed-left b (d ∷ ds) = replayed-left (drawn b d) ds
+
+-- the grants' sum
+unfoldable pub grantsOf : List Drawn → ℕ
+grantsOf [] = 0
+grantsOf (d ∷ ds) = d .granted + grantsOf ds
+
+pub grantsOf-append : (ds es : List Drawn) → grantsOf (ds ++ es) ≡ grantsOf ds + grantsOf es
+unfolding grantsOf
+grantsOf-append [] es = omega arith
+grantsOf-append (d ∷ ds) es = omega (arith, grantsOf-append ds es)
+
+pub grantsOf-is : (b : Budget) (ds : List Drawn) → Granted b ds → grantsOf ds ≡ granted (b .left) (drawsOf ds)
+unfolding grantsOf granted takeOf
+grantsOf-is b [] g = refl
+grantsOf-is b (d ∷ ds) g = ap₂ _+_ (g .0) (grantsOf-is (drawn b d) ds (g .1))
+
+-- a grant fell short, or a piece was cut
+unfoldable pub fellShort : List Drawn → Bool
+fellShort [] = false
+fellShort (d ∷ ds) = d .cut || ltb (d .granted) (d .want) || fellShort ds
+
+pub replayed-hit : (b : Budget) (ds : List Drawn) → Granted b ds → replayed b ds .hit ≡ b .hit || fellShort ds
+unfolding replayed fellShort takeOf
+replayed-hit b [] g = rw or-false
+replayed-hit b (d ∷ ds) g = replayed-hit (drawn b d) ds (g .1) ∙ simp (g .0, or-assoc)
+
+-- ---- what a producer is made of
+replays : (b : Budget) (m : Made) → m .after ≡ replayed b (m .draws) → Granted b (m .draws) → Replays b m
+replays b m e g = record { after-is = e; grants = g; left-is = ap (λ r. r .left) e ∙ replayed-left b (m .draws) }
+
+pub hit-is : {b : Budget} {m : Made} → Replays b m → m .after .hit ≡ b .hit || fellShort (m .draws)
+hit-is {b} {m} r = ap (λ x. x .hit) (r .after-is) ∙ replayed-hit b (m .draws) (r .grants)
+
+-- the budget's claim, of what a producer was granted
+module _ {b : Budget} {m : Made} (r : Replays b m) where
+  pub replays-exact : grantsOf (m .draws) + m .after .left ≡ b .left + overrun (b .left) (drawsOf (m .draws))
+  replays-exact = rw (grantsOf-is b (m .draws) (r .grants), r .left-is) (claim (b .left) (drawsOf (m .draws)) .exact)
+
+  pub replays-bounded : grantsOf (m .draws) ≤ b .left + shortFloors (b .left) (drawsOf (m .draws))
+  replays-bounded = rw (grantsOf-is b (m .draws) (r .grants)) (claim (b .left) (drawsOf (m .draws)) .bounded)
+
+pub plain-replays : (ps : List Point) (b : Budget) → Replays b (plain ps b)
+unfolding replayed
+plain-replays ps b = replays b (plain ps b) refl tt
+
+-- whatever the points are
+one-replays : (b : Budget) (want floor : ℕ) (ps : List Point) → Replays b (drawing b want floor (λ n. ps))
+unfolding replayed takeOf
+one-replays b want floor ps = replays b (drawing b want floor (λ n. ps)) (rw or-false) (refl, tt)
+
+pub drawing-replays : (b : Budget) (want floor : ℕ) (f : ℕ → List Point) → Replays b (drawing b want floor f)
+drawing-replays b want floor f = one-replays b want floor _
+
+pub leaf-replays : (flat : Bool) (p : Point) (b : Budget) → Replays b (leafOf flat p b)
+unfolding leafOf replayed takeOf
+leaf-replays flat p b = replays b (leafOf flat p b) refl (refl, tt)
+
+pub then-replays : (b : Budget) (a : Made) (f : Budget → Made) → Replays b a → Replays (a .after) (f (a .after)) → Replays b (andThen a f)
+then-replays b a f h k =
+    let n = f (a .after) in
+    replays b (andThen a f) (k .after-is ∙ ap (λ x. replayed x (n .draws)) (h .after-is) ∙ rw replayed-append)
+    (granted-append b (a .draws) (n .draws) (h .grants) (subst (λ x. Granted x (n .draws)) (h .after-is) (k .grants)))
+
+pick-replays : {b : Budget} {x y : Made} (t : Bool) → Replays b x → Replays b y → Replays b (pickMade t x y)
+pick-replays true h k = h
+pick-replays false h k = k
+
+closed-replays : {b : Budget} {m : Made} (t : Bool) → Replays b m → Replays b (closedIf t m)
+closed-replays true h = record { after-is = h .after-is; grants = h .grants; left-is = h .left-is }
+closed-replays false h = h
+
+-- ---- the producers
+pub split-replays : (fuel : ℕ) (tol : Float) (c : Block) (b : Budget) → Replays b (splitOf fuel tol c b)
+unfolding splitOf
+split-replays zero tol c b = leaf-replays (flatOf tol c) (c .p3) b
+split-replays (suc k) tol c b =
+    let one = splitOf k tol (firstOf c) b in
+    pick-replays (flatOf tol c || ltb (b .left) 2) (leaf-replays (flatOf tol c) (c .p3) b)
+    (then-replays b one (λ r. splitOf k tol (secondOf c) r) (split-replays k tol (firstOf c) b) (split-replays k tol (secondOf c) (one .after)))
+
+-- a path's cubic with its start
+abbrev pub blockOf : Point → Cubic → Block
+blockOf p c = record { p0 = p; c1 = c .c1; c2 = c .c2; p3 = c .end }
+
+module _ (tol : Float) where
+  pub flatten-replays : (c : Block) (b : Budget) → Replays b (flattenCubicOf tol c b)
+  unfolding flattenCubicOf
+  flatten-replays c b = split-replays 16 (maxOf tol tiny) c b
+
+  pub cubics-replays : (p : Point) (cs : List Cubic) (b : Budget) → Replays b (cubicsOf tol p cs b)
+  unfolding cubicsOf
+  cubics-replays p [] b = plain-replays [] b
+  cubics-replays p (c ∷ cs) b =
+      let one = flattenCubicOf tol (blockOf p c) b in
+      then-replays b one (λ r. cubicsOf tol (c .end) cs r) (flatten-replays (blockOf p c) b) (cubics-replays (c .end) cs (one .after))
+
+  pub form-replays : (f : Form) (b : Budget) → Replays b (formPoints tol f b)
+  unfolding formPoints
+  form-replays (curve start cs) b = then-replays b (plain (start ∷ []) b) (λ r. cubicsOf tol start cs r) (plain-replays (start ∷ []) b) (cubics-replays start cs b)
+  form-replays (polyline ps) b = plain-replays ps b
+
+  pub path-replays : (p : DrawnPath) (b : Budget) → Replays b (pathPointsOf tol p b)
+  unfolding pathPointsOf
+  path-replays p b = closed-replays (p .closed) (form-replays (p .form) b)
+
+-- the radius of a box's corners
+abbrev pub radiusOf : Float → Float → Float → Float
+radiusOf w h rad = minOf (minOf (maxOf rad K.zero) (div binary64 w K.two)) (div binary64 h K.two)
+
+module _ (step scale : Float) where
+  pub segment-replays : (p q : Point) (b : Budget) → Replays b (segmentOf step scale p q b)
+  unfolding segmentOf
+  segment-replays p q b = one-replays b _ 1 _
+
+  pub segments-replays : (p : Point) (ps : List Point) (b : Budget) → Replays b (segmentsOf step scale p ps b)
+  unfolding segmentsOf
+  segments-replays p [] b = plain-replays [] b
+  segments-replays p (q ∷ qs) b =
+      let one = segmentOf step scale p q b in
+      then-replays b one (λ r. segmentsOf step scale q qs r) (segment-replays p q b) (segments-replays q qs (one .after))
+
+  pub densify-replays : (ps : List Point) (b : Budget) → Replays b (densifyPolylineOf step scale ps b)
+  unfolding densifyPolylineOf
+  densify-replays [] b = plain-replays [] b
+  densify-replays (p ∷ ps) b = then-replays b (plain (p ∷ []) b) (λ r. segmentsOf step scale p ps r) (plain-replays (p ∷ []) b) (segments-replays p ps b)
+
+  pub ellipse-replays : (tol : Float) (c : Point) (rx ry : Float) (b : Budget) → Replays b (ellipseRingOf step scale tol c rx ry b)
+  unfolding ellipseRingOf
+  ellipse-replays tol c rx ry b = one-replays b _ 8 _
+
+  pub box-replays : (tol : Float) (c : Point) (w h rad : Float) (b : Budget) → Replays b (boxRingOf step scale tol c w h rad b)
+  unfolding boxRingOf
+  box-replays tol c w h rad b = pick-replays (le (radiusOf w h rad) K.zero) (one-replays b 4 4 _) (one-replays b _ 8 _)

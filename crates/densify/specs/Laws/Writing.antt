@@ -1,0 +1,144 @@
+-- Laws of points written into a lent slice. Assumes nothing.
+use Prim.Native.Nat.{ℕ, _+_, _*_, _≤_, _<_}
+use mathlib.Core.Path.{_≡_, refl, sym, ap, subst, _∙_}
+use mathlib.Core.Bool.{true, false, false≢true}
+use mathlib.Core.List.{List, [], _∷_, _++_, append-assoc, append-nil}
+use native.Mathlib.Omega.{arith}
+use native.Mathlib.Numerals.{add-one}
+use native.Mathlib.Nat.{add-assoc, add-zero}
+use lib.ListN.{length, take, drop, set, length-append, length-drop, take-append-drop}
+use lib.Seq.{length-take-le, take-at, drop-append-add, drop-drop, take-take, sets-eq}
+use lib.Ieee.{Float}
+use borrow.Author.Tests.{le-leb, lt-leb, leb-true, leb-false}
+use Rattle.budget.specs.declared.Budget.{Budget}
+use Rattle.scene.specs.Scene.{Point}
+use Rattle.densify.specs.declared.writing.Done.{Done}
+use Rattle.densify.specs.Densify.{Made, plain, andThen}
+use Rattle.densify.specs.Written.{flats, put, Written}
+
+-- ---- flats
+pub flats-append : (a b : List Point) → flats (a ++ b) ≡ flats a ++ flats b
+unfolding flats
+flats-append [] b = refl
+flats-append (p ∷ a) b = ap (λ (l : List Float). p .x ∷ p .y ∷ l) (flats-append a b)
+
+pub flats-length : (ps : List Point) → length (flats ps) ≡ 2 * length ps
+unfolding flats
+flats-length [] = refl
+flats-length (p ∷ ps) = omega (arith, flats-length ps)
+
+-- ---- put
+module _ (w : List Float) (at : ℕ) where
+  -- what stands before `at` is as it was
+  pub put-before : (vs : List Float) → at ≤ length w → take at (put w at vs) ≡ take at w
+  unfolding put
+  put-before vs h = take-at (take at w) (vs ++ drop (at + length vs) w) at (length-take-le at w h)
+
+  pub put-none : put w at [] ≡ w
+  unfolding put
+  put-none = simp (add-zero, take-append-drop)
+
+  pub put-length : (vs : List Float) → at + length vs ≤ length w → length (put w at vs) ≡ length w
+  unfolding put
+  put-length vs h = simp (length-append, length-drop) (omega (arith, length-take-le at w (omega arith)))
+
+  -- the two stores of a point
+  pub put-point : (p : Point) → at + 2 ≤ length w → set (set w at (p .x)) (at + 1) (p .y) ≡ put w at (flats (p ∷ []))
+  unfolding put flats
+  put-point p h = rw add-one (sets-eq (p .x ∷ p .y ∷ []) w at h ∙ append-assoc (take at w) (p .x ∷ p .y ∷ []) (drop (at + 2) w))
+
+  -- one run after another is one run
+  pub put-more : (a b : List Float) → at + length a ≤ length w → put (put w at a) (at + length a) b ≡ put w at (a ++ b)
+  unfolding put
+  put-more a b h =
+      let t = take at w ++ a in
+      let rest = drop (at + length a) w in
+      let n : length t ≡ at + length a =
+      length-append (take at w) a ∙ ap (λ (k : ℕ). k + length a) (length-take-le at w (omega arith)) in
+      let d : drop (at + length a + length b) (t ++ rest) ≡ drop (at + length a + length b) w =
+      subst (λ (k : ℕ). drop (k + length b) (t ++ rest) ≡ drop (length b) rest) n (drop-append-add t rest (length b))
+      ∙ drop-drop (length b) (at + length a) w in
+      rw (← append-assoc (take at w) a rest, take-at t rest (at + length a) n, d, length-append, ← add-assoc) (simp append-assoc)
+
+-- a run and the two stores of one point more
+pub put-next : (w : List Float) (at : ℕ) (ps : List Point) (p : Point) → at + length (flats ps) + 2 ≤ length w
+    → set (set (put w at (flats ps)) (at + length (flats ps)) (p .x)) (at + length (flats ps) + 1) (p .y) ≡ put w at (flats (ps ++ (p ∷ [])))
+put-next w at ps p h =
+    put-point (put w at (flats ps)) (at + length (flats ps)) p (rw (put-length w at (flats ps) (omega arith)) h)
+    ∙ rw flats-append (put-more w at (flats ps) (flats (p ∷ [])) (omega arith))
+
+-- ---- Written
+module _ (w : List Float) (at : ℕ) (m : Made) where
+  -- no room
+  pub written-short : (w′ : List Float) (r : Done) → length w < at + length (flats (m .points)) → r .ok ≡ false
+      → take at w′ ≡ take at w → length w′ ≡ length w → Written w w′ at m r
+  written-short w′ r h short same whole =
+      record {
+        asked = short ∙ sym (lt-leb _ _ h);
+        next = λ e. absurd (false≢true (sym short ∙ e));
+        left = λ e. absurd (false≢true (sym short ∙ e));
+        holds = λ e. absurd (false≢true (sym short ∙ e));
+        before = same;
+        kept = whole;
+      }
+
+  -- all points stand there
+  pub written-all : (w′ : List Float) (r : Done) → at + length (flats (m .points)) ≤ length w → r .ok ≡ true
+      → r .at ≡ at + length (flats (m .points)) → r .budget ≡ m .after → w′ ≡ put w at (flats (m .points)) → Written w w′ at m r
+  written-all w′ r h fits n b there =
+      record {
+        asked = fits ∙ sym (le-leb _ _ h);
+        next = λ e. n;
+        left = λ e. b;
+        holds = λ e. there;
+        before = rw there (put-before w at (flats (m .points)) (omega arith));
+        kept = rw there (put-length w at (flats (m .points)) h);
+      }
+
+-- no points
+pub written-none : (w : List Float) (at : ℕ) (b : Budget) → at ≤ length w → Written w w at (plain [] b) (record { ok = true; at = at; budget = b })
+unfolding flats
+written-none w at b h = written-all w at (plain [] b) w _ (omega arith) refl (omega arith) refl (sym (put-none w at))
+
+module _ {w w₁ : List Float} {at : ℕ} {a : Made} {r : Done} (one : Written w w₁ at a r) where
+  pub written-room : r .ok ≡ true → at + length (flats (a .points)) ≤ length w
+  written-room fits = leb-true _ _ (sym (one .asked) ∙ fits)
+
+  -- where the points had room, the next place is within the slice
+  pub next-in : r .ok ≡ true → r .at ≤ length w₁
+  next-in fits = omega (arith, one .next fits, written-room fits, one .kept)
+
+  -- a first that had no room: the whole has none
+  pub join-short : (f : Budget → Made) → r .ok ≡ false → Written w w₁ at (andThen a f) r
+  join-short f short =
+      let h : length w < at + length (flats (a .points)) = leb-false _ _ (sym (one .asked) ∙ short) in
+      written-short w at (andThen a f) w₁ r (rw (flats-append, length-append) (omega arith)) short (one .before) (one .kept)
+
+  -- a second from where the first ended
+  pub join-done : (f : Budget → Made) {w₂ : List Float} {s : Done} → r .ok ≡ true → Written w₁ w₂ (r .at) (f (r .budget)) s
+      → Written w w₂ at (andThen a f) s
+  join-done f {w₂} {s} fits two′ =
+      let two : Written w₁ w₂ (r .at) (f (a .after)) s = rw (one .left fits) at two′ in
+      let n : r .at ≡ at + length (flats (a .points)) = one .next fits in
+      let room = written-room fits in
+      let there : put w₁ (r .at) (flats (f (a .after) .points)) ≡ put w at (flats (a .points) ++ flats (f (a .after) .points)) =
+      rw (n, one .holds fits) (put-more w at (flats (a .points)) (flats (f (a .after) .points)) room) in
+      record {
+        asked = rw (flats-append, length-append, ← add-assoc) (rw (n, one .kept) at (two .asked));
+        next = λ e. rw (flats-append, length-append, ← add-assoc, ← n) (two .next e);
+        left = two .left;
+        holds = λ e. rw flats-append (two .holds e ∙ there);
+        before =
+            sym (take-take at (r .at) w₂ (omega arith))
+            ∙ ap (take at) (two .before)
+            ∙ take-take at (r .at) w₁ (omega arith)
+            ∙ one .before;
+        kept = two .kept ∙ one .kept;
+      }
+
+-- ---- andThen
+pub andThen-none : (a : Made) → andThen a (plain []) ≡ a
+andThen-none a = simp append-nil
+
+pub andThen-assoc : (a : Made) (f g : Budget → Made) → andThen (andThen a f) g ≡ andThen a (λ r. andThen (f r) g)
+andThen-assoc a f g = simp append-assoc

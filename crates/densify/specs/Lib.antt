@@ -1,0 +1,5 @@
+-- Points on the canvas.
+pub mod Densify
+pub mod Samples
+pub mod Written
+pub mod Laws

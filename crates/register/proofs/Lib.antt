@@ -1,0 +1,10 @@
+pub mod Gathering
+pub mod Lons
+pub mod Lookup
+pub mod Options
+pub mod Pairs
+pub mod Pushing
+pub mod RunsBytes
+pub mod RunsNames
+pub mod Telling
+pub mod Turning

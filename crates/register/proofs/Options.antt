@@ -1,0 +1,53 @@
+-- What options and variables come to, by the answers to questions of them.
+use mathlib.Core.Path.{_≡_, refl}
+use mathlib.Core.Logic.{_⊎_, inl, inr}
+use mathlib.Core.Bool.{Bool, true, false, not, _&&_}
+use mathlib.Core.List.{List}
+use Prim.Native.Nat.{ℕ}
+use native.Mathlib.Omega.{arith}
+use lib.Ieee.{Float, binary64, mul, div, lt}
+use Rattle.scene.specs.Scene.{Maybe, some, given, Point, Scene, sceneOf}
+use Rattle.scene.specs.Labels.{variableOf}
+use Rattle.scene.specs.declared.numbers.Value.{Value}
+use Rattle.scene.specs.Answers.{valueBy, variablesAt}
+use Rattle.register.specs.Register.{f0, var, orValue, bothOf, pxMode, declaredBearing, scaleValue, above0, effectiveScale}
+use Rattle.register.specs.Outcome.{checkedOf, declaredOutcome}
+
+-- a variable of the scene
+pub var-by : (l name : List ℕ) (r : Value) → valueBy r ≡ variableOf name (variablesAt l 0) → valueBy r ≡ var (sceneOf l) name
+unfolding sceneOf
+var-by l name r e = e
+
+-- longitude and latitude, the first of them set
+pub both : (b : Bool) (x y : Float) → given b (record { x = x; y = y }) ≡ bothOf (some x) (given b y)
+unfolding bothOf
+both true x y = refl
+both false x y = refl
+
+-- a value or its default
+pub or-given : (r : Value) (m : Maybe Float) (d v : Float) → valueBy r ≡ m → ((r .some ≡ true) × (v ≡ r .value)) ⊎ ((r .some ≡ false) × (v ≡ d)) → v ≡ orValue m d
+or-given r m d v e (inl w) = rw (← e, w .0, w .1)
+or-given r m d v e (inr w) = rw (← e, w .0, w .1)
+
+-- 13 does not hold: px is the mode of pixels, r the view's scale
+abbrev pub Seen : Value → Bool → Type 0
+Seen r px = ((px ≡ true) × (r .some ≡ true) × (lt f0 (r .value) ≡ true)) ⊎ (px ≡ false)
+
+module _ (sc : Scene) (r : Value) (px : Bool) (ex : px ≡ pxMode sc) (ev : valueBy r ≡ sc .viewScale) where
+  pub seen : Seen r px → pxMode sc && not (above0 (sc .viewScale)) ≡ false
+  unfolding above0
+  seen (inl w) = rw (← ex, ← ev, w .0, w .1, w .2)
+  seen (inr w) = rw (← ex, w)
+
+  -- p is the scale before the rescaling, v the declared one
+  pub scaled : Seen r px → (v p : Float) → v ≡ scaleValue sc → ((px ≡ true) × (p ≡ mul binary64 v (r .value))) ⊎ ((px ≡ false) × (p ≡ v)) → div binary64 p (sc .rescale) ≡ effectiveScale sc
+  unfolding effectiveScale
+  scaled (inl s) v p e (inl w) = rw (← ex, ← e, ← ev, w .0, w .1, s .1)
+  scaled (inr s) v p e (inl w) = let z : _≡_ {A = ℕ} 0 1 = cc in absurd (omega arith)
+  scaled s v p e (inr w) = rw (← ex, ← e, w .0, w .1)
+
+-- neither 12 nor 13 holds
+pub by-scale : (sc : Scene) (a o : Point) (n : ℕ) (v s t : Float) → v ≡ scaleValue sc → lt f0 v ≡ true → pxMode sc && not (above0 (sc .viewScale)) ≡ false → s ≡ effectiveScale sc → t ≡ orValue (declaredBearing sc) f0 →
+    checkedOf (record { lon = a .x; lat = a .y; x = o .x; y = o .y; scale = s; bearing = t; method = 0; controls = n }) ≡ declaredOutcome sc a o n
+unfolding declaredOutcome
+by-scale sc a o n v s t e h k es et = rw (← e, h, k, es, et)

@@ -1,0 +1,33 @@
+use borrow.Author.Needs.{needs}
+use Rattle.register.proofs.Gathering.{unresolved, again, once}
+use Rattle.register.proofs.controls.add_named.Statement.{statement}
+use Rattle.register.proofs.controls.add_named.Tie as tie
+
+point-of-label-requires : tie.Need-point-of-label-requires
+point-of-label-requires c κs = search needs
+
+returns : tie.Need-returns
+returns c = unresolved _ _ _ _ _ _ (c .before .before .point-of-label .result) (c .before .before .point-of-label .ensures) (c .if1 .taken)
+
+is-mentioned-requires : tie.Need-is-mentioned-requires
+is-mentioned-requires c κs = search needs
+
+returns-2 : tie.Need-returns-2
+returns-2 c = again _ _ _ _ _ _ (c .before .before .before .before .point-of-label .result) (c .before .before .before .before .point-of-label .ensures) (c .before .before .if1 .left) (c .before .is-mentioned .ensures) (c .if2 .taken)
+
+put-requires : tie.Need-put-requires
+put-requires c κs = search needs
+
+returns-3 : tie.Need-returns-3
+returns-3 c = once _ _ _ _ _ _ (c .before .before .before .before .before .point-of-label .result) (c .before .before .before .before .before .point-of-label .ensures) (c .before .before .before .if1 .left) (c .before .before .is-mentioned .ensures) (c .before .if2 .left) (c .put .ensures)
+
+pub add-named-spec : {M : Type 1} → statement M
+add-named-spec =
+    tie.close
+    (tie.spec
+    point-of-label-requires
+    returns
+    is-mentioned-requires
+    returns-2
+    put-requires
+    returns-3)

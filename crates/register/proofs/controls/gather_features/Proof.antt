@@ -1,0 +1,55 @@
+use borrow.Author.Needs.{needs}
+use borrow.Author.Tests.{not-false}
+use Prim.Native.Nat.{_-_}
+use native.Mathlib.Omega.{arith}
+use Rattle.stream.specs.Payload.{payload, room}
+use Rattle.register.proofs.Gathering.{Done, none-done, all-done, one-done}
+use Rattle.register.proofs.controls.gather_features.Statement.{statement}
+use Rattle.register.proofs.controls.gather_features.Tie as tie
+
+abbrev Inv-loop : tie.InvT-loop
+Inv-loop s g₀ q₀ i₀ g q i = Done (payload s) g q i
+
+abbrev μ-loop : tie.MeasureT-loop
+μ-loop s g₀ q₀ i₀ g q i = room s - q
+
+no-controls-requires : tie.Need-no-controls-requires Inv-loop μ-loop
+no-controls-requires c κs = search needs
+
+loop-holds : tie.Need-loop-holds Inv-loop μ-loop
+loop-holds c = none-done _ (c .no-controls .ensures)
+
+next-feature-requires : tie.Need-next-feature-requires Inv-loop μ-loop
+next-feature-requires c κs = search needs
+
+returns : tie.Need-returns Inv-loop μ-loop
+returns c = all-done (c .before .before .before .loop .inv) (c .before .before .next-feature .result) (c .before .before .next-feature .ensures .0) (c .if1 .taken)
+
+add-named-requires : tie.Need-add-named-requires Inv-loop μ-loop
+add-named-requires c κs = (c .before .before .before .loop .inv .sized, c .before .before .next-feature .ensures .1 (not-false _ (c .if1 .left)) .name)
+
+add-i : tie.Need-add-i Inv-loop μ-loop
+add-i c = omega (arith, c .before .before .before .next-feature .ensures .1 (not-false _ (c .before .if1 .left)), c .before .before .before .before .loop .inv .short)
+
+loop-less : tie.Need-loop-less Inv-loop μ-loop
+loop-less c = omega (arith, c .before .before .before .next-feature .ensures .1 (not-false _ (c .before .if1 .left)))
+
+loop-again : tie.Need-loop-again Inv-loop μ-loop
+loop-again c =
+    let v = c .before .before .before in
+    one-done (c .before .before .before .before .loop .inv) (v .next-feature .result) (v .next-feature .ensures .0) (c .before .if1 .left) (v .next-feature .ensures .1 (not-false _ (c .before .if1 .left)) .more) (c .add-named .ensures)
+
+pub gather-features-spec : {M : Type 1} → statement M
+gather-features-spec =
+    tie.close
+    (tie.spec
+    Inv-loop
+    μ-loop
+    no-controls-requires
+    loop-holds
+    next-feature-requires
+    returns
+    add-named-requires
+    add-i
+    loop-less
+    loop-again)

@@ -1,0 +1,121 @@
+use borrow.Author.Needs.{needs}
+use borrow.Author.Tests.{not-false}
+use mathlib.Core.Path.{_≡_, _∙_}
+use mathlib.Core.Logic.{⊎-elim, inl, inr}
+use mathlib.Core.Bool.{false, not}
+use Prim.Native.Nat.{_-_}
+use native.Mathlib.Omega.{arith}
+use Rattle.stream.specs.Payload.{room}
+use Rattle.scene.specs.Answers.{Within}
+use Rattle.register.proofs.Turning.{Turn, long, suffix, run}
+use Rattle.register.proofs.Pushing.{sheet, sheets}
+use Rattle.register.proofs.Telling.{Telling, telling, all-variables, one-variable}
+use Rattle.register.proofs.warnings.warn_variables.Statement.{statement}
+use Rattle.register.proofs.warnings.warn_variables.Tie as tie
+
+abbrev Inv-loop : tie.InvT-loop
+Inv-loop s out₀ features warned₀ runs₀ at₀ len₀ q₀ i₀ out warned runs at len q i = Telling s (sheet out₀ warned₀) (sheet out warned) runs at len q i
+
+abbrev μ-loop : tie.MeasureT-loop
+μ-loop s out₀ features warned₀ runs₀ at₀ len₀ q₀ i₀ out warned runs at len q i = room s - q
+
+within : (v : tie.After-next-variable Inv-loop μ-loop) → not (v .next-variable .result .some) ≡ false → Within (room (v .before .before .before .before .args .s .now)) (v .before .loop .q) (v .next-variable .result .at) (v .next-variable .result .len) (v .next-variable .result .next)
+within v h = v .next-variable .ensures .1 .0 (not-false _ h)
+
+-- a turn, up to whether the variable is `<L>_lon`
+turn : (a : tie.After-is-lon Inv-loop μ-loop)
+    → let v = a .before .before .before .before .before in
+    let at = v .before .loop in
+    Turn (v .before .before .before .before .args .s .now) (at .runs) (at .at) (at .len) (at .q) (v .next-variable .result) (a .before .next-runs .result) (a .is-lon .result)
+turn a =
+    let v = a .before .before .before .before .before in
+    let h = a .before .before .before .if1 .left in
+    record {
+      before = v .before .loop .inv .along;
+      lists = v .next-variable .ensures .0;
+      found = h;
+      within = within v h;
+      short = v .next-variable .ensures .1 .1 (not-false _ h);
+      common = a .before .before .common .result;
+      alike = a .before .before .common .ensures .0;
+      low = a .before .before .common .ensures .1;
+      next = a .before .next-runs .ensures;
+      lon = a .is-lon .ensures;
+    }
+
+loop-holds : tie.Need-loop-holds Inv-loop μ-loop
+loop-holds c = telling _ _ (c .before .before .pre .1) (c .before .before .pre .3)
+
+next-variable-requires : tie.Need-next-variable-requires Inv-loop μ-loop
+next-variable-requires c κs = search needs
+
+same-length : tie.Need-same-length Inv-loop μ-loop
+same-length c = c .before .before .before .loop .inv .kept
+
+returns : tie.Need-returns Inv-loop μ-loop
+returns c = all-variables (c .before .before .before .loop .inv) (c .before .before .next-variable .result) (c .before .before .next-variable .ensures .0) (c .if1 .taken)
+
+common-requires : tie.Need-common-requires Inv-loop μ-loop
+common-requires c κs = (c .before .before .before .loop .inv .along .within, within (c .before .before) (c .if1 .left) .name)
+
+next-runs-requires : tie.Need-next-runs-requires Inv-loop μ-loop
+next-runs-requires c κs = omega (arith, c .common .ensures .1, c .before .before .before .before .loop .inv .along .short)
+
+is-lon-requires : tie.Need-is-lon-requires Inv-loop μ-loop
+is-lon-requires c κs = within (c .before .before .before .before) (c .before .before .if1 .left) .name
+
+sub-from : tie.Need-sub-from Inv-loop μ-loop
+sub-from c = omega (arith, long (turn (c .before)) (c .if2 .taken))
+
+mul-from : tie.Need-mul-from Inv-loop μ-loop
+mul-from c = omega (arith, turn (c .before) .short)
+
+array-read-from : tie.Need-array-read-from Inv-loop μ-loop
+array-read-from c = omega (arith, turn (c .before) .short)
+
+sub-warn-lon : tie.Need-sub-warn-lon Inv-loop μ-loop
+sub-warn-lon c = long (turn (c .before .before)) (c .before .if2 .taken)
+
+cast-warn-lon : tie.Need-cast-warn-lon Inv-loop μ-loop
+cast-warn-lon c = let l = c .before .before .before .before .before .before .before .before in omega (arith, turn (c .before .before) .within, l .loop .inv .short, l .before .before .before .pre .0)
+
+warn-lon-requires : tie.Need-warn-lon-requires Inv-loop μ-loop
+warn-lon-requires c κs =
+    let t = turn (c .before .before) in
+    let h = c .before .if2 .taken in
+    let l = c .before .before .before .before .before .before .before .before in
+    (l .loop .inv .fits, omega (arith, long t h, t .within .name), suffix t h, run t h, l .before .before .before .pre .2)
+
+add-i : tie.Need-add-i Inv-loop μ-loop
+add-i c = omega (arith, turn (c .before) .within, c .before .before .before .before .before .before .before .loop .inv .short)
+
+loop-less : tie.Need-loop-less Inv-loop μ-loop
+loop-less c = omega (arith, turn (c .before) .within)
+
+loop-again : tie.Need-loop-again Inv-loop μ-loop
+loop-again c =
+    one-variable (c .before .before .before .before .before .before .before .loop .inv) (turn (c .before))
+    (⊎-elim (λ w. inl (w .0 .taken, sheets (w .5) (w .6) ∙ w .2 .ensures .0 _)) (λ w. inr (w .0 .left, sheets (w .1) (w .2))) (c .if2 .came))
+
+pub warn-variables-spec : {M : Type 1} → statement M
+warn-variables-spec =
+    tie.close
+    (tie.spec
+    Inv-loop
+    μ-loop
+    loop-holds
+    next-variable-requires
+    same-length
+    returns
+    common-requires
+    next-runs-requires
+    is-lon-requires
+    sub-from
+    mul-from
+    array-read-from
+    sub-warn-lon
+    cast-warn-lon
+    warn-lon-requires
+    add-i
+    loop-less
+    loop-again)

@@ -1,0 +1,8 @@
+-- Registration.
+pub mod Register
+pub mod Runs
+pub mod Gathered
+pub mod Outcome
+pub mod Warned
+pub mod Samples
+pub mod Laws

@@ -1,0 +1,12 @@
+// Registration, after the source's register.rs: control points and anchor, refusals 7 to 14, warnings 1 to 4.
+mod controls;
+mod declared;
+mod outcome;
+mod runs;
+mod warnings;
+
+pub use outcome::Outcome;
+pub use outcome::refuse;
+pub use outcome::register;
+pub use warnings::Warned;
+pub use warnings::write_warnings;

@@ -1,0 +1,100 @@
+// The `_lat` variable of a `_lon` variable, without a search of all of them for each.
+//
+// Names rise, and `<L>_lat` stands before `<L>_lon` with only names between them that begin with `<L>_l`. So it is looked for from the first variable that shares these bytes with the current one, up to that.
+ghost use mathlib.Core.Path.{_≡_};
+ghost use mathlib.Core.List.{[], _++_};
+ghost use Prim.Native.Nat.{_+_, _≤_, _<_};
+ghost use Rattle.stream.specs.Payload.{payload, room};
+ghost use Rattle.records.specs.Order.{part};
+ghost use Rattle.scene.specs.Scene.{Maybe};
+ghost use Rattle.scene.specs.Labels.{same, variableOf};
+ghost use Rattle.scene.specs.Answers.{valueBy, variablesAt};
+ghost use Rattle.scene.specs.Laws.Rising.{Rising};
+ghost use Rattle.register.specs.Register.{suffixLon, suffixLat};
+ghost use Rattle.register.specs.Runs.{commonOf, runsOf};
+use scene::Value;
+use scene::is_named;
+use scene::next_variable;
+use scene::same_name;
+use stream::byte;
+
+// How many bytes two names begin with alike.
+pub fn common(s: &[u8], p: usize, n: usize, q: usize, m: usize) -> usize
+    requires { ⌜ (p + n ≤ room (now s)) × (q + m ≤ room (now s)) ⌝ }
+    ensures { λ r. ⌜ (r ≡ commonOf (part (payload (now (s .entry))) p n) (part (payload (now (s .entry))) q m)) × (r ≤ n) ⌝ }
+{
+    let mut i = 0usize;
+    while i < n {
+        if i >= m {
+            return i;
+        }
+        if byte(s, 0, p + i) != byte(s, 0, q + i) {
+            return i;
+        }
+        i += 1;
+    }
+    i
+}
+
+// The runs at a variable that is found from q on and shares c bytes with the one before it.
+pub fn next_runs(runs: [usize; 32], c: usize, q: usize) -> [usize; 32]
+    requires { ⌜ c < 32 ⌝ }
+    ensures { λ r. ⌜ r ≡ runsOf runs c q ⌝ }
+{
+    let mut at = runs;
+    let mut j = c + 1;
+    while j < 32 {
+        at[j] = q;
+        j += 1;
+    }
+    at
+}
+
+// Whether the m bytes at q are the n bytes at p and `_lat`.
+fn is_lat(s: &[u8], q: usize, m: usize, p: usize, n: usize) -> bool
+    requires { ⌜ (q + m ≤ room (now s)) × (p + n ≤ room (now s)) ⌝ }
+    ensures { λ r. ⌜ r ≡ same (part (payload (now (s .entry))) q m) (part (payload (now (s .entry))) p n ++ suffixLat) ⌝ }
+{
+    if m < 4 {
+        return false;
+    }
+    if !same_name(s, q, m - 4, p, n) {
+        return false;
+    }
+    is_named(s, q + m - 4, 4, b"_lat")
+}
+
+// The value of `<L>_lat`, where `<L>_lon` stands at `at` and L has n bytes, among the variables from p on.
+pub fn lat_of(s: &[u8], p: usize, at: usize, n: usize) -> Value
+    requires { ⌜ (at + n + 4 ≤ room (now s)) × (part (payload (now s)) (at + n) 4 ≡ suffixLon) × Rising [] (variablesAt (payload (now s)) p) ⌝ }
+    ensures { λ r. ⌜ valueBy r ≡ variableOf (part (payload (now (s .entry))) at n ++ suffixLat) (variablesAt (payload (now (s .entry))) p) ⌝ }
+{
+    let mut q = p;
+    loop {
+        let v = next_variable(s, q);
+        if !v.some {
+            return none();
+        }
+        if is_lat(s, v.at, v.len, at, n) {
+            return Value {
+                some: true,
+                value: v.value,
+            };
+        }
+        if v.at == at {
+            if v.len == n + 4 {
+                return none();
+            }
+        }
+        q = v.next;
+    }
+}
+
+fn none() -> Value
+    ensures { λ r. ⌜ valueBy r ≡ Maybe.none ⌝ }
+{
+    Value {
+        some: false,
+        value: 0.0,
+    }
+}

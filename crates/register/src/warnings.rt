@@ -1,0 +1,246 @@
+// The warnings of a registration, written once it is accepted.
+ghost use mathlib.Core.Path.{_≡_};
+ghost use mathlib.Core.Bool.{Bool, true, false};
+ghost use mathlib.Core.List.{[], _∷_, _++_};
+ghost use lib.Ieee.{Float};
+ghost use Prim.Native.Nat.{_+_, _≤_, _<_};
+ghost use lib.ListN.{length, take};
+ghost use Rattle.stream.specs.Payload.{payload, room};
+ghost use Rattle.records.specs.Layout.{laidOut};
+ghost use Rattle.records.specs.Order.{part};
+ghost use Rattle.scene.specs.Scene.{sceneOf};
+ghost use Rattle.scene.specs.Labels.{variableOf};
+ghost use Rattle.scene.specs.Answers.{featuresAt, variablesAt};
+ghost use Rattle.scene.specs.Laws.Rising.{Rising};
+ghost use Rattle.register.specs.Register.{suffixLon, suffixLat, resolved, mentioned, featureEvents, variableEvents, lonEvent, warningsIn, controlsOf, viewWarnings, halfWarnings, anyDeclared, ignoredWith, registerWarnings};
+ghost use Rattle.register.specs.Warned.{Sheet, pushed, allPushed, fateOf};
+use crate::controls::is_lon;
+use crate::controls::is_mentioned;
+use crate::declared::anchor_of;
+use crate::declared::bearing_of;
+use crate::declared::is_px;
+use crate::declared::scale_of;
+use crate::runs::common;
+use crate::runs::lat_of;
+use crate::runs::next_runs;
+use scene::next_feature;
+use scene::next_variable;
+use scene::point_of_label;
+use scene::value_of;
+
+// How far the slice is used, in numbers, and whether everything fitted.
+#[repr(C)]
+pub struct Warned {
+    pub ok: bool,
+    pub used: usize,
+}
+
+// One more warning.
+fn push(out: &mut [u32], w: Warned, kind: u32, index: u32) -> Warned
+    requires { ⌜ w .used ≤ length (now out) ⌝ }
+    ensures { λ r. ⌜ record { out = now (out .exit); said = r } ≡ pushed (record { kind = kind; index = index }) (record { out = now (out .entry); said = w }) ⌝ }
+{
+    let n = w.used;
+    if !w.ok {
+        return w;
+    }
+    if out.len() - n < 2 {
+        return Warned { ok: false, used: n };
+    }
+    out[n] = kind;
+    out[n + 1] = index;
+    Warned {
+        ok: true,
+        used: n + 2,
+    }
+}
+
+// What the name of n bytes at `at` comes to, behind the first i host features.
+fn fate(s: &[u8], i: usize, at: usize, n: usize) -> u8
+    requires { ⌜ at + n ≤ room (now s) ⌝ }
+    ensures { λ r. ⌜ r ≡ fateOf (resolved (sceneOf (payload (now (s .entry)))) (part (payload (now (s .entry))) at n)) (mentioned (part (payload (now (s .entry))) at n) (take i (featuresAt (payload (now (s .entry))) 0))) ⌝ }
+{
+    let p = point_of_label(s, 0, at, n);
+    if !p.some {
+        return 1;
+    }
+    if is_mentioned(s, i, at, n) {
+        return 2;
+    }
+    0
+}
+
+pub struct Counted {
+    pub warned: Warned,
+    // how many host features there are
+    pub count: usize,
+}
+
+// Of the host features.
+fn warn_features(s: &[u8], out: &mut [u32], w: Warned) -> Counted
+    requires { ⌜ (room (now s) < 4294967296) × (w .used ≤ length (now out)) ⌝ }
+    ensures { λ r. ⌜ record { out = now (out .exit); said = r .warned } ≡ allPushed (warningsIn (featureEvents (sceneOf (payload (now (s .entry)))) 0 (featuresAt (payload (now (s .entry))) 0))) (record { out = now (out .entry); said = w }) ⌝ }
+    ensures { λ r. ⌜ (r .warned .used ≤ length (now (out .exit))) × (r .count ≡ length (featuresAt (payload (now (s .entry))) 0)) ⌝ }
+{
+    let mut warned = w;
+    let mut q = 0usize;
+    let mut i = 0usize;
+    loop {
+        let f = next_feature(s, q);
+        if !f.some {
+            return Counted {
+                warned: warned,
+                count: i,
+            };
+        }
+        if fate(s, i, f.at, f.len) != 0 {
+            warned = push(out, warned, 2, i as u32);
+        }
+        q = f.next;
+        i += 1;
+    }
+}
+
+// Of the j-th variable, `<L>_lon` at `at` with L of n bytes, behind so many host features; `<L>_lat` is looked for from p on.
+fn warn_lon(
+    s: &[u8],
+    out: &mut [u32],
+    w: Warned,
+    features: usize,
+    p: usize,
+    at: usize,
+    n: usize,
+    j: u32,
+) -> Warned
+    requires { ⌜ (w .used ≤ length (now out)) × (at + n + 4 ≤ room (now s)) × (part (payload (now s)) (at + n) 4 ≡ suffixLon) × Rising [] (variablesAt (payload (now s)) p) × (features ≡ length (featuresAt (payload (now s)) 0)) ⌝ }
+    ensures { λ r. ⌜ ((lon : Float) → record { out = now (out .exit); said = r } ≡ allPushed (warningsIn (lonEvent (sceneOf (payload (now (s .entry)))) j (part (payload (now (s .entry))) at n) lon (variableOf (part (payload (now (s .entry))) at n ++ suffixLat) (variablesAt (payload (now (s .entry))) p)) ∷ [])) (record { out = now (out .entry); said = w })) ⌝ }
+    ensures { λ r. ⌜ r .used ≤ length (now (out .exit)) ⌝ }
+{
+    let lat = lat_of(s, p, at, n);
+    if !lat.some {
+        return push(out, w, 2, j);
+    }
+    let k = fate(s, features, at, n);
+    if k == 0 {
+        return w;
+    }
+    if k == 1 {
+        return push(out, w, 2, j);
+    }
+    push(out, w, 3, j)
+}
+
+// Of the variables, behind so many host features.
+fn warn_variables(s: &[u8], out: &mut [u32], w: Warned, features: usize) -> Warned
+    requires { ⌜ (room (now s) < 4294967296) × (w .used ≤ length (now out)) × (features ≡ length (featuresAt (payload (now s)) 0)) × Rising [] (variablesAt (payload (now s)) 0) ⌝ }
+    ensures { λ r. ⌜ record { out = now (out .exit); said = r } ≡ allPushed (warningsIn (variableEvents (sceneOf (payload (now (s .entry)))) 0 (variablesAt (payload (now (s .entry))) 0))) (record { out = now (out .entry); said = w }) ⌝ }
+    ensures { λ r. ⌜ r .used ≤ length (now (out .exit)) ⌝ }
+{
+    let mut warned = w;
+    let mut runs = [0usize; 32];
+    let mut at = 0usize;
+    let mut len = 0usize;
+    let mut q = 0usize;
+    let mut i = 0usize;
+    loop {
+        let v = next_variable(s, q);
+        if !v.some {
+            return warned;
+        }
+        let c = common(s, at, len, v.at, v.len);
+        runs = next_runs(runs, c, q);
+        at = v.at;
+        len = v.len;
+        if is_lon(s, at, len) {
+            let from = runs[len - 2];
+            warned = warn_lon(s, out, warned, features, from, at, len - 4, i as u32);
+        }
+        q = v.next;
+        i += 1;
+    }
+}
+
+// 1: a view_scale without geo_px.
+fn warn_view(s: &[u8], out: &mut [u32], w: Warned) -> Warned
+    requires { ⌜ w .used ≤ length (now out) ⌝ }
+    ensures { λ r. ⌜ record { out = now (out .exit); said = r } ≡ allPushed (viewWarnings (sceneOf (payload (now (s .entry))))) (record { out = now (out .entry); said = w }) ⌝ }
+    ensures { λ r. ⌜ r .used ≤ length (now (out .exit)) ⌝ }
+{
+    let view = scene::view_scale(s);
+    if !view.some {
+        return w;
+    }
+    if is_px(s) {
+        return w;
+    }
+    push(out, w, 1, 0)
+}
+
+// 2: half an anchor.
+fn warn_half(s: &[u8], out: &mut [u32], w: Warned) -> Warned
+    requires { ⌜ w .used ≤ length (now out) ⌝ }
+    ensures { λ r. ⌜ record { out = now (out .exit); said = r } ≡ allPushed (halfWarnings (sceneOf (payload (now (s .entry))))) (record { out = now (out .entry); said = w }) ⌝ }
+    ensures { λ r. ⌜ r .used ≤ length (now (out .exit)) ⌝ }
+{
+    let a = scene::anchor(s);
+    if a.some {
+        return w;
+    }
+    let lon = value_of(s, 0, b"geo_lon");
+    let lat = value_of(s, 0, b"geo_lat");
+    if lon.some == lat.some {
+        return w;
+    }
+    push(out, w, 2, 0)
+}
+
+// Whether a scale, a bearing or geo_px is declared.
+fn declares(s: &[u8]) -> bool
+    ensures { λ r. ⌜ r ≡ anyDeclared (sceneOf (payload (now (s .entry)))) ⌝ }
+{
+    let scale = scale_of(s);
+    if scale.some {
+        return true;
+    }
+    let bearing = bearing_of(s);
+    if bearing.some {
+        return true;
+    }
+    is_px(s)
+}
+
+// 4: what is ignored with n control points.
+fn warn_ignored(s: &[u8], out: &mut [u32], w: Warned, n: u32) -> Warned
+    requires { ⌜ w .used ≤ length (now out) ⌝ }
+    ensures { λ r. ⌜ record { out = now (out .exit); said = r } ≡ allPushed (ignoredWith n (sceneOf (payload (now (s .entry))))) (record { out = now (out .entry); said = w }) ⌝ }
+    ensures { λ r. ⌜ r .used ≤ length (now (out .exit)) ⌝ }
+{
+    if n == 0 {
+        return w;
+    }
+    let mut warned = w;
+    if n >= 2 {
+        if declares(s) {
+            warned = push(out, warned, 4, 0);
+        }
+    }
+    let anchor = anchor_of(s);
+    if anchor.some {
+        warned = push(out, warned, 4, 0);
+    }
+    warned
+}
+
+// All warnings of the registration of a stream that is laid out, with n control points.
+pub fn write_warnings(s: &[u8], out: &mut [u32], n: u32) -> Warned
+    requires { ⌜ (room (now s) < 4294967296) × (laidOut (payload (now s)) ≡ true) × (n ≡ length (controlsOf (sceneOf (payload (now s))))) ⌝ }
+    ensures { λ r. ⌜ record { out = now (out .exit); said = r } ≡ allPushed (registerWarnings (sceneOf (payload (now (s .entry))))) (record { out = now (out .entry); said = record { ok = true; used = 0 } }) ⌝ }
+{
+    let none = Warned { ok: true, used: 0 };
+    let view = warn_view(s, out, none);
+    let f = warn_features(s, out, view);
+    let featured = f.warned;
+    let all = warn_variables(s, out, featured, f.count);
+    let half = warn_half(s, out, all);
+    warn_ignored(s, out, half, n)
+}

@@ -1,0 +1,2 @@
+-- The comparison's questions.
+pub mod Answer

@@ -1,0 +1,44 @@
+// Registration as C symbols, for the comparison.
+ghost use mathlib.Core.Path.{_≡_};
+ghost use Rattle.similarity.specs.Projection.{toLonLatOf};
+ghost use Rattle.register_host.specs.Answer.{answerOf, warnedOf};
+ghost use Rattle.register.specs.Warned.{Sheet};
+use geodesy::LonLat;
+use register::Outcome;
+use register::Warned;
+use similarity::Registration;
+use similarity::project;
+use similarity::projection_of;
+
+// Refusals 1 to 14, or 0 and the registration.
+#[no_mangle]
+pub extern "C" fn register_stream(s: &[u8]) -> Outcome
+    ensures { λ r. ⌜ r ≡ answerOf (now (s .entry)) ⌝ }
+{
+    let number = records::refusal(s);
+    if number != 0 {
+        return register::refuse(number);
+    }
+    register::register(s)
+}
+
+// The warnings of an accepted registration; none of any other stream.
+#[no_mangle]
+pub extern "C" fn register_warnings(s: &[u8], out: &mut [u32]) -> Warned
+    ensures { λ r. ⌜ record { out = now (out .exit); said = r } ≡ warnedOf (now (s .entry)) (now (out .entry)) ⌝ }
+{
+    let o = register_stream(s);
+    if o.number != 0 {
+        return Warned { ok: true, used: 0 };
+    }
+    let r = o.registration;
+    register::write_warnings(s, out, r.controls)
+}
+
+// A canvas point through a registration.
+#[no_mangle]
+pub extern "C" fn register_project(r: Registration, x: f64, y: f64) -> LonLat
+    ensures { λ p. ⌜ p ≡ toLonLatOf r x y ⌝ }
+{
+    project(projection_of(r), x, y)
+}
