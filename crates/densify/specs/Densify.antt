@@ -175,10 +175,12 @@ unfoldable pub samplesTo : (ℕ → Point) → ℕ → List Point
 samplesTo f zero = []
 samplesTo f (suc k) = samplesTo f k ++ (f (suc k) ∷ [])
 
+unfoldable pub segmentWant : Float → Float → Point → Point → ℕ
+segmentWant step scale a b = partsOf step (mul binary64 (hypotOf (sub binary64 (b .x) (a .x)) (sub binary64 (b .y) (a .y))) scale)
+
 unfoldable pub segmentOf : Float → Float → Point → Point → Budget → Made
-segmentOf step scale a b budget =
-    let metres = mul binary64 (hypotOf (sub binary64 (b .x) (a .x)) (sub binary64 (b .y) (a .y))) scale in
-    drawing budget (partsOf step metres) 1 (λ n. samplesTo (λ k. alongOf a b k n) n)
+unfolding segmentWant
+segmentOf step scale a b budget = drawing budget (segmentWant step scale a b) 1 (λ n. samplesTo (λ k. alongOf a b k n) n)
 
 unfoldable pub segmentsOf : Float → Float → Point → List Point → Budget → Made
 segmentsOf step scale p [] b = plain [] b

@@ -1,3 +1,5 @@
 -- The laws of these definitions that callers use.
 pub mod Names
 pub mod Outcomes
+pub mod Near
+pub mod Sound

@@ -19,7 +19,7 @@ tested : (allTo (fits 2) 32 ≡ true) × (allTo (fits 4) 32 ≡ true) × (allTo 
 unfolding allTo fits bit valuesWidth
 tested = (refl, refl, refl, refl)
 
-all-at : (f : ℕ → Bool) (n m : ℕ) → allTo f n ≡ true → m < n → f m ≡ true
+pub all-at : (f : ℕ → Bool) (n m : ℕ) → allTo f n ≡ true → m < n → f m ≡ true
 unfolding allTo
 all-at f zero m e h = absurd (omega arith)
 all-at f (suc n) m e h =

@@ -53,7 +53,7 @@ record Marked (m : Mark) : Type 0 where
   e : Sized (2 ^ 25) (m .e)
   n : Sized 20330312 (m .n)
 
-whole-million : Whole million 1000000
+pub whole-million : Whole million 1000000
 unfolding ofBits
 whole-million = record { is-finite = tt; up-is = refl; no-minus = refl }
 
@@ -72,7 +72,7 @@ marked c h =
       n = ends-spans 20330312 edge (m .y) whole-edge (forward-north p (h .lat));
     }
 
-each-map : {A B : Type 0} (f : A → B) (Q : A → Type 0) (R : B → Type 0) → ((a : A) → Q a → R (f a)) → (l : List A) → Each Q l → Each R (map f l)
+pub each-map : {A B : Type 0} (f : A → B) (Q : A → Type 0) (R : B → Type 0) → ((a : A) → Q a → R (f a)) → (l : List A) → Each Q l → Each R (map f l)
 each-map f Q R g [] h = tt
 each-map f Q R g (a ∷ l) h = (g a (h .0), each-map f Q R g l (h .1))
 
