@@ -17,3 +17,4 @@ pub use refusals::refusal;
 pub use search::Hit;
 pub use search::find;
 pub use search::record_at;
+pub use search::skip_to;

@@ -120,7 +120,7 @@ unfoldable pub mentioned : List ℕ → List NamedFeature → Bool
 mentioned name [] = false
 mentioned name (f ∷ fs) = same (f .name) name || mentioned name fs
 
--- A name that resolves is a control point, unless an earlier feature has it too: that one resolved as well, and stays. Any other gives a warning of this kind.
+-- A name that resolves is a control point, unless a host feature has it already: that one resolved as well, and stays. Of what is none there is a warning: one where nothing has the name, another where a host feature has it.
 unfoldable pub eventOf : Maybe Point → Bool → Float → Float → Warning → Warning → Event
 eventOf none earlier lon lat lost again = warn lost
 eventOf (some p) true lon lat lost again = warn again

@@ -9,7 +9,7 @@ ghost use Rattle.records.specs.Layout.{laidOut};
 ghost use Rattle.records.specs.Order.{part};
 ghost use Rattle.scene.specs.Scene.{sceneOf};
 ghost use Rattle.scene.specs.Labels.{variableOf};
-ghost use Rattle.scene.specs.Answers.{featuresAt, variablesAt};
+ghost use Rattle.scene.specs.Answers.{Labels, featuresAt, variablesAt};
 ghost use Rattle.scene.specs.Laws.Rising.{Rising};
 ghost use Rattle.register.specs.Register.{suffixLon, suffixLat, placed, mentioned, featureEvents, variableEvents, isLon, events};
 ghost use Rattle.register.specs.Gathered.{noControls, putOf, named, paired, gathered};
@@ -17,6 +17,7 @@ use crate::runs::common;
 use crate::runs::lat_of;
 use crate::runs::next_runs;
 use float::abs;
+use scene::first_label;
 use scene::is_named;
 use scene::next_feature;
 use scene::next_variable;
@@ -99,12 +100,21 @@ pub fn is_mentioned(s: &[u8], i: usize, at: usize, n: usize) -> bool
     false
 }
 
-// The control point of a name, unless it resolves to nothing or one of the first i host features has it.
-fn add_named(s: &[u8], g: Gathered, i: usize, at: usize, n: usize, lon: f64, lat: f64) -> Gathered
-    requires { ⌜ (length (g .at) ≡ 64) × (at + n ≤ room (now s)) ⌝ }
+// The control point of a name, its label looked for from a position on, unless it resolves to nothing or one of the first i host features has it.
+fn add_named(
+    s: &[u8],
+    labels: usize,
+    g: Gathered,
+    i: usize,
+    at: usize,
+    n: usize,
+    lon: f64,
+    lat: f64,
+) -> Gathered
+    requires { ⌜ (length (g .at) ≡ 64) × (at + n ≤ room (now s)) × Labels (payload (now s)) labels ⌝ }
     ensures { λ r. ⌜ r ≡ named (sceneOf (payload (now (s .entry)))) (part (payload (now (s .entry))) at n) i lon lat g ⌝ }
 {
-    let p = point_of_label(s, 0, at, n);
+    let p = point_of_label(s, labels, at, n);
     if !p.some {
         return g;
     }
@@ -126,7 +136,8 @@ pub struct Featured {
     pub count: usize,
 }
 
-fn gather_features(s: &[u8]) -> Featured
+fn gather_features(s: &[u8], labels: usize) -> Featured
+    requires { ⌜ Labels (payload (now s)) labels ⌝ }
     ensures { λ r. ⌜ r .controls ≡ gathered (featureEvents (sceneOf (payload (now (s .entry)))) 0 (featuresAt (payload (now (s .entry))) 0)) noControls ⌝ }
     ensures { λ r. ⌜ r .count ≡ length (featuresAt (payload (now (s .entry))) 0) ⌝ }
 {
@@ -141,7 +152,7 @@ fn gather_features(s: &[u8]) -> Featured
                 count: i,
             };
         }
-        g = add_named(s, g, i, f.at, f.len, f.lon, f.lat);
+        g = add_named(s, labels, g, i, f.at, f.len, f.lon, f.lat);
         q = f.next;
         i += 1;
     }
@@ -162,20 +173,29 @@ pub fn is_lon(s: &[u8], at: usize, n: usize) -> bool
 }
 
 // The control point of `<L>_lon`, which stands at `at` with L of n bytes, where `<L>_lat` is set: it is looked for from p on.
-fn add_lon(s: &[u8], g: Gathered, i: usize, p: usize, at: usize, n: usize, lon: f64) -> Gathered
-    requires { ⌜ (length (g .at) ≡ 64) × (at + n + 4 ≤ room (now s)) × (part (payload (now s)) (at + n) 4 ≡ suffixLon) × Rising [] (variablesAt (payload (now s)) p) ⌝ }
+fn add_lon(
+    s: &[u8],
+    labels: usize,
+    g: Gathered,
+    i: usize,
+    p: usize,
+    at: usize,
+    n: usize,
+    lon: f64,
+) -> Gathered
+    requires { ⌜ (length (g .at) ≡ 64) × (at + n + 4 ≤ room (now s)) × (part (payload (now s)) (at + n) 4 ≡ suffixLon) × Rising [] (variablesAt (payload (now s)) p) × Labels (payload (now s)) labels ⌝ }
     ensures { λ r. ⌜ r ≡ paired (sceneOf (payload (now (s .entry)))) (part (payload (now (s .entry))) at n) i lon (variableOf (part (payload (now (s .entry))) at n ++ suffixLat) (variablesAt (payload (now (s .entry))) p)) g ⌝ }
 {
     let lat = lat_of(s, p, at, n);
     if !lat.some {
         return g;
     }
-    add_named(s, g, i, at, n, lon, lat.value)
+    add_named(s, labels, g, i, at, n, lon, lat.value)
 }
 
 // The pairs of variables, after the host features, of which there are so many.
-fn gather_variables(s: &[u8], g: Gathered, features: usize) -> Gathered
-    requires { ⌜ (length (g .at) ≡ 64) × (features ≡ length (featuresAt (payload (now s)) 0)) × Rising [] (variablesAt (payload (now s)) 0) ⌝ }
+fn gather_variables(s: &[u8], labels: usize, g: Gathered, features: usize) -> Gathered
+    requires { ⌜ (length (g .at) ≡ 64) × (features ≡ length (featuresAt (payload (now s)) 0)) × Rising [] (variablesAt (payload (now s)) 0) × Labels (payload (now s)) labels ⌝ }
     ensures { λ r. ⌜ r ≡ gathered (variableEvents (sceneOf (payload (now (s .entry)))) 0 (variablesAt (payload (now (s .entry))) 0)) g ⌝ }
 {
     let mut all = g;
@@ -194,7 +214,7 @@ fn gather_variables(s: &[u8], g: Gathered, features: usize) -> Gathered
         len = v.len;
         if is_lon(s, at, len) {
             let from = runs[len - 2];
-            all = add_lon(s, all, features, from, at, len - 4, v.value);
+            all = add_lon(s, labels, all, features, from, at, len - 4, v.value);
         }
         q = v.next;
     }
@@ -205,7 +225,8 @@ pub fn gather(s: &[u8]) -> Gathered
     requires { ⌜ laidOut (payload (now s)) ≡ true ⌝ }
     ensures { λ r. ⌜ r ≡ gathered (events (sceneOf (payload (now (s .entry))))) noControls ⌝ }
 {
-    let f = gather_features(s);
+    let labels = first_label(s);
+    let f = gather_features(s, labels);
     let g = f.controls;
-    gather_variables(s, g, f.count)
+    gather_variables(s, labels, g, f.count)
 }

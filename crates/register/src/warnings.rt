@@ -10,7 +10,7 @@ ghost use Rattle.records.specs.Layout.{laidOut};
 ghost use Rattle.records.specs.Order.{part};
 ghost use Rattle.scene.specs.Scene.{sceneOf};
 ghost use Rattle.scene.specs.Labels.{variableOf};
-ghost use Rattle.scene.specs.Answers.{featuresAt, variablesAt};
+ghost use Rattle.scene.specs.Answers.{Labels, featuresAt, variablesAt};
 ghost use Rattle.scene.specs.Laws.Rising.{Rising};
 ghost use Rattle.register.specs.Register.{suffixLon, suffixLat, resolved, mentioned, featureEvents, variableEvents, lonEvent, warningsIn, controlsOf, viewWarnings, halfWarnings, anyDeclared, ignoredWith, registerWarnings};
 ghost use Rattle.register.specs.Warned.{Sheet, pushed, allPushed, fateOf};
@@ -23,6 +23,7 @@ use crate::declared::scale_of;
 use crate::runs::common;
 use crate::runs::lat_of;
 use crate::runs::next_runs;
+use scene::first_label;
 use scene::next_feature;
 use scene::next_variable;
 use scene::point_of_label;
@@ -56,11 +57,11 @@ fn push(out: &mut [u32], w: Warned, kind: u32, index: u32) -> Warned
 }
 
 // What the name of n bytes at `at` comes to, behind the first i host features.
-fn fate(s: &[u8], i: usize, at: usize, n: usize) -> u8
-    requires { ⌜ at + n ≤ room (now s) ⌝ }
+fn fate(s: &[u8], labels: usize, i: usize, at: usize, n: usize) -> u8
+    requires { ⌜ (at + n ≤ room (now s)) × Labels (payload (now s)) labels ⌝ }
     ensures { λ r. ⌜ r ≡ fateOf (resolved (sceneOf (payload (now (s .entry)))) (part (payload (now (s .entry))) at n)) (mentioned (part (payload (now (s .entry))) at n) (take i (featuresAt (payload (now (s .entry))) 0))) ⌝ }
 {
-    let p = point_of_label(s, 0, at, n);
+    let p = point_of_label(s, labels, at, n);
     if !p.some {
         return 1;
     }
@@ -77,8 +78,8 @@ pub struct Counted {
 }
 
 // Of the host features.
-fn warn_features(s: &[u8], out: &mut [u32], w: Warned) -> Counted
-    requires { ⌜ (room (now s) < 4294967296) × (w .used ≤ length (now out)) ⌝ }
+fn warn_features(s: &[u8], labels: usize, out: &mut [u32], w: Warned) -> Counted
+    requires { ⌜ (room (now s) < 4294967296) × (w .used ≤ length (now out)) × Labels (payload (now s)) labels ⌝ }
     ensures { λ r. ⌜ record { out = now (out .exit); said = r .warned } ≡ allPushed (warningsIn (featureEvents (sceneOf (payload (now (s .entry)))) 0 (featuresAt (payload (now (s .entry))) 0))) (record { out = now (out .entry); said = w }) ⌝ }
     ensures { λ r. ⌜ (r .warned .used ≤ length (now (out .exit))) × (r .count ≡ length (featuresAt (payload (now (s .entry))) 0)) ⌝ }
 {
@@ -93,7 +94,7 @@ fn warn_features(s: &[u8], out: &mut [u32], w: Warned) -> Counted
                 count: i,
             };
         }
-        if fate(s, i, f.at, f.len) != 0 {
+        if fate(s, labels, i, f.at, f.len) != 0 {
             warned = push(out, warned, 2, i as u32);
         }
         q = f.next;
@@ -104,6 +105,7 @@ fn warn_features(s: &[u8], out: &mut [u32], w: Warned) -> Counted
 // Of the j-th variable, `<L>_lon` at `at` with L of n bytes, behind so many host features; `<L>_lat` is looked for from p on.
 fn warn_lon(
     s: &[u8],
+    labels: usize,
     out: &mut [u32],
     w: Warned,
     features: usize,
@@ -112,7 +114,7 @@ fn warn_lon(
     n: usize,
     j: u32,
 ) -> Warned
-    requires { ⌜ (w .used ≤ length (now out)) × (at + n + 4 ≤ room (now s)) × (part (payload (now s)) (at + n) 4 ≡ suffixLon) × Rising [] (variablesAt (payload (now s)) p) × (features ≡ length (featuresAt (payload (now s)) 0)) ⌝ }
+    requires { ⌜ (w .used ≤ length (now out)) × (at + n + 4 ≤ room (now s)) × (part (payload (now s)) (at + n) 4 ≡ suffixLon) × Rising [] (variablesAt (payload (now s)) p) × (features ≡ length (featuresAt (payload (now s)) 0)) × Labels (payload (now s)) labels ⌝ }
     ensures { λ r. ⌜ ((lon : Float) → record { out = now (out .exit); said = r } ≡ allPushed (warningsIn (lonEvent (sceneOf (payload (now (s .entry)))) j (part (payload (now (s .entry))) at n) lon (variableOf (part (payload (now (s .entry))) at n ++ suffixLat) (variablesAt (payload (now (s .entry))) p)) ∷ [])) (record { out = now (out .entry); said = w })) ⌝ }
     ensures { λ r. ⌜ r .used ≤ length (now (out .exit)) ⌝ }
 {
@@ -120,7 +122,7 @@ fn warn_lon(
     if !lat.some {
         return push(out, w, 2, j);
     }
-    let k = fate(s, features, at, n);
+    let k = fate(s, labels, features, at, n);
     if k == 0 {
         return w;
     }
@@ -131,8 +133,8 @@ fn warn_lon(
 }
 
 // Of the variables, behind so many host features.
-fn warn_variables(s: &[u8], out: &mut [u32], w: Warned, features: usize) -> Warned
-    requires { ⌜ (room (now s) < 4294967296) × (w .used ≤ length (now out)) × (features ≡ length (featuresAt (payload (now s)) 0)) × Rising [] (variablesAt (payload (now s)) 0) ⌝ }
+fn warn_variables(s: &[u8], labels: usize, out: &mut [u32], w: Warned, features: usize) -> Warned
+    requires { ⌜ (room (now s) < 4294967296) × (w .used ≤ length (now out)) × (features ≡ length (featuresAt (payload (now s)) 0)) × Rising [] (variablesAt (payload (now s)) 0) × Labels (payload (now s)) labels ⌝ }
     ensures { λ r. ⌜ record { out = now (out .exit); said = r } ≡ allPushed (warningsIn (variableEvents (sceneOf (payload (now (s .entry)))) 0 (variablesAt (payload (now (s .entry))) 0))) (record { out = now (out .entry); said = w }) ⌝ }
     ensures { λ r. ⌜ r .used ≤ length (now (out .exit)) ⌝ }
 {
@@ -153,7 +155,17 @@ fn warn_variables(s: &[u8], out: &mut [u32], w: Warned, features: usize) -> Warn
         len = v.len;
         if is_lon(s, at, len) {
             let from = runs[len - 2];
-            warned = warn_lon(s, out, warned, features, from, at, len - 4, i as u32);
+            warned = warn_lon(
+                s,
+                labels,
+                out,
+                warned,
+                features,
+                from,
+                at,
+                len - 4,
+                i as u32,
+            );
         }
         q = v.next;
         i += 1;
@@ -238,9 +250,10 @@ pub fn write_warnings(s: &[u8], out: &mut [u32], n: u32) -> Warned
 {
     let none = Warned { ok: true, used: 0 };
     let view = warn_view(s, out, none);
-    let f = warn_features(s, out, view);
+    let labels = first_label(s);
+    let f = warn_features(s, labels, out, view);
     let featured = f.warned;
-    let all = warn_variables(s, out, featured, f.count);
+    let all = warn_variables(s, labels, out, featured, f.count);
     let half = warn_half(s, out, all);
     warn_ignored(s, out, half, n)
 }

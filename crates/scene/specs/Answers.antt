@@ -132,6 +132,11 @@ pub record ItemStands (l : List ℕ) (q n m next : ℕ) : Type 0 where
   pub label : n ≡ getD (drop q l) 3 0
   pub has : m ≡ getD (drop q l) (12 + n) 0
 
+-- all places and items stand from position p on
+pub record Labels (l : List ℕ) (p : ℕ) : Type 0 where
+  pub places : placesAt l 0 ≡ placesAt l p
+  pub items : itemsAt l 0 ≡ itemsAt l p
+
 -- ---- keys
 abbrev pub keyBy : code-key.Key → Key
 keyBy k = record { top = k .top; line = k .line; col = k .col; order = k .order }

@@ -6,7 +6,7 @@ ghost use Rattle.stream.specs.Payload.{payload, room};
 ghost use Rattle.records.specs.Order.{part};
 ghost use Rattle.scene.specs.Scene.{Maybe, some, none, pointsAt};
 ghost use Rattle.scene.specs.Labels.{meanPoint, firstStart, meanOrStart, referencePoint, greater, consider, considerAt, itemKey, bestPlace, bestItem, pointOfLabel};
-ghost use Rattle.scene.specs.Answers.{pointBy, spotBy, keyBy, bestBy, pointsFrom, pathsFrom, placesAt, itemsAt, itemBy};
+ghost use Rattle.scene.specs.Answers.{Labels, pointBy, spotBy, keyBy, bestBy, pointsFrom, pathsFrom, placesAt, itemsAt, itemBy};
 use crate::names::is_labelled;
 use crate::names::same_name;
 use crate::numbers::Point;
@@ -224,4 +224,11 @@ pub fn point_of_label(s: &[u8], p: usize, at: usize, n: usize) -> Spot
         x: b.x,
         y: b.y,
     }
+}
+
+// Where to ask for labels from: behind all that carries none, which is passed over once and not for each name.
+pub fn first_label(s: &[u8]) -> usize
+    ensures { λ r. ⌜ Labels (payload (now (s .entry))) r ⌝ }
+{
+    records::skip_to(s, 0, 5)
 }

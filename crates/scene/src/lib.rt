@@ -13,6 +13,7 @@ pub use choices::frame;
 pub use choices::rescale;
 pub use choices::scale;
 pub use choices::view_scale;
+pub use labels::first_label;
 pub use labels::point_of_label;
 pub use labels::reference_point;
 pub use names::is_named;

@@ -1,12 +1,12 @@
 -- A search: what it finds from one record on, and what a record that was found tells of its bytes.
 use mathlib.Core.Path.{_≡_, refl, ap}
 use mathlib.Core.List.{List, []}
-use mathlib.Core.Bool.{Bool, true, false, cond}
+use mathlib.Core.Bool.{Bool, true, false, _&&_, cond}
 use Prim.Native.Nat.{ℕ, _+_, _*_, _≤_, _<_}
 use native.Mathlib.Omega.{arith}
 use lib.ListN.{length, getD, drop, length-drop}
-use lib.Dec.{eqb}
-use borrow.Author.Tests.{eqb-true}
+use lib.Dec.{eqb, ltb}
+use borrow.Author.Tests.{eqb-true, ne-eqb, le-ltb}
 use Rattle.stream.specs.Numbers.{u16At}
 use Rattle.records.specs.declared.records.Record.{Record}
 use Rattle.records.specs.declared.records.Record.the-variants.{Rescale, Choice, Feature, Variable, Place, Item, Points, Path}
@@ -45,6 +45,17 @@ unfolding turnOf
 here t key r h =
     let both = is-here _ (past t (tagOf r)) h in
     (eqb-true (tagOf r) t (and-left _ _ both), eqb-true (keyOf r) key (and-right (eqb (tagOf r) t) _ both))
+
+-- ---- a smaller tag is passed over, up to items
+pub passes : (t key : ℕ) (r : Record) → tagOf r < t → t ≤ 6 → turnOf t key r ≡ On
+unfolding turnOf past
+passes t key r h k =
+    let no : tagOf r ≡ t → ⊥ = omega arith in
+    rw (ne-eqb (tagOf r) t no) (over (ltb t 6) refl)
+  where
+    over : (b : Bool) → ltb t 6 ≡ b → pickTurn (cond b (ltb t (tagOf r)) (ltb 6 t && ltb (tagOf r) 7)) Past On ≡ On
+    over true e = rw (le-ltb t (tagOf r) (omega arith)) refl
+    over false e = rw (le-ltb 6 t k) refl
 
 -- ---- what a record of each tag tells, by its bytes b, its key k, its position and the next one
 pub record ChoiceFound (b : List ℕ) (k at next : ℕ) : Type 0 where

@@ -3,8 +3,9 @@ use mathlib.Core.Path.{_≡_, refl}
 use mathlib.Core.Bool.{Bool, true, false, cond}
 use mathlib.Core.List.{List, []}
 use Prim.Native.Nat.{ℕ}
-use Rattle.scene.specs.Scene.{Maybe, none, some, given, sceneOf}
-use Rattle.scene.specs.Answers.{featuresAt, variablesAt, placesAt, itemsAt}
+use Rattle.scene.specs.Scene.{Maybe, none, some, given, Point, sceneOf}
+use Rattle.scene.specs.Labels.{pointOfLabel}
+use Rattle.scene.specs.Answers.{Labels, featuresAt, variablesAt, placesAt, itemsAt}
 
 -- the list of an answer r, as in featuresBy: `listed (r .some) _ e h`
 module _ {A : Type 0} {xs : List A} (b : Bool) (ys : List A) (e : xs ≡ cond b ys []) where
@@ -26,3 +27,7 @@ pub scene-lists : (l : List ℕ)
     → (sceneOf l .features ≡ featuresAt l 0) × (sceneOf l .variables ≡ variablesAt l 0) × (sceneOf l .places ≡ placesAt l 0) × (sceneOf l .items ≡ itemsAt l 0)
 unfolding sceneOf
 scene-lists l = (refl, refl, refl, refl)
+
+-- a label that is asked for from where all labels stand
+pub all-labels : (l : List ℕ) (p : ℕ) (name : List ℕ) {m : Maybe Point} → Labels l p → m ≡ pointOfLabel name (placesAt l p) (itemsAt l p) → m ≡ pointOfLabel name (placesAt l 0) (itemsAt l 0)
+all-labels l p name h e = rw (h .places, h .items) e

@@ -12,10 +12,10 @@ use Rattle.register.proofs.controls.gather_variables.Statement.{stateme
 use Rattle.register.proofs.controls.gather_variables.Tie as tie
 
 abbrev Inv-loop : tie.InvT-loop
-Inv-loop s features all₀ runs₀ at₀ len₀ q₀ all runs at len q = Going s all₀ all runs at len q
+Inv-loop s labels features all₀ runs₀ at₀ len₀ q₀ all runs at len q = Going s all₀ all runs at len q
 
 abbrev μ-loop : tie.MeasureT-loop
-μ-loop s features all₀ runs₀ at₀ len₀ q₀ all runs at len q = room s - q
+μ-loop s labels features all₀ runs₀ at₀ len₀ q₀ all runs at len q = room s - q
 
 within : (v : tie.After-next-variable Inv-loop μ-loop) → not (v .next-variable .result .some) ≡ false → Within (room (v .before .before .before .args .s .now)) (v .before .loop .q) (v .next-variable .result .at) (v .next-variable .result .len) (v .next-variable .result .next)
 within v h = v .next-variable .ensures .1 .0 (not-false _ h)
@@ -76,7 +76,7 @@ add-lon-requires : tie.Need-add-lon-requires Inv-loop μ-loop
 add-lon-requires c κs =
     let t = turn (c .before) in
     let h = c .if2 .taken in
-    (c .before .before .before .before .before .before .before .loop .inv .sized, omega (arith, long t h, t .within .name), suffix t h, run t h)
+    (c .before .before .before .before .before .before .before .loop .inv .sized, omega (arith, long t h, t .within .name), suffix t h, run t h, c .before .before .before .before .before .before .before .before .before .pre .3)
 
 loop-less : tie.Need-loop-less Inv-loop μ-loop
 loop-less c = omega (arith, turn (c .before .before) .within)

@@ -14,10 +14,10 @@ use Rattle.register.proofs.warnings.warn_variables.Statement.{statement
 use Rattle.register.proofs.warnings.warn_variables.Tie as tie
 
 abbrev Inv-loop : tie.InvT-loop
-Inv-loop s out₀ features warned₀ runs₀ at₀ len₀ q₀ i₀ out warned runs at len q i = Telling s (sheet out₀ warned₀) (sheet out warned) runs at len q i
+Inv-loop s labels out₀ features warned₀ runs₀ at₀ len₀ q₀ i₀ out warned runs at len q i = Telling s (sheet out₀ warned₀) (sheet out warned) runs at len q i
 
 abbrev μ-loop : tie.MeasureT-loop
-μ-loop s out₀ features warned₀ runs₀ at₀ len₀ q₀ i₀ out warned runs at len q i = room s - q
+μ-loop s labels out₀ features warned₀ runs₀ at₀ len₀ q₀ i₀ out warned runs at len q i = room s - q
 
 within : (v : tie.After-next-variable Inv-loop μ-loop) → not (v .next-variable .result .some) ≡ false → Within (room (v .before .before .before .before .args .s .now)) (v .before .loop .q) (v .next-variable .result .at) (v .next-variable .result .len) (v .next-variable .result .next)
 within v h = v .next-variable .ensures .1 .0 (not-false _ h)
@@ -84,7 +84,7 @@ warn-lon-requires c κs =
     let t = turn (c .before .before) in
     let h = c .before .if2 .taken in
     let l = c .before .before .before .before .before .before .before .before in
-    (l .loop .inv .fits, omega (arith, long t h, t .within .name), suffix t h, run t h, l .before .before .before .pre .2)
+    (l .loop .inv .fits, omega (arith, long t h, t .within .name), suffix t h, run t h, l .before .before .before .pre .2, l .before .before .before .pre .4)
 
 add-i : tie.Need-add-i Inv-loop μ-loop
 add-i c = omega (arith, turn (c .before) .within, c .before .before .before .before .before .before .before .loop .inv .short)

@@ -7,14 +7,17 @@ use Rattle.register.proofs.warnings.write_warnings.Tie as tie
 warn-view-requires : tie.Need-warn-view-requires
 warn-view-requires c κs = search needs
 
+first-label-requires : tie.Need-first-label-requires
+first-label-requires c κs = search needs
+
 warn-features-requires : tie.Need-warn-features-requires
 warn-features-requires c κs = search needs
 
 warn-variables-requires : tie.Need-warn-variables-requires
 warn-variables-requires c κs =
     let f = c .before .before .before .before in
-    let o = f .before .before .before .before .before .before .before .before in
-    (o .pre .0, f .warn-features .ensures .1 .0, f .warn-features .ensures .1 .1, variables-rising _ (o .pre .1))
+    let o = f .before .before .before .before .before .before .before .before .before in
+    (o .pre .0, f .warn-features .ensures .1 .0, f .warn-features .ensures .1 .1, variables-rising _ (o .pre .1), f .before .before .first-label .ensures)
 
 warn-half-requires : tie.Need-warn-half-requires
 warn-half-requires c κs = search needs
@@ -31,7 +34,7 @@ returns c =
     let h = i .before .before .before .before in
     let v = h .before .before .before .before in
     let f = v .before .before .before .before .before in
-    let w = f .before .before .before .before in
+    let w = f .before .before .before .before .before in
     all-warned _ _ (w .before .before .before .before .pre .2) (w .warn-view .ensures .0) (f .warn-features .ensures .0) (v .warn-variables .ensures .0) (h .warn-half .ensures .0) (i .warn-ignored .ensures .0)
 
 pub write-warnings-spec : {M : Type 1} → statement M
@@ -39,6 +42,7 @@ write-warnings-spec =
     tie.close
     (tie.spec
     warn-view-requires
+    first-label-requires
     warn-features-requires
     warn-variables-requires
     warn-half-requires

@@ -1,0 +1,99 @@
+use borrow.Author.Needs.{needs}
+use mathlib.Core.Path.{_≡_, refl, sym, ap, _∙_}
+use mathlib.Core.List.{List}
+use Prim.Native.Nat.{ℕ, _+_, _-_, _≤_, _<_}
+use native.Mathlib.Omega.{arith}
+use lib.ListN.{drop}
+use Rattle.stream.specs.Payload.{payload, room}
+use Rattle.records.specs.declared.records.Step.the-variants.{Got}
+use Rattle.records.specs.declared.search.Turn.{Turn}
+use Rattle.records.specs.Records.{recordOf}
+use Rattle.records.specs.Search.{sought, recordsAt}
+use Rattle.records.specs.Laws.Walk.{got-room}
+use Rattle.records.specs.Laws.Search.{search-got, passes}
+use Rattle.records.proofs.search.skip_to.Statement.{statement}
+use Rattle.records.proofs.search.skip_to.Tie as tie
+
+abbrev Inv-loop : tie.InvT-loop
+Inv-loop s p tag q₀ q = (t k : ℕ) → tag ≤ t → t ≤ 6 → recordsAt (payload s) p t k ≡ recordsAt (payload s) q t k
+
+abbrev μ-loop : tie.MeasureT-loop
+μ-loop s p tag q₀ q = room s - q
+
+-- a record of a smaller tag stands at the position
+module _ (w : tie.Else1 Inv-loop μ-loop) where
+  abbrev at : tie.At-loop Inv-loop μ-loop
+  at = w .before .before .before .before .before .before
+
+  abbrev s : List ℕ
+  s = at .before .before .args .s .now
+
+  abbrev size : ℕ
+  size = w .before .before .before .r .given .0 .1 .0
+
+  got : recordOf (drop (at .loop .q) (payload s)) ≡ Got (w .before .before .before .r .given .0 .0) size
+  got = sym (w .before .before .before .before .before .record-at .ensures) ∙ w .before .before .before .r .given .1
+
+  within : (1 ≤ size) × (at .loop .q + size ≤ room s)
+  within = got-room s (at .loop .q) got
+
+  onward : (t k : ℕ) → at .before .before .args .tag ≤ t → t ≤ 6 → recordsAt (payload s) (at .before .before .args .p) t k ≡ recordsAt (payload s) (at .loop .q + size) t k
+  onward t k h m =
+      at .loop .inv t k h m
+      ∙ search-got (payload s) (at .loop .q) t k got
+      ∙ ap (λ (x : Turn). sought x (drop (at .loop .q) (payload s)) (recordsAt (payload s) (at .loop .q + size) t k)) (passes t k (w .before .before .before .r .given .0 .0) (omega (arith, w .before .tag-of .ensures, w .if1 .left)) m)
+
+loop-holds : tie.Need-loop-holds Inv-loop μ-loop
+loop-holds c = λ t k h m. refl
+
+record-at-requires : tie.Need-record-at-requires Inv-loop μ-loop
+record-at-requires c κs = search needs
+
+enum-told : tie.Need-enum-told Inv-loop μ-loop
+enum-told c = search needs
+
+returns : tie.Need-returns Inv-loop μ-loop
+returns c = c .before .before .before .loop .inv
+
+enum-told-2 : tie.Need-enum-told-2 Inv-loop μ-loop
+enum-told-2 c = search needs
+
+returns-2 : tie.Need-returns-2 Inv-loop μ-loop
+returns-2 c = c .before .before .before .loop .inv
+
+enum-known-r : tie.Need-enum-known-r Inv-loop μ-loop
+enum-known-r c = search needs
+
+tag-of-requires : tie.Need-tag-of-requires Inv-loop μ-loop
+tag-of-requires c κs = search needs
+
+returns-3 : tie.Need-returns-3 Inv-loop μ-loop
+returns-3 c = c .before .before .before .before .before .before .loop .inv
+
+add-q : tie.Need-add-q Inv-loop μ-loop
+add-q c = omega (arith, within c)
+
+loop-less : tie.Need-loop-less Inv-loop μ-loop
+loop-less c = omega (arith, within c)
+
+loop-again : tie.Need-loop-again Inv-loop μ-loop
+loop-again c = onward c
+
+pub skip-to-spec : {M : Type 1} → statement M
+skip-to-spec =
+    tie.close
+    (tie.spec
+    Inv-loop
+    μ-loop
+    loop-holds
+    record-at-requires
+    enum-told
+    returns
+    enum-told-2
+    returns-2
+    enum-known-r
+    tag-of-requires
+    returns-3
+    add-q
+    loop-less
+    loop-again)
