@@ -251,5 +251,7 @@ pub fn fit_points(at: [Control; 64], n: usize) -> Fit
         x: first.e,
         y: first.n,
     };
-    fit_again(fit_round(a, ms, n), ms, n)
+    let first_round = fit_round(a, ms, n);
+    let second_round = fit_again(first_round, ms, n);
+    second_round
 }
