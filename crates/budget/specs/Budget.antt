@@ -1,6 +1,6 @@
 -- `Budget::take` of the source's densify.rs: it grants min(wanted, max(left, floor)) and lowers left, not below 0.
 use Prim.Native.Nat.{ℕ, _-_, min, max}
-use mathlib.Core.Bool.{Bool, true, false, _||_}
+use mathlib.Core.Bool.{_||_}
 use lib.Dec.{ltb}
 use Rattle.budget.specs.declared.Budget.{Budget}
 use Rattle.budget.specs.declared.Taken.{Taken}

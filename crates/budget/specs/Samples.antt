@@ -3,7 +3,6 @@ use mathlib.Core.Path.{_≡_, refl}
 use mathlib.Core.Bool.{true, false}
 use Prim.Native.Nat.{ℕ}
 use Rattle.budget.specs.declared.Budget.{Budget}
-use Rattle.budget.specs.declared.Taken.{Taken}
 use Rattle.budget.specs.Budget.{grantOf, takeOf}
 
 abbrev from : ℕ → Budget

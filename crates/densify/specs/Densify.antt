@@ -1,18 +1,16 @@
 -- The source's densify.rs, function by function: points on the canvas, and the draws that make them. Announced variations are parameters: the step in metres, and the budget to start from.
-use Prim.Native.Nat.{ℕ, zero, suc, _+_, _-_, _*_, _/_, max, min}
+use Prim.Native.Nat.{ℕ, zero, suc, _+_, _*_, _/_, max, min}
 use mathlib.Core.Bool.{Bool, true, false, not, _&&_, _||_, cond}
 use mathlib.Core.List.{List, [], _∷_, _++_}
-use lib.ListN.{length}
-use lib.Dec.{leb, ltb}
+use lib.Dec.{ltb}
 use lib.IntN.{pos}
-use lib.Ieee.{Float, binary64, ofBits, ofInt, toUnsigned, neg, add, sub, mul, div, lt, le, eq}
+use lib.Ieee.{Float, binary64, ofBits, ofInt, toUnsigned, add, sub, mul, div, lt, le, eq}
 use lib.Ieee.Scale.{finite}
 use Rattle.float.specs.Functions.{absOf, maxOf, minOf, ceilOf}
 use Rattle.elementary.specs.Constants as K
 use Rattle.elementary.specs.Functions.{toRadiansOf, hypotOf, sinOf, cosOf, acosOf}
 use Rattle.budget.specs.declared.Budget.{Budget}
-use Rattle.budget.specs.declared.Taken.{Taken}
-use Rattle.budget.specs.Budget.{grantOf, takeOf}
+use Rattle.budget.specs.Budget.{takeOf}
 use Rattle.scene.specs.Scene.{Point, Cubic, Form, curve, polyline, DrawnPath}
 
 -- ---- what a producer makes: its points, the budget after them, and its draws in order

@@ -1,19 +1,16 @@
 -- Rows 4, 9 and 12 of document 01's table.
 use mathlib.Core.Path.{_≡_, refl}
-use mathlib.Core.Bool.{Bool, true, false}
-use mathlib.Core.List.{List, [], _∷_}
+use mathlib.Core.Bool.{true, false}
 use Prim.Native.Nat.{ℕ}
 use lib.ListN.{length}
-use lib.Ieee.{Float, binary64, ofBits, ofInt, toUnsigned, neg, add, sub, mul, div, rem, lt, eq, le, sum, round, units, odd, size, climb, span, isNan}
-use lib.Ieee.Scale.{finite}
-use Rattle.float.specs.Functions.{absOf, maxOf, minOf, ceilOf}
+use lib.Ieee.{Float, binary64, ofBits, ofInt, toUnsigned, neg, add, sub, mul, div, lt, eq, le, sum, round, units, odd, size, climb, span}
+use Rattle.float.specs.Functions.{ceilOf}
 use Rattle.root.specs.Root as root
 use Rattle.elementary.specs.Constants as K
-use Rattle.elementary.specs.Functions.{hypotOf}
 use Rattle.budget.specs.declared.Budget.{Budget}
 use Rattle.budget.specs.Budget.{grantOf, takeOf}
 use Rattle.scene.specs.Scene.{Point}
-use Rattle.densify.specs.Densify.{Made, Block, clamped, partsOf, samePoint, closeRingOf, sharpCorners, leafOf}
+use Rattle.densify.specs.Densify.{clamped, partsOf, samePoint, closeRingOf, sharpCorners, leafOf}
 
 -- 100 and 101
 abbrev c100 : Float

@@ -1,25 +1,17 @@
 -- The order of two names of a payload, one byte further.
-use mathlib.Core.Path.{_≡_, refl, sym, ap, _∙_}
+use mathlib.Core.Path.{_≡_, refl, sym, _∙_}
 use mathlib.Core.List.{List, [], _∷_}
 use mathlib.Core.Bool.{true, false}
 use Prim.Native.Nat.{ℕ, _+_, _≤_, _<_}
 use native.Mathlib.Numerals.{add-one}
 use native.Mathlib.Omega.{arith}
-use lib.ListN.{length, getD, drop, length-drop, length-take, drop-of-length-le}
-use lib.Seq.{drop-cons, getD-take, getD-drop}
+use lib.ListN.{length, getD, drop, drop-of-length-le}
+use lib.Seq.{drop-cons}
 use borrow.Author.Tests.{lt-ltb, le-ltb, eq-eqb, ne-eqb}
 use Rattle.stream.specs.Payload.{payload, room, rest}
-use Rattle.stream.specs.Laws.Payload.{payload-length}
 use Rattle.records.specs.Layout.{before}
 use Rattle.records.specs.Order.{part}
-
-part-length : (l : List ℕ) (p n : ℕ) → p + n ≤ length l → length (part l p n) ≡ n
-unfolding part
-part-length l p n h = simp (length-take, length-drop) (omega arith)
-
-part-at : (l : List ℕ) (p n i : ℕ) → i < n → getD (part l p n) i 0 ≡ getD l (p + i) 0
-unfolding part
-part-at l p n i h = rw (getD-take, getD-drop)
+use Rattle.records.specs.Laws.Names.{name-length, name-at}
 
 none-after : (l : List ℕ) → before l [] ≡ false
 unfolding before
@@ -55,10 +47,10 @@ module _ (a b : List ℕ) (i : ℕ) where
 -- the same of two parts of a payload, and of the values that the code has
 module _ (s : List ℕ) (p n q m i : ℕ) (u : p + n ≤ room s) (v : q + m ≤ room s) where
   len-a : length (part (payload s) p n) ≡ n
-  len-a = part-length (payload s) p n (omega (arith, payload-length s))
+  len-a = name-length s p n u
 
   len-b : length (part (payload s) q m) ≡ m
-  len-b = part-length (payload s) q m (omega (arith, payload-length s))
+  len-b = name-length s q m v
 
   pub end-b : m ≤ i → before (drop i (part (payload s) p n)) (drop i (part (payload s) q m)) ≡ false
   end-b h = second-ends _ _ i (omega (arith, len-b))
@@ -68,12 +60,10 @@ module _ (s : List ℕ) (p n q m i : ℕ) (u : p + n ≤ room s) (v : q + m ≤ 
 
   module _ (h : i < n) (k : i < m) {x y : ℕ} (ex : x ≡ getD (rest s 0) (p + i) 0) (ey : y ≡ getD (rest s 0) (q + i) 0) where
     at-a : x ≡ getD (part (payload s) p n) i 0
-    unfolding rest
-    at-a = ex ∙ sym (part-at (payload s) p n i h)
+    at-a = name-at s p n h ex
 
     at-b : y ≡ getD (part (payload s) q m) i 0
-    unfolding rest
-    at-b = ey ∙ sym (part-at (payload s) q m i k)
+    at-b = name-at s q m k ey
 
     pub is-less : x < y → before (drop i (part (payload s) p n)) (drop i (part (payload s) q m)) ≡ true
     is-less e = less _ _ i (omega (arith, len-a)) (omega (arith, len-b)) (omega (arith, at-a, at-b))

@@ -9,7 +9,6 @@ use lib.Dec.{leb}
 use borrow.Author.Tests.{leb-true, eqb-true}
 use Rattle.stream.specs.Blocks.{sized, allChecked, blocksOf}
 use Rattle.stream.specs.Payload.{payload}
-use Rattle.stream.specs.declared.Blocks.{Blocks}
 use Rattle.stream.specs.declared.Blocks.the-variants.{Fine, Size, Check}
 use Rattle.stream.specs.declared.Float64.{Float64}
 use Rattle.records.specs.Layout.{laidOut}

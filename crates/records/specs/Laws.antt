@@ -4,3 +4,4 @@ pub mod Records
 pub mod Walk
 pub mod Search
 pub mod Refusals
+pub mod Names

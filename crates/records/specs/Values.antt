@@ -1,6 +1,6 @@
 -- What conditions 5 and 6 ask of: flatten, and rescale.
 use Prim.Native.Nat.{ℕ}
-use mathlib.Core.Bool.{Bool, true, false}
+use mathlib.Core.Bool.{Bool, false}
 use mathlib.Core.List.{List, [], _∷_}
 use lib.Ieee.{Float, binary64, le, ofBits}
 use Rattle.stream.specs.Numbers.{floatAt}

@@ -14,7 +14,7 @@ use Rattle.scene.specs.Labels.{same}
 use Rattle.scene.specs.Laws.Names.{same-lengths}
 use Rattle.scene.specs.Laws.Rising.{same-eq}
 use Rattle.register.specs.Register.{geo, suffixLon, suffixLat, stem, ending, isLon}
-use Rattle.register.proofs.RunsBytes.{name-length}
+use Rattle.records.specs.Laws.Names.{name-length}
 use Rattle.register.proofs.RunsNames.{part-split}
 
 -- ---- by the bytes of a payload

@@ -17,7 +17,7 @@ use Rattle.scene.specs.Labels.{pointOfLabel}
 use Rattle.scene.specs.Answers.{valueBy, spotBy, featuresAt, placesAt, itemsAt}
 use Rattle.scene.specs.Laws.Answers.{scene-lists}
 use Rattle.register.specs.declared.warnings.Warned.{Warned}
-use Rattle.register.specs.Register.{Warning, Event, control, warn, resolved, mentioned, eventOf, lonEvent, warningsIn, isSome, var, geoLon, geoLat, differ, halfAnchor, halfWarnings, only, ignored, ignoredWith, anyDeclared, anchorOf}
+use Rattle.register.specs.Register.{Warning, Event, control, warn, resolved, mentioned, eventOf, lonEvent, warningsIn, isSome, var, geoLon, geoLat, onlyOne, halfAnchor, halfWarnings, only, ignored, ignoredWith, anyDeclared, anchorOf}
 use Rattle.register.specs.Warned.{Sheet, pushed, allPushed, fateOf}
 
 abbrev pub sheet : List ℕ → Warned → Sheet
@@ -161,7 +161,7 @@ some-given : {A : Type 0} (b : Bool) (x : A) → isSome (given b x) ≡ b
 some-given true x = refl
 some-given false x = refl
 
-differ-beq : (a b : Bool) → differ a b ≡ not (Bool·beq a b)
+differ-beq : (a b : Bool) → onlyOne a b ≡ not (Bool·beq a b)
 differ-beq true true = refl
 differ-beq true false = refl
 differ-beq false true = refl

@@ -7,20 +7,7 @@ use native.Mathlib.Omega.{arith}
 use lib.ListN.{length, getD, take, drop, set, replicate, drop-of-length-le, replicate-append-replicate}
 use lib.Seq.{drop-cons, take-all, take-suc-set}
 use borrow.Author.Tests.{eq-eqb, ne-eqb}
-use Rattle.stream.specs.Payload.{payload, room, rest}
-use Rattle.stream.specs.Laws.Payload.{payload-length}
-use Rattle.records.specs.Order.{part}
-use Rattle.scene.specs.Laws.Names.{part-length, part-at}
 use Rattle.register.specs.Runs.{commonOf, runsOf}
-
--- ---- the bytes of a name in a payload
-module _ (s : List ℕ) (p n : ℕ) where
-  pub name-length : p + n ≤ room s → length (part (payload s) p n) ≡ n
-  name-length h = part-length (payload s) p n (omega (arith, payload-length s))
-
-  pub name-at : {i x : ℕ} → i < n → x ≡ getD (rest s 0) (p + i) 0 → x ≡ getD (part (payload s) p n) i 0
-  unfolding rest
-  name-at {i} h e = e ∙ sym (part-at (payload s) p n i h)
 
 -- ---- the bytes that two names begin with
 common-none : (a : List ℕ) → commonOf a [] ≡ 0

@@ -14,7 +14,8 @@ use Rattle.scene.specs.declared.sections.Variable.{Variable}
 use Rattle.scene.specs.Scene.{none, some, NamedValue}
 use Rattle.scene.specs.Labels.{same, variableOf}
 use Rattle.scene.specs.Answers.{variablesAt, variablesBy}
-use Rattle.scene.specs.Laws.Names.{part-length, same-lengths}
+use Rattle.records.specs.Laws.Names.{part-length}
+use Rattle.scene.specs.Laws.Names.{same-lengths}
 use Rattle.scene.specs.Laws.Answers.{listed}
 use Rattle.scene.specs.Laws.Rising.{Rising, rising-from, not-among}
 use Rattle.register.specs.Register.{suffixLon, suffixLat}

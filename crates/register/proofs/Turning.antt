@@ -15,7 +15,7 @@ use Rattle.scene.specs.Answers.{Within, variablesAt, variablesBy}
 use Rattle.scene.specs.Laws.Rising.{Rising}
 use Rattle.register.specs.Register.{suffixLon, suffixLat, stem, var, isLon}
 use Rattle.register.specs.Runs.{commonOf, runsOf}
-use Rattle.register.proofs.RunsBytes.{name-length}
+use Rattle.records.specs.Laws.Names.{name-length}
 use Rattle.register.proofs.Lons.{stem-at, ending-at, lon-ends, lon-long, lon-near}
 use Rattle.register.proofs.Lookup.{Passed, none-passed, one-passed}
 

@@ -1,9 +1,8 @@
 -- Control points as the code gathers them: the first 64 kept, counted up to 65.
-use mathlib.Core.Path.{_≡_}
-use mathlib.Core.Bool.{Bool, true, false, _&&_, cond}
+use mathlib.Core.Bool.{Bool, true, false, _&&_}
 use mathlib.Core.List.{List, [], _∷_}
 use Prim.Native.Nat.{ℕ, _+_}
-use lib.ListN.{length, take, set, replicate}
+use lib.ListN.{take, set, replicate}
 use lib.Dec.{ltb}
 use Rattle.similarity.specs.declared.fit.Control.{Control}
 use Rattle.register.specs.declared.controls.Gathered.{Gathered}

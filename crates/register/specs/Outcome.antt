@@ -4,7 +4,7 @@ use mathlib.Core.Bool.{Bool, true, false, not, _&&_}
 use mathlib.Core.List.{List}
 use lib.ListN.{length}
 use lib.Dec.{eqb}
-use lib.Ieee.{Float, le, lt}
+use lib.Ieee.{le, lt}
 use lib.Ieee.Scale.{finite}
 use Rattle.scene.specs.Scene.{Point, Scene}
 use Rattle.similarity.specs.declared.fit.Control.{Control}

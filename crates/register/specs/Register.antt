@@ -3,12 +3,12 @@ use Prim.Native.Nat.{ℕ, zero, suc, _-_}
 use mathlib.Core.Bool.{Bool, true, false, not, _&&_, _||_, cond}
 use mathlib.Core.List.{List, [], _∷_, _++_}
 use lib.ListN.{length, take, drop}
-use lib.Dec.{eqb, leb, ltb}
+use lib.Dec.{eqb, ltb}
 use lib.Ieee.{Float, binary64, ofBits, mul, div, eq, ne, lt, le}
 use lib.Ieee.Scale.{finite}
 use Rattle.float.specs.Functions.{absOf}
 use Rattle.scene.specs.Scene.{Maybe, none, some, Point, NamedFeature, NamedValue, Scene}
-use Rattle.scene.specs.Labels.{same, variableOf, pointOfLabel}
+use Rattle.scene.specs.Labels.{same, variableOf, orElse, pointOfLabel}
 use Rattle.similarity.specs.declared.fit.Control.{Control}
 use Rattle.similarity.specs.declared.fit.Fit.{Fit}
 use Rattle.similarity.specs.declared.projection.Registration.{Registration}
@@ -65,10 +65,6 @@ abbrev pub maxScale : Float
 maxScale = ofBits binary64 0x41cdcd6500000000
 
 -- ---- options and variables of the scene
-abbrev pub orElse : {A : Type 0} → Maybe A → Maybe A → Maybe A
-orElse (some x) y = some x
-orElse none y = y
-
 abbrev pub orValue : {A : Type 0} → Maybe A → A → A
 orValue (some x) d = x
 orValue none d = d
@@ -87,12 +83,12 @@ isMercator (some f) v = eqb f 1
 isMercator none (some v) = eq v f1
 isMercator none none = false
 
-unfoldable pub differs : Maybe Float → Bool
-differs (some v) = ne v f0
-differs none = false
+unfoldable pub notZero : Maybe Float → Bool
+notZero (some v) = ne v f0
+notZero none = false
 
 unfoldable pub pxMode : Scene → Bool
-pxMode sc = differs (var sc geoPx)
+pxMode sc = notZero (var sc geoPx)
 
 abbrev pub declaredScale : Scene → Maybe Float
 declaredScale sc = orElse (sc .scale) (var sc geoScale)
@@ -189,12 +185,12 @@ unfoldable pub anchorOf : Scene → Maybe Point
 anchorOf sc = orElse (sc .anchor) (bothOf (var sc geoLon) (var sc geoLat))
 
 -- one of geo_lon and geo_lat without the other, and no option
-abbrev pub differ : Bool → Bool → Bool
-differ true b = not b
-differ false b = b
+abbrev pub onlyOne : Bool → Bool → Bool
+onlyOne true b = not b
+onlyOne false b = b
 
 unfoldable pub halfAnchor : Scene → Bool
-halfAnchor sc = not (isSome (sc .anchor)) && differ (isSome (var sc geoLon)) (isSome (var sc geoLat))
+halfAnchor sc = not (isSome (sc .anchor)) && onlyOne (isSome (var sc geoLon)) (isSome (var sc geoLat))
 
 -- ---- condition 8
 unfoldable pub placed : Float → Float → Bool

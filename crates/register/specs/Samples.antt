@@ -1,11 +1,9 @@
 -- The definitions on known scenes: rows 10 and 11 of document 01's table, each refusal from 7 to 14, and the warnings' order.
 use mathlib.Core.Path.{_≡_, refl}
-use mathlib.Core.Bool.{true, false}
 use mathlib.Core.List.{List, [], _∷_, _++_}
 use Prim.Native.Nat.{ℕ, _+_, _/_, _%_, _^_}
 use lib.ListN.{replicate}
-use lib.Ieee.{binary64, ofBits, ofInt, neg, add, sub, mul, div, rem, lt, eq, le, ne, sum, round, units, odd, size, climb, span}
-use lib.Ieee.Scale.{finite}
+use lib.Ieee.{ofBits, ofInt, neg, add, sub, mul, div, rem, lt, eq, le, ne, sum, round, units, odd, size, climb, span}
 use Rattle.stream.specs.Numbers.{u16At, u32At, u64At, floatOf, floatAt}
 use Rattle.float.specs.Functions.{absOf}
 use Rattle.records.specs.Records.{plain, allTo, named, labelled, namedThen, counted, allZero, choiceWidth, choiceFits, valuesWidth, itemBegins, itemFits}
@@ -16,10 +14,10 @@ use Rattle.records.specs.Order.{part}
 use Rattle.records.specs.Search.{past, turnOf, recordsOf}
 use Rattle.records.specs.Values.{flattenIn}
 use Rattle.scene.specs.Scene as scene
-use Rattle.scene.specs.Scene.{Scene, sceneOf, valueOf, numberAt, bit, pointAt, pointsAt, cubicAt, cubicsAt, featureAt, variableAt, placeAt, formAt, pathAt, itemAt}
+use Rattle.scene.specs.Scene.{sceneOf, valueOf, numberAt, bit, pointAt, pointsAt, cubicAt, cubicsAt, featureAt, variableAt, placeAt, formAt, pathAt, itemAt}
 use Rattle.scene.specs.Labels as labels
 use Rattle.scene.specs.Labels.{same, sumOf, meanOf, meanPoint, startOf, firstStart, meanOrStart, referencePoint, greater, consider, carries, bestPlace, bestItem, pointOfLabel}
-use Rattle.register.specs.Register.{Warning, isMercator, differs, pxMode, mentioned, eventOf, featureEvent, featureEvents, isLon, lonEvent, variableEvents, events, controlsIn, warningsIn, controlsOf, bothOf, anchorOf, halfAnchor, placed, allPlaced, anchorPlaced, scaleValue, above0, effectiveScale, registrationBy, registrationOf, registerRefusal, anyDeclared, ignoredWith, viewWarnings, halfWarnings, registerWarnings}
+use Rattle.register.specs.Register.{Warning, isMercator, notZero, pxMode, mentioned, eventOf, featureEvent, featureEvents, isLon, lonEvent, variableEvents, events, controlsIn, warningsIn, controlsOf, bothOf, anchorOf, halfAnchor, placed, allPlaced, anchorPlaced, scaleValue, above0, effectiveScale, registrationBy, registrationOf, registerRefusal, anyDeclared, ignoredWith, viewWarnings, halfWarnings, registerWarnings}
 
 -- ---- records, by their bytes; a float by its pattern
 abbrev float : ℕ → List ℕ
@@ -78,7 +76,7 @@ refusals :
     -- an anchor is checked also where a control point makes it unused, and one that resolves to nothing is not
     × (refusal (mercator ++ anchor 0 (edge + 1) ++ feature (65 ∷ []) 0 0 ++ place (65 ∷ []) 0 0) ≡ 8)
     × (refusal (mercator ++ anchor 0 0 ++ feature (65 ∷ []) 0 (edge + 1)) ≡ 0)
-unfolding registerRefusal registrationOf registrationBy effectiveScale above0 scaleValue anchorPlaced allPlaced placed halfAnchor anchorOf bothOf controlsOf controlsIn events variableEvents lonEvent isLon featureEvents featureEvent eventOf mentioned pxMode differs isMercator labels.variableOf same sumOf meanOf meanPoint startOf firstStart meanOrStart referencePoint greater consider carries bestPlace bestItem pointOfLabel sceneOf valueOf numberAt bit pointAt pointsAt cubicAt cubicsAt featureAt variableAt placeAt formAt pathAt itemAt scene.itemWith flattenIn part past turnOf recordsOf entries recordOf byTag endOf rescaleOf choiceOf featureOf variableOf placeOf itemOf pointsOf pathOf pathWith cubicsOf polylineOf records.itemWith itemFits itemBegins valuesWidth choiceFits choiceWidth namedThen counted labelled named plain allTo allZero floatAt floatOf u16At u32At u64At absOf ofBits ofInt neg add sub mul div rem lt eq le ne sum round units odd size climb span
+unfolding registerRefusal registrationOf registrationBy effectiveScale above0 scaleValue anchorPlaced allPlaced placed halfAnchor anchorOf bothOf controlsOf controlsIn events variableEvents lonEvent isLon featureEvents featureEvent eventOf mentioned pxMode notZero isMercator labels.variableOf same sumOf meanOf meanPoint startOf firstStart meanOrStart referencePoint greater consider carries bestPlace bestItem pointOfLabel sceneOf valueOf numberAt bit pointAt pointsAt cubicAt cubicsAt featureAt variableAt placeAt formAt pathAt itemAt scene.itemWith flattenIn part past turnOf recordsOf entries recordOf byTag endOf rescaleOf choiceOf featureOf variableOf placeOf itemOf pointsOf pathOf pathWith cubicsOf polylineOf records.itemWith itemFits itemBegins valuesWidth choiceFits choiceWidth namedThen counted labelled named plain allTo allZero floatAt floatOf u16At u32At u64At absOf ofBits ofInt neg add sub mul div rem lt eq le ne sum round units odd size climb span
 refusals = (refl, refl, refl, refl, refl, refl, refl, refl, refl, refl)
 
 -- A named twice, B without a place, an unused view's scale, C_lon without C_lat, A_lon behind the feature A, half an anchor
@@ -102,5 +100,5 @@ abbrev said : ℕ → ℕ → Warning
 said kind index = record { kind = kind; index = index }
 
 warnings : warned ≡ said 1 0 ∷ said 2 1 ∷ said 2 2 ∷ said 3 1 ∷ said 2 2 ∷ said 2 0 ∷ []
-unfolding registerWarnings viewWarnings halfWarnings ignoredWith anyDeclared warningsIn anchorPlaced allPlaced placed halfAnchor anchorOf bothOf controlsOf controlsIn events variableEvents lonEvent isLon featureEvents featureEvent eventOf mentioned pxMode differs labels.variableOf same sumOf meanOf meanPoint startOf firstStart meanOrStart referencePoint greater consider carries bestPlace bestItem pointOfLabel sceneOf valueOf numberAt bit pointAt pointsAt cubicAt cubicsAt featureAt variableAt placeAt formAt pathAt itemAt scene.itemWith flattenIn part past turnOf recordsOf entries recordOf byTag endOf rescaleOf choiceOf featureOf variableOf placeOf itemOf pointsOf pathOf pathWith cubicsOf polylineOf records.itemWith itemFits itemBegins valuesWidth choiceFits choiceWidth namedThen counted labelled named plain allTo allZero floatAt floatOf u16At u32At u64At ofBits ofInt neg add sub mul div rem lt eq le ne sum round units odd size climb span
+unfolding registerWarnings viewWarnings halfWarnings ignoredWith anyDeclared warningsIn anchorPlaced allPlaced placed halfAnchor anchorOf bothOf controlsOf controlsIn events variableEvents lonEvent isLon featureEvents featureEvent eventOf mentioned pxMode notZero labels.variableOf same sumOf meanOf meanPoint startOf firstStart meanOrStart referencePoint greater consider carries bestPlace bestItem pointOfLabel sceneOf valueOf numberAt bit pointAt pointsAt cubicAt cubicsAt featureAt variableAt placeAt formAt pathAt itemAt scene.itemWith flattenIn part past turnOf recordsOf entries recordOf byTag endOf rescaleOf choiceOf featureOf variableOf placeOf itemOf pointsOf pathOf pathWith cubicsOf polylineOf records.itemWith itemFits itemBegins valuesWidth choiceFits choiceWidth namedThen counted labelled named plain allTo allZero floatAt floatOf u16At u32At u64At ofBits ofInt neg add sub mul div rem lt eq le ne sum round units odd size climb span
 warnings = refl

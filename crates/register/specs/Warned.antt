@@ -4,9 +4,9 @@ use mathlib.Core.Bool.{Bool, true, false, _&&_}
 use mathlib.Core.List.{List, [], _∷_}
 use lib.ListN.{length, set}
 use lib.Dec.{leb}
-use Rattle.scene.specs.Scene.{Maybe, none, some, Point, Scene}
+use Rattle.scene.specs.Scene.{Maybe, none, some, Point}
 use Rattle.register.specs.declared.warnings.Warned.{Warned}
-use Rattle.register.specs.Register.{Warning, Event, control, warn}
+use Rattle.register.specs.Register.{Warning}
 
 -- the slice, and what was said of it
 pub record Sheet : Type 0 where

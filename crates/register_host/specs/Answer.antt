@@ -7,7 +7,7 @@ use Rattle.stream.specs.Payload.{payload}
 use Rattle.records.specs.Refusals.{refusalOf}
 use Rattle.scene.specs.Scene.{sceneOf}
 use Rattle.register.specs.declared.outcome.Outcome.{Outcome}
-use Rattle.register.specs.Register.{registerRefusal, registerWarnings}
+use Rattle.register.specs.Register.{registerWarnings}
 use Rattle.register.specs.Outcome.{pickOutcome, refusedBy, outcomeOf}
 use Rattle.register.specs.Warned.{Sheet, pickSheet, allPushed}
 

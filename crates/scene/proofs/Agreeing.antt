@@ -1,4 +1,4 @@
--- Two names of equal length, of which the first i bytes agree; and the bytes of a name in a payload.
+-- Two names of equal length, of which the first i bytes agree.
 use mathlib.Core.Path.{_≡_, refl, sym, _∙_}
 use mathlib.Core.Bool.{Bool, true, false}
 use mathlib.Core.List.{List}
@@ -6,20 +6,10 @@ use Prim.Native.Nat.{ℕ, _+_, _≤_, _<_}
 use native.Mathlib.Omega.{arith}
 use lib.ListN.{length, getD, drop}
 use borrow.Author.Tests.{lt-ltb}
-use Rattle.stream.specs.Payload.{payload, room, rest}
-use Rattle.stream.specs.Laws.Payload.{payload-length}
 use Rattle.records.specs.Order.{part}
 use Rattle.scene.specs.Labels.{same, carries}
 use Rattle.scene.specs.Answers.{labelBy}
-use Rattle.scene.specs.Laws.Names.{part-length, part-at, same-lengths, same-ends, same-step, same-fails}
-
-module _ (s : List ℕ) (p n : ℕ) where
-  pub name-length : p + n ≤ room s → length (part (payload s) p n) ≡ n
-  name-length h = part-length (payload s) p n (omega (arith, payload-length s))
-
-  pub name-at : {i x : ℕ} → i < n → x ≡ getD (rest s 0) (p + i) 0 → x ≡ getD (part (payload s) p n) i 0
-  unfolding rest
-  name-at {i} h e = e ∙ sym (part-at (payload s) p n i h)
+use Rattle.scene.specs.Laws.Names.{same-lengths, same-ends, same-step, same-fails}
 
 module _ (a b : List ℕ) {n m : ℕ} (la : length a ≡ n) (lb : length b ≡ m) where
   pub lengths-differ : (n ≡ m → ⊥) → false ≡ same a b

@@ -1,13 +1,12 @@
 -- What the answers to questions stand for, and which lists a question from a position on asks of.
 use mathlib.Core.Path.{_≡_}
 use Prim.Native.Nat.{ℕ, _+_, _*_, _≤_, _<_}
-use mathlib.Core.Bool.{Bool, true, false, cond}
+use mathlib.Core.Bool.{true, false, cond}
 use mathlib.Core.List.{List, [], _∷_, map}
-use lib.ListN.{length, drop, getD}
+use lib.ListN.{drop, getD}
 use lib.Dec.{ltb}
 use lib.Ieee.{Float}
 use Rattle.stream.specs.Numbers.{u16At}
-use Rattle.records.specs.Walk.{entries}
 use Rattle.records.specs.Order.{part}
 use Rattle.records.specs.Search.{recordsAt}
 use Rattle.records.specs.Hits.{Standing}

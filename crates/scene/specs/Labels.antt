@@ -1,12 +1,12 @@
 -- The point that a label names, after the source's `reference_point` and `point_of_label`.
-use Prim.Native.Nat.{ℕ, zero, suc}
-use mathlib.Core.Bool.{Bool, true, false, not, _&&_, _||_, cond}
+use Prim.Native.Nat.{ℕ, suc}
+use mathlib.Core.Bool.{Bool, true, false, not, _&&_, _||_}
 use mathlib.Core.List.{List, [], _∷_}
 use lib.ListN.{length}
 use lib.Dec.{eqb, ltb}
 use lib.IntN.{pos}
 use lib.Ieee.{Float, binary64, ofBits, ofInt, add, div}
-use Rattle.scene.specs.Scene.{Maybe, none, some, Point, Form, curve, polyline, DrawnPath, NamedValue, NamedPlace, DrawnItem, Scene}
+use Rattle.scene.specs.Scene.{Maybe, none, some, Point, Form, curve, polyline, DrawnPath, NamedValue, NamedPlace, DrawnItem}
 
 -- ---- a variable by its name
 unfoldable pub same : List ℕ → List ℕ → Bool
@@ -51,9 +51,9 @@ meanOrStart none paths = firstStart paths
 meanOrStart (some []) paths = firstStart paths
 meanOrStart (some (p ∷ ps)) paths = some (meanPoint (p ∷ ps))
 
-abbrev pub orElse : Maybe Point → Maybe Point → Maybe Point
-orElse (some p) q = some p
-orElse none q = q
+abbrev pub orElse : {A : Type 0} → Maybe A → Maybe A → Maybe A
+orElse (some x) y = some x
+orElse none y = y
 
 unfoldable pub referencePoint : DrawnItem → Maybe Point
 referencePoint it = orElse (it .at) (meanOrStart (it .points) (it .paths))

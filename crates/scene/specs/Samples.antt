@@ -3,7 +3,7 @@ use mathlib.Core.Path.{_≡_, refl}
 use mathlib.Core.List.{List, [], _∷_, _++_}
 use Prim.Native.Nat.{ℕ}
 use lib.ListN.{replicate}
-use lib.Ieee.{Float, binary64, ofBits, ofInt, add, div, sum, round, units, odd, size, climb, span}
+use lib.Ieee.{binary64, ofBits, ofInt, add, div, sum, round, units, odd, size, climb, span}
 use Rattle.stream.specs.Numbers.{u16At, u32At, u64At, floatOf, floatAt}
 use Rattle.records.specs.Records.{plain, allTo, named, labelled, namedThen, counted, allZero, choiceWidth, choiceFits, valuesWidth, itemBegins, itemFits, itemWith}
 use Rattle.records.specs.Records.{endOf, rescaleOf, choiceOf, featureOf, variableOf, placeOf, itemOf, pointsOf, pathWith, cubicsOf, polylineOf, pathOf, byTag, recordOf}
@@ -11,7 +11,7 @@ use Rattle.records.specs.Walk.{entries}
 use Rattle.records.specs.Order.{part}
 use Rattle.records.specs.Search.{past, turnOf, recordsOf}
 use Rattle.scene.specs.Scene as scene
-use Rattle.scene.specs.Scene.{Maybe, none, some, Point, Scene, sceneOf, valueOf, numberAt, bit, pointAt, pointsAt, cubicAt, cubicsAt, placeAt, formAt, pathAt, itemAt}
+use Rattle.scene.specs.Scene.{Maybe, none, some, Point, sceneOf, valueOf, numberAt, bit, pointAt, pointsAt, cubicAt, cubicsAt, placeAt, formAt, pathAt, itemAt}
 use Rattle.scene.specs.Labels.{same, sumOf, meanOf, meanPoint, startOf, firstStart, meanOrStart, referencePoint, greater, consider, carries, bestPlace, bestItem, pointOfLabel}
 
 -- ---- floats: 0 and 1 to 4

@@ -1,8 +1,8 @@
 -- The scene that a payload holds, with the fields of the source's scene.rs: each read off its record's bytes, from the tag on.
 use Prim.Native.Nat.{ℕ, zero, suc, _+_, _/_, _%_}
-use mathlib.Core.Bool.{Bool, true, false, cond}
+use mathlib.Core.Bool.{Bool, true, false}
 use mathlib.Core.List.{List, [], _∷_, map}
-use lib.ListN.{getD, drop}
+use lib.ListN.{getD}
 use lib.Dec.{eqb, ltb}
 use lib.Ieee.{Float, binary64, ofBits}
 use Rattle.stream.specs.Numbers.{u16At, u32At, floatAt}

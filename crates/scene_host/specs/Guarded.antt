@@ -5,7 +5,7 @@ use mathlib.Core.List.{List}
 use lib.ListN.{length}
 use lib.Dec.{leb}
 use Rattle.records.specs.Order.{part}
-use Rattle.scene.specs.Scene.{Maybe, none, some, Point, pointAt, Scene, sceneOf}
+use Rattle.scene.specs.Scene.{Maybe, none, some, Point, pointAt, sceneOf}
 use Rattle.scene.specs.Labels.{pointOfLabel}
 
 -- the i-th point of those from `at` on

@@ -1,5 +1,4 @@
 -- `fit` of the source's register.rs with its frame Mercator: the least-squares similarity through control points, worked out about a first anchor and again about the anchor found. Each sum runs in control order.
-use Prim.Native.Nat.{ℕ}
 use mathlib.Core.Bool.{Bool, true, false, not, _&&_, _||_}
 use mathlib.Core.List.{List, [], _∷_, map}
 use lib.ListN.{length}
@@ -7,7 +6,6 @@ use lib.IntN.{pos}
 use lib.Ieee.{Float, binary64, ofBits, ofInt, neg, add, sub, mul, div, le, lt}
 use lib.Ieee.Scale.{finite}
 use Rattle.elementary.specs.Functions.{toDegreesOf, hypotOf, atan2Of}
-use Rattle.geodesy.specs.declared.LonLat.{LonLat}
 use Rattle.geodesy.specs.declared.Metres.{Metres}
 use Rattle.geodesy.specs.Geodesy.{mercatorForwardOf, mercatorInverseOf}
 use Rattle.similarity.specs.declared.fit.Control.{Control}

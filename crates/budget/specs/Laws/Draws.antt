@@ -1,10 +1,10 @@
 -- Demand 3's first sentence: the claim holds of any list of draws from any allowance.
 use mathlib.Core.Path.{_≡_, refl}
 use mathlib.Core.Bool.{Bool, true, false, cond}
-use mathlib.Core.List.{List, [], _∷_, _++_}
-use Prim.Native.Nat.{ℕ, _+_, _-_, _≤_, _<_, min, max}
+use mathlib.Core.List.{List, [], _∷_}
+use Prim.Native.Nat.{ℕ, _+_, _-_, _≤_, min}
 use native.Mathlib.Omega.{arith}
-use lib.Dec.{ltb, leb}
+use lib.Dec.{ltb}
 use borrow.Author.Tests.{ltb-true, ltb-false}
 use Rattle.budget.specs.Budget.{grantOf}
 use Rattle.budget.specs.Draws.{Draw, leftAfter, granted, overrun, shortFloors, Fair, Claim}

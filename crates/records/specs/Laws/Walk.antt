@@ -14,7 +14,7 @@ use Rattle.records.specs.declared.records.Step.{Step}
 use Rattle.records.specs.declared.records.Step.the-variants.{Got, End, Bad}
 use Rattle.records.specs.Records.{recordOf}
 use Rattle.records.specs.Walk.{entries, ends}
-use Rattle.records.specs.Laws.Records.{sizeOf, Fields, Stands, stands, cubics-size, polyline-size}
+use Rattle.records.specs.Laws.Records.{sizeOf, Fields, stands, cubics-size, polyline-size}
 
 -- ---- what a record that was read tells of its bytes
 module _ (l : List ℕ) {r : Record} {k : ℕ} (e : recordOf l ≡ Got r k) where

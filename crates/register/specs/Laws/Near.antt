@@ -1,17 +1,15 @@
 -- What condition 4 leaves of a scene: every place and every measure of an item is at most 1,000,000 in magnitude, and so is each point that a label names. Assumes nothing.
 use mathlib.Core.Path.{_≡_, refl, sym, subst}
-use mathlib.Core.Logic.{⊎-elim}
 use mathlib.Core.Bool.{Bool, true, false, _&&_, cond, false≢true}
 use mathlib.Core.List.{List, [], _∷_, map}
 use Prim.Native.Nat.{ℕ, zero, suc, _+_, _-_, _*_, _/_, _%_, _≤_, _<_, _^_}
-use native.Mathlib.Nat.{eq-or-lt-of-le, le-of-suc-le-suc, zero-lt-suc}
+use native.Mathlib.Nat.{zero-lt-suc}
 use native.Mathlib.Omega.{arith}
 use lib.ListN.{length, length-map}
 use lib.Dec.{eqb}
 use borrow.Author.Tests.{eqb-true}
 use lib.Ieee.{Float, binary64, neg, add, le, ofBits}
 use Rattle.float.specs.Laws.Intervals.{Between}
-use Rattle.float.specs.Laws.Remainder.{Whole}
 use Rattle.float.specs.Laws.Tests.{yes}
 use Rattle.float.specs.Laws.Spans.{Spans, Few, Each, total, ends-spans, spans-ends, mean-spans}
 use Rattle.stream.specs.Numbers.{u16At, floatAt}
@@ -21,7 +19,7 @@ use Rattle.records.specs.declared.records.Record.{Record}
 use Rattle.records.specs.declared.records.Record.the-variants.{Rescale, Choice, Feature, Variable, Place, Item, Points, Path}
 use Rattle.records.specs.declared.records.Step.{Step}
 use Rattle.records.specs.declared.records.Step.the-variants.{Got, End, Bad}
-use Rattle.records.specs.Records.{allTo, valuesWidth, recordOf}
+use Rattle.records.specs.Records.{valuesWidth, recordOf}
 use Rattle.records.specs.Walk.{Entry, tagOf, more, entries}
 use Rattle.records.specs.Search.{keyOf, past, turnOf, sought, recordsOf}
 use Rattle.records.specs.Limits.{near, nears, limitedAt, allLimited, limited}

@@ -43,7 +43,8 @@ use Rattle.records.specs.Laws.Tests.{and-left, and-right}
 use Rattle.records.specs.Laws.Refusals.{is-short, is-limited}
 use Rattle.scene.specs.Scene.{Maybe, none, some, first, valueOf, numberAt, Point, NamedFeature, NamedValue, variableAt, Scene, sceneOf}
 use Rattle.scene.specs.Labels.{same, pick, variableOf}
-use Rattle.register.specs.Register.{geoBearing, geoFrame, suffixLat, f0, f1, maxScale, orElse, orValue, isSome, var, isMercator, pxMode, declaredBearing}
+use Rattle.scene.specs.Labels.{orElse}
+use Rattle.register.specs.Register.{geoBearing, geoFrame, suffixLat, f0, f1, maxScale, orValue, isSome, var, isMercator, pxMode, declaredBearing}
 use Rattle.register.specs.Register.{Warning, Event, control, warn, resolved, mentioned, eventOf, featureEvent, featureEvents, stem, isLon, lonEvent, onto, variableEvents, events, controlsIn, controlsOf}
 use Rattle.register.specs.Register.{anchorOf, placed, allPlaced, anchorPlaced, scaleValue, above0, effectiveScale, declaredAt, fitted, registrationBy, registrationOf, registerRefusal}
 use Rattle.register.specs.Laws.Near.{Holds, Near, NearPoint, NearScene, longest, label-near, limited-near}

@@ -2,7 +2,6 @@ use borrow.Author.Needs.{needs}
 use borrow.Author.Tests.{not-true, not-false}
 use mathlib.Core.Path.{_≡_, sym, _∙_}
 use mathlib.Core.Bool.{true}
-use Rattle.stream.specs.Blocks.{blocksOf}
 use Rattle.stream.specs.Payload.{payload}
 use Rattle.records.specs.Layout.{laidOut}
 use Rattle.records.proofs.Refusing.{by-size, by-check, by-layout, by-limits, by-values, one-block}

@@ -7,7 +7,8 @@ use Rattle.stream.specs.Payload.{payload}
 use Rattle.stream.specs.Laws.Payload.{rest-length}
 use Rattle.records.specs.Order.{part}
 use Rattle.register.specs.Runs.{commonOf}
-use Rattle.register.proofs.RunsBytes.{name-length, name-at, first-ends, second-ends, bytes-differ, bytes-agree}
+use Rattle.records.specs.Laws.Names.{name-length, name-at}
+use Rattle.register.proofs.RunsBytes.{first-ends, second-ends, bytes-differ, bytes-agree}
 use Rattle.register.proofs.runs.common.Statement.{statement}
 use Rattle.register.proofs.runs.common.Tie as tie
 

@@ -6,8 +6,9 @@ use lib.ListN.{drop}
 use Rattle.stream.specs.Payload.{payload}
 use Rattle.stream.specs.Laws.Payload.{rest-length}
 use Rattle.records.specs.Order.{part}
+use Rattle.records.specs.Laws.Names.{name-length, name-at}
 use Rattle.scene.specs.Labels.{same}
-use Rattle.scene.proofs.Agreeing.{name-length, name-at, lengths-differ, all-agree, one-differs, one-agrees}
+use Rattle.scene.proofs.Agreeing.{lengths-differ, all-agree, one-differs, one-agrees}
 use Rattle.scene.proofs.names.same_name.Statement.{statement}
 use Rattle.scene.proofs.names.same_name.Tie as tie
 
