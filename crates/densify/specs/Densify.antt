@@ -240,12 +240,16 @@ roundedCorners c hw hh r per =
     ++ (roundTo (cornerPoint (record { x = east; y = north }) r K.zero per) (suc per)
     ++ roundTo (cornerPoint (record { x = west; y = north }) r c90 per) (suc per)))
 
+-- a quarter of a full circle's vertices for each corner, two at least
+unfoldable pub quarterOf : Float → Float → Float → Float → ℕ
+quarterOf step scale r tol = max 2 ((arcVerticesOf step scale r tol + 3) / 4)
+
 unfoldable pub boxRingOf : Float → Float → Float → Point → Float → Float → Float → Budget → Made
 boxRingOf step scale tol c w h rad b =
     let hw = div binary64 w K.two in
     let hh = div binary64 h K.two in
     let r = minOf (minOf (maxOf rad K.zero) hw) hh in
-    let quarter = max 2 ((arcVerticesOf step scale r tol + 3) / 4) in
+    let quarter = quarterOf step scale r tol in
     pickMade (le r K.zero)
     (drawing b 4 4 (λ n. closeRingOf (sharpCorners c hw hh)))
     (drawing b (quarter * 4) 8 (λ n. closeRingOf (roundedCorners c hw hh r (n / 4))))

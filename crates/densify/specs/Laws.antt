@@ -1,4 +1,9 @@
 -- The laws of these definitions that callers use.
 pub mod Writing
+pub mod Closing
+pub mod Segments
+pub mod Rounds
 pub mod Replay
 pub mod Counts
+pub mod Sizes
+pub mod Bounds

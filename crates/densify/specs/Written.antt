@@ -1,14 +1,18 @@
 -- What a producer leaves in a lent slice, two floats a point.
-use Prim.Native.Nat.{ℕ, _+_}
+use Prim.Native.Nat.{ℕ, zero, suc, _+_, _-_, _*_, _/_, _≤_}
 use mathlib.Core.Path.{_≡_}
-use mathlib.Core.Bool.{true}
-use mathlib.Core.List.{List, [], _∷_, _++_}
+use mathlib.Core.Bool.{true, false, cond}
+use mathlib.Core.List.{List, [], _∷_, _++_, map}
 use lib.ListN.{length, take, drop, getD}
 use lib.Dec.{leb}
 use lib.Ieee.{Float, nan}
-use Rattle.scene.specs.Scene.{Point}
+use Rattle.similarity.specs.declared.projection.Projection.{Projection}
+use Rattle.similarity.specs.Projection.{geoBy}
+use Rattle.scene.specs.declared.sections.Path.{Path}
+use Rattle.scene.specs.Scene.{Point, DrawnPath}
+use Rattle.scene.specs.Answers.{formBy}
 use Rattle.densify.specs.declared.writing.Done.{Done}
-use Rattle.densify.specs.Densify.{Made, Block}
+use Rattle.densify.specs.Densify.{Made, Block, samePoint}
 
 -- ---- arrays of the code as points
 abbrev pub pointIn : List Float → Point
@@ -22,6 +26,26 @@ unfoldable pub flats : List Point → List Float
 flats [] = []
 flats (p ∷ ps) = p .x ∷ p .y ∷ flats ps
 
+-- the point whose numbers stand at i
+abbrev pub pointOf : List Float → ℕ → Point
+pointOf w i = record { x = getD w i nan; y = getD w (i + 1) nan }
+
+-- n points from i on, and all that stand from `from` to `to`
+unfoldable pub pointsOf : List Float → ℕ → ℕ → List Point
+pointsOf w i zero = []
+pointsOf w i (suc n) = pointOf w i ∷ pointsOf w (i + 2) n
+
+unfoldable pub pointsIn : List Float → ℕ → ℕ → List Point
+pointsIn w from to = pointsOf w from ((to - from) / 2)
+
+-- what close_ring adds to points that begin with p and end with q
+unfoldable pub closing : Point → Point → List Point
+closing p q = cond (samePoint p q) [] (p ∷ [])
+
+-- to those that stand from `from` to `at`
+unfoldable pub closingIn : List Float → ℕ → ℕ → List Point
+closingIn w from at = cond (leb (from + 2) at) (closing (pointOf w from) (pointOf w (at - 2))) []
+
 -- w with vs in the place of what stood there from `at` on
 unfoldable pub put : List Float → ℕ → List Float → List Float
 put w at vs = take at w ++ (vs ++ drop (at + length vs) w)
@@ -34,3 +58,21 @@ pub record Written (w w′ : List Float) (at : ℕ) (m : Made) (r : Done) : Type
   pub holds : r .ok ≡ true → w′ ≡ put w at (flats (m .points))
   pub before : take at w′ ≡ take at w
   pub kept : length w′ ≡ length w
+
+-- ---- a path that the code holds by where its points stand
+abbrev pub drawnBy : List ℕ → Path → DrawnPath
+drawnBy l p = record { closed = p .closed; form = formBy l p }
+
+-- its points lie within a payload of n bytes
+pub record PathFits (n : ℕ) (p : Path) : Type 0 where
+  pub start : p .curve ≡ true → p .start + 16 ≤ n
+  pub cubics : p .curve ≡ true → p .at + 48 * p .count ≤ n
+  pub points : p .curve ≡ false → p .at + 16 * p .count ≤ n
+
+-- ---- positions: longitude as x, latitude as y
+unfoldable pub placedBy : Projection → Point → Point
+placedBy t p = let g = geoBy t (p .x) (p .y) in record { x = g .lon; y = g .lat }
+
+-- the same draws, each point carried to the Earth
+abbrev pub placing : Projection → Made → Made
+placing t m = record { points = map (placedBy t) (m .points); after = m .after; draws = m .draws }

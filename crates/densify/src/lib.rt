@@ -1,12 +1,21 @@
 // Points on the canvas, after the source's densify.rs.
 mod counts;
 mod cubic;
+mod paths;
+mod rings;
 mod segments;
 mod writing;
 
 pub use counts::arc_vertices;
 pub use counts::parts;
 pub use cubic::flatten_cubic;
-pub use segments::along;
+pub use paths::copy_points;
+pub use paths::path_points;
+pub use rings::box_ring;
+pub use rings::ellipse_ring;
+pub use segments::densify_polyline;
 pub use segments::segment_want;
+pub use segments::spend_polyline;
 pub use writing::Done;
+pub use writing::close_ring;
+pub use writing::put_point;

@@ -1,10 +1,18 @@
 // A straight segment in parts, handed on point by point.
 ghost use mathlib.Core.Path.{_≡_};
-ghost use Prim.Native.Nat.{_<_};
-ghost use Rattle.densify.specs.Densify.{segmentWant, alongOf};
-ghost use Rattle.densify.specs.Written.{pointIn};
+ghost use Prim.Native.Nat.{_+_, _≤_, _<_};
+ghost use mathlib.Core.List.{[], _∷_, map};
+ghost use lib.ListN.{length};
+ghost use Rattle.densify.specs.Densify.{plain, segmentWant, alongOf, samplesTo, densifyPolylineOf};
+ghost use Rattle.densify.specs.Written.{pointIn, pointsIn, placedBy, placing, Written};
 use crate::counts::parts;
+use crate::writing::Done;
+use crate::writing::put_point;
+use budget::Budget;
+use budget::draw;
 use elementary::hypot;
+use similarity::Projection;
+use similarity::geo;
 
 // How many vertices a segment wants: one for each of its parts.
 pub fn segment_want(step: f64, scale: f64, a: [f64; 2], b: [f64; 2]) -> usize
@@ -21,4 +29,121 @@ pub fn along(a: [f64; 2], b: [f64; 2], k: usize, n: usize) -> [f64; 2]
 {
     let t = k as f64 / n as f64;
     [a[0] + t * (b[0] - a[0]), a[1] + t * (b[1] - a[1])]
+}
+
+// The positions of a segment's n parts, written into `out`.
+fn place_segment(
+    t: Projection,
+    a: [f64; 2],
+    b: [f64; 2],
+    n: usize,
+    budget: Budget,
+    out: &mut [f64],
+    at: usize,
+) -> Done
+    requires { ⌜ (n < 4294967295) × (at ≤ length (now out)) ⌝ }
+    ensures { λ r. ⌜ Written (now (out .entry)) (now (out .exit)) at (plain (map (placedBy t) (samplesTo (λ k. alongOf (pointIn a) (pointIn b) k n) n)) budget) r ⌝ }
+{
+    let mut next = at;
+    let mut k = 1usize;
+    while k <= n {
+        let p = along(a, b, k, n);
+        let g = geo(t, p[0], p[1]);
+        let d = put_point(g.lon, g.lat, budget, out, next);
+        if !d.ok {
+            return d;
+        }
+        next = d.at;
+        k += 1;
+    }
+    Done {
+        ok: true,
+        at: next,
+        budget: budget,
+    }
+}
+
+// The positions of the polyline whose points stand in `work` from `from` to `to`, densified to this step: each is written into `out` as it is made.
+pub fn densify_polyline(
+    t: Projection,
+    step: f64,
+    work: &[f64],
+    from: usize,
+    to: usize,
+    budget: Budget,
+    out: &mut [f64],
+    at: usize,
+) -> Done
+    requires { ⌜ (from ≤ to) × (to ≤ length (now work)) × (at ≤ length (now out)) ⌝ }
+    ensures { λ r. ⌜ Written (now (out .entry)) (now (out .exit)) at (placing t (densifyPolylineOf step (t .scale) (pointsIn (now (work .entry)) from to) budget)) r ⌝ }
+{
+    if to - from < 2 {
+        return Done {
+            ok: true,
+            at: at,
+            budget: budget,
+        };
+    }
+    let mut ax = work[from];
+    let mut ay = work[from + 1];
+    let g = geo(t, ax, ay);
+    let first = put_point(g.lon, g.lat, budget, out, at);
+    if !first.ok {
+        return first;
+    }
+    let mut left = budget;
+    let mut next = first.at;
+    let mut i = from + 2;
+    while to - i >= 2 {
+        let bx = work[i];
+        let by = work[i + 1];
+        let want = segment_want(step, t.scale, [ax, ay], [bx, by]);
+        let taken = draw(left, want, 1);
+        left = taken.budget;
+        let d = place_segment(t, [ax, ay], [bx, by], taken.granted, left, out, next);
+        if !d.ok {
+            return d;
+        }
+        next = d.at;
+        ax = bx;
+        ay = by;
+        i += 2;
+    }
+    Done {
+        ok: true,
+        at: next,
+        budget: left,
+    }
+}
+
+// What such a polyline leaves of the budget where its positions are not written.
+pub fn spend_polyline(
+    step: f64,
+    scale: f64,
+    work: &[f64],
+    from: usize,
+    to: usize,
+    budget: Budget,
+) -> Budget
+    requires { ⌜ (from ≤ to) × (to ≤ length (now work)) ⌝ }
+    ensures { λ r. ⌜ r ≡ densifyPolylineOf step scale (pointsIn (now (work .entry)) from to) budget .after ⌝ }
+{
+    if to - from < 2 {
+        return budget;
+    }
+    let mut ax = work[from];
+    let mut ay = work[from + 1];
+    let mut left = budget;
+    let mut i = from + 2;
+    while to - i >= 2 {
+        let bx = work[i];
+        let by = work[i + 1];
+        let want = segment_want(step, scale, [ax, ay], [bx, by]);
+        let taken = draw(left, want, 1);
+        left = taken.budget;
+        ax = bx;
+        ay = by;
+        i += 2;
+    }
+    left
 }

@@ -2,8 +2,10 @@
 ghost use mathlib.Core.Path.{_≡_};
 ghost use Prim.Native.Nat.{_≤_};
 ghost use lib.ListN.{length};
-ghost use Rattle.densify.specs.Densify.{leafOf};
-ghost use Rattle.densify.specs.Written.{pointIn, Written};
+ghost use mathlib.Core.List.{[], _∷_};
+ghost use Rattle.scene.specs.Scene.{Point};
+ghost use Rattle.densify.specs.Densify.{plain, leafOf};
+ghost use Rattle.densify.specs.Written.{pointIn, closingIn, Written};
 use budget::Budget;
 use budget::draw;
 
@@ -41,4 +43,48 @@ pub fn leaf(flat: bool, p: [f64; 2], budget: Budget, work: &mut [f64], at: usize
         at: at + 2,
         budget: after,
     }
+}
+
+// One point more; it draws nothing.
+pub fn put_point(x: f64, y: f64, budget: Budget, work: &mut [f64], at: usize) -> Done
+    requires { ⌜ at ≤ length (now work) ⌝ }
+    ensures { λ r. ⌜ Written (now (work .entry)) (now (work .exit)) at (plain (record { x = x; y = y } ∷ []) budget) r ⌝ }
+{
+    if work.len() - at < 2 {
+        return Done {
+            ok: false,
+            at: at,
+            budget: budget,
+        };
+    }
+    work[at] = x;
+    work[at + 1] = y;
+    Done {
+        ok: true,
+        at: at + 2,
+        budget: budget,
+    }
+}
+
+// Makes a ring of the points that stand from `from` to `at`: the first once more, unless the last equals it. By value, so that -0.0 equals 0.0.
+pub fn close_ring(budget: Budget, work: &mut [f64], from: usize, at: usize) -> Done
+    requires { ⌜ (from ≤ at) × (at ≤ length (now work)) ⌝ }
+    ensures { λ r. ⌜ Written (now (work .entry)) (now (work .exit)) at (plain (closingIn (now (work .entry)) from at) budget) r ⌝ }
+{
+    let open = Done {
+        ok: true,
+        at: at,
+        budget: budget,
+    };
+    if at - from < 2 {
+        return open;
+    }
+    let x = work[from];
+    let y = work[from + 1];
+    if x == work[at - 2] {
+        if y == work[at - 1] {
+            return open;
+        }
+    }
+    put_point(x, y, budget, work, at)
 }

@@ -1,6 +1,7 @@
 -- Canvas points to the Earth: `plane_offset` and `to_lonlat` of the source's register.rs, operation by operation.
 use mathlib.Core.Path.{_≡_, refl}
-use lib.Ieee.{Float, binary64, neg, add, sub, mul}
+use lib.Ieee.{Float, binary64, ofBits, neg, add, sub, mul, div}
+use Rattle.float.specs.Functions.{roundOf}
 use Rattle.elementary.specs.Functions.{toRadiansOf, sinOf, cosOf}
 use Rattle.geodesy.specs.declared.LonLat.{LonLat}
 use Rattle.geodesy.specs.declared.Metres.{Metres}
@@ -48,3 +49,20 @@ projectOf p x y =
 pub projects : (r : Registration) (x y : Float) → projectOf (projectionOf r) x y ≡ toLonLatOf r x y
 unfolding projectOf projectionOf toLonLatOf planeOffsetOf
 projects r x y = refl
+
+-- ---- `round9` and `geo` of the source's convert.rs: the position that is given out
+abbrev pub billion : Float
+billion = ofBits binary64 0x41cdcd6500000000
+
+unfoldable pub round9Of : Float → Float
+round9Of v = div binary64 (roundOf (mul binary64 v billion)) billion
+
+unfoldable pub geoOf : Registration → Float → Float → LonLat
+geoOf r x y = let p = toLonLatOf r x y in record { lon = round9Of (p .lon); lat = round9Of (p .lat) }
+
+unfoldable pub geoBy : Projection → Float → Float → LonLat
+geoBy t x y = let p = projectOf t x y in record { lon = round9Of (p .lon); lat = round9Of (p .lat) }
+
+pub geo-projects : (r : Registration) (x y : Float) → geoBy (projectionOf r) x y ≡ geoOf r x y
+unfolding geoBy geoOf
+geo-projects r x y = rw projects

@@ -7,5 +7,6 @@ pub use fit::Fit;
 pub use fit::fit_points;
 pub use projection::Projection;
 pub use projection::Registration;
+pub use projection::geo;
 pub use projection::project;
 pub use projection::projection_of;

@@ -1,9 +1,10 @@
 // Canvas points to the Earth.
 ghost use mathlib.Core.Path.{_≡_};
-ghost use Rattle.similarity.specs.Projection.{projectionOf, projectOf};
+ghost use Rattle.similarity.specs.Projection.{projectionOf, projectOf, round9Of, geoBy};
 use elementary::cos;
 use elementary::sin;
 use elementary::to_radians;
+use float::round;
 use geodesy::LonLat;
 use geodesy::Metres;
 use geodesy::mercator_forward;
@@ -69,4 +70,22 @@ pub fn project(p: Projection, x: f64, y: f64) -> LonLat
         x: p.east + e,
         y: p.north + n,
     })
+}
+
+// Nine decimals, about 0.1 mm.
+fn round9(v: f64) -> f64
+    ensures { λ r. ⌜ r ≡ round9Of v ⌝ }
+{
+    round(v * 1e9) / 1e9
+}
+
+// The position that is given out for a canvas point.
+pub fn geo(p: Projection, x: f64, y: f64) -> LonLat
+    ensures { λ r. ⌜ r ≡ geoBy p x y ⌝ }
+{
+    let at = project(p, x, y);
+    LonLat {
+        lon: round9(at.lon),
+        lat: round9(at.lat),
+    }
 }

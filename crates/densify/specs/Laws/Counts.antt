@@ -17,7 +17,7 @@ use Rattle.budget.specs.Budget.{grantOf, takeOf}
 use Rattle.scene.specs.Scene.{Point, Cubic, Form, curve, polyline, DrawnPath}
 use Rattle.densify.specs.Densify.{Made, drawing, andThen, clamped, tiny, Block, flatOf, firstOf, secondOf, leafOf, pickMade, splitOf, flattenCubicOf, cubicsOf, formPoints}
 use Rattle.densify.specs.Densify.{samePoint, lastOf, closeRingOf, closedIf, pathPointsOf, partsOf, alongOf, samplesTo, segmentOf, segmentsOf, densifyPolylineOf}
-use Rattle.densify.specs.Densify.{arcVerticesOf, roundTo, ellipseRingOf, sharpCorners, roundedCorners, boxRingOf}
+use Rattle.densify.specs.Densify.{arcVerticesOf, roundTo, ellipseRingOf, sharpCorners, roundedCorners, quarterOf, boxRingOf}
 use Rattle.densify.specs.Laws.Replay.{grantsOf, grantsOf-append, blockOf, radiusOf}
 
 -- ---- numbers
@@ -291,12 +291,12 @@ module _ (step scale tol : Float) (c : Point) where
     box-sharp t = rw t (sharp-ring c _ _ b)
 
     pub box-rounded : le (radiusOf w h rad) K.zero ≡ false → Ring 8 5 box
-    unfolding boxRingOf
+    unfolding boxRingOf quarterOf
     box-rounded t = rw t (rounded-ring c _ _ b _ _ (omega arith))
 
     pub box-rounded-least : le (radiusOf w h rad) K.zero ≡ false → 12 ≤ length (box .points)
-    unfolding boxRingOf
-    box-rounded-least t = rw t (rounded-least c _ _ b _ (max 2 ((arcVerticesOf step scale (radiusOf w h rad) tol + 3) / 4)) (omega arith))
+    unfolding boxRingOf quarterOf
+    box-rounded-least t = rw t (rounded-least c _ _ b _ (quarterOf step scale (radiusOf w h rad) tol) (omega arith))
 
     pub box-ring : Ring 4 5 box
     box-ring = go (le (radiusOf w h rad) K.zero) refl

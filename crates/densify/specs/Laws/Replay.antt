@@ -51,7 +51,7 @@ unfolding leftAfter
 leftAfter-append left [] es = refl
 leftAfter-append left (d ∷ ds) es = leftAfter-append (left - grantOf left (d .want) (d .floor)) ds es
 
-granted-append : (b : Budget) (ds es : List Drawn) → Granted b ds → Granted (replayed b ds) es → Granted b (ds ++ es)
+pub granted-append : (b : Budget) (ds es : List Drawn) → Granted b ds → Granted (replayed b ds) es → Granted b (ds ++ es)
 unfolding replayed
 granted-append b [] es g h = h
 granted-append b (d ∷ ds) es g h = (g .0, granted-append (drawn b d) ds es (g .1) h)

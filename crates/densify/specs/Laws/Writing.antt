@@ -136,6 +136,32 @@ module _ {w w₁ : List Float} {at : ℕ} {a : Made} {r : Done} (one : Written w
         kept = two .kept ∙ one .kept;
       }
 
+-- only the points and what is left are told
+pub written-as : {w w′ : List Float} {at : ℕ} {r : Done} (m n : Made) → m .points ≡ n .points → m .after ≡ n .after → Written w w′ at m r → Written w w′ at n r
+written-as m n e f h =
+    record {
+      asked = rw (← e) (h .asked);
+      next = rw (← e) (h .next);
+      left = rw (← f) (h .left);
+      holds = rw (← e) (h .holds);
+      before = h .before;
+      kept = h .kept;
+    }
+
+-- ---- loops: whatever writes the rest from here has written the whole
+abbrev pub Leads : List Float → ℕ → Made → List Float → ℕ → Made → Type 0
+Leads w at m w₁ at₁ rest = (w₂ : List Float) (r : Done) → Written w₁ w₂ at₁ rest r → Written w w₂ at m r
+
+module _ {w w₁ w₂ : List Float} {at at₁ : ℕ} {m a : Made} {r : Done} (f : Budget → Made) (l : Leads w at m w₁ at₁ (andThen a f)) (one : Written w₁ w₂ at₁ a r) where
+  pub leads-next : r .ok ≡ true → Leads w at m w₂ (r .at) (f (r .budget))
+  leads-next fits w₃ s h = l w₃ s (join-done one f fits h)
+
+  pub leads-short : r .ok ≡ false → Written w w₂ at m r
+  leads-short short = l w₂ r (join-short one f short)
+
+pub leads-end : {w w₁ : List Float} {at at₁ : ℕ} {m : Made} {b : Budget} → Leads w at m w₁ at₁ (plain [] b) → at₁ ≤ length w₁ → Written w w₁ at m (record { ok = true; at = at₁; budget = b })
+leads-end {w} {w₁} {at} {at₁} {m} {b} l h = l w₁ _ (written-none w₁ at₁ b h)
+
 -- ---- andThen
 pub andThen-none : (a : Made) → andThen a (plain []) ≡ a
 andThen-none a = simp append-nil

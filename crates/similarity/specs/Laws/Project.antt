@@ -6,7 +6,6 @@ use native.Mathlib.Omega.{arith}
 use lib.Dec.{T, lit<, lit≤}
 use lib.Ieee.{Float, binary64, fits, neg, add, sub, mul, div, le, ofBits}
 use lib.Ieee.Scale.{finite}
-use Rattle.float.specs.Functions.{roundOf}
 use Rattle.float.specs.Laws.Signed.{P, N, D}
 use Rattle.float.specs.Laws.Magnitude.{Within, wider}
 use Rattle.float.specs.Laws.Remainder.{Whole}
@@ -24,7 +23,7 @@ use Rattle.geodesy.specs.declared.LonLat.{LonLat}
 use Rattle.geodesy.specs.Geodesy.{mercatorForwardOf}
 use Rattle.geodesy.specs.Laws.Finite.{m180, c90, OnEarth, inverse-in, forward-east, forward-anchor}
 use Rattle.similarity.specs.declared.projection.Registration.{Registration}
-use Rattle.similarity.specs.Projection.{anchorOf, planeOffsetOf, toLonLatOf}
+use Rattle.similarity.specs.Projection.{anchorOf, planeOffsetOf, toLonLatOf, billion, round9Of, geoOf}
 
 -- 1,000,000 and 1,000,000,000
 abbrev pub million : Float
@@ -72,13 +71,13 @@ north = plus (var 7) (plus (times (minus dx) (var 6)) (times dy (var 5)))
 
 abbrev ranges : List Iv
 ranges =
-    iv (minus2^ 22) (plus2^ 22) ∷ iv mMillion million ∷ iv (minus2^ 22) (plus2^ 22) ∷ iv mMillion million ∷ iv K.zero maxScale ∷ iv low-bound bound ∷ iv low-bound bound ∷ iv (minus2^ 40) (plus2^ 40) ∷ []
+    iv (minus2^ 24) (plus2^ 24) ∷ iv mMillion million ∷ iv (minus2^ 24) (plus2^ 24) ∷ iv mMillion million ∷ iv K.zero maxScale ∷ iv low-bound bound ∷ iv low-bound bound ∷ iv (minus2^ 40) (plus2^ 40) ∷ []
 
 plane-test : T (encloses east ranges (minus2^ 60) (plus2^ 60)) × T (encloses north ranges (minus2^ 60) (plus2^ 60))
 unfolding ofBits neg add sub mul le
 plane-test = (tt, tt)
 
-pub project-in : (r : Registration) → Sound r → (x y : Float) → Within 22 x → Within 22 y → OnEarth (toLonLatOf r x y)
+pub project-in : (r : Registration) → Sound r → (x y : Float) → Within 24 x → Within 24 y → OnEarth (toLonLatOf r x y)
 unfolding toLonLatOf planeOffsetOf
 project-in r S x y v w =
     let b = toRadiansOf (r .bearing) in
@@ -95,22 +94,17 @@ project-in r S x y v w =
   where
     here : (b : Float) → T (finite b) → (e : Float) → Within 40 e → AllIn ranges (x ∷ r .x ∷ y ∷ r .y ∷ r .scale ∷ cosOf b ∷ sinOf b ∷ e ∷ [])
     here b f e i =
-        (within-between 22 x v, (S .x, (within-between 22 y w, (S .y, (S .scale, (unit-in (cosOf b) (cos-unit b f), (unit-in (sinOf b) (sin-unit b f), (within-between 40 e i, tt))))))))
+        (within-between 24 x v, (S .x, (within-between 24 y w, (S .y, (S .scale, (unit-in (cosOf b) (cos-unit b f), (unit-in (sinOf b) (sin-unit b f), (within-between 40 e i, tt))))))))
 
 -- ---- nine decimals
-abbrev pub billion : Float
-billion = maxScale
-
-abbrev pub rounded : Float → Float
-rounded v = div binary64 (roundOf (mul binary64 v billion)) billion
-
 billion-whole : Whole billion (10 ^ 9)
 unfolding ofBits
 billion-whole = record { is-finite = tt; up-is = refl; no-minus = refl }
 
-pub rounded-in : (k : ℕ) (c v : Float) → Whole c k → 2 * (10 ^ 9 * k) ≤ 2 ^ 53 → Between (neg c) c v → Between (neg c) c (rounded v)
+pub rounded-in : (k : ℕ) (c v : Float) → Whole c k → 2 * (10 ^ 9 * k) ≤ 2 ^ 53 → Between (neg c) c v → Between (neg c) c (round9Of v)
+unfolding round9Of
 rounded-in k c v h w i =
-    spans-ends k c (rounded v) h
+    spans-ends k c (round9Of v) h
     (div-spans (10 ^ 9) billion (lit< tt) billion-whole (omega arith) (whole-spans round-cuts (omega arith) (mul-spans (10 ^ 9) billion billion-whole (omega arith) (ends-spans k c v h i))))
 
 whole-180 : Whole K.c180 180
@@ -121,5 +115,10 @@ whole-90 : Whole c90 90
 unfolding ofBits
 whole-90 = record { is-finite = tt; up-is = refl; no-minus = refl }
 
-pub rounded-earth : (p : LonLat) → OnEarth p → OnEarth (record { lon = rounded (p .lon); lat = rounded (p .lat) })
+pub rounded-earth : (p : LonLat) → OnEarth p → OnEarth (record { lon = round9Of (p .lon); lat = round9Of (p .lat) })
 rounded-earth p h = (rounded-in 180 K.c180 (p .lon) whole-180 (lit≤ tt) (h .0), rounded-in 90 c90 (p .lat) whole-90 (lit≤ tt) (h .1))
+
+-- the position given out for a canvas point
+pub geo-in : (r : Registration) → Sound r → (x y : Float) → Within 24 x → Within 24 y → OnEarth (geoOf r x y)
+unfolding geoOf
+geo-in r S x y v w = rounded-earth (toLonLatOf r x y) (project-in r S x y v w)

@@ -1,18 +1,9 @@
-use Prim.Native.Nat.{ℕ, _^_, _<_}
-use native.Mathlib.Omega.{arith}
 use mathlib.Core.Path.{refl}
-use lib.IntN.{pos}
-use lib.Dec.{T, le→leb}
-use lib.Ieee.{binary64, inFloat}
 use borrow.Author.Needs.{needs}
 use Rattle.densify.specs.Densify.{alongOf}
+use Rattle.densify.proofs.Casts.{in-float}
 use Rattle.densify.proofs.segments.along.Statement.{statement}
 use Rattle.densify.proofs.segments.along.Tie as tie
-
--- below 2 ^ 32 the cast loses nothing
-in-float : (n : ℕ) → n < 4294967296 → T (inFloat binary64 (pos n))
-unfolding inFloat
-in-float n h = le→leb n (2 ^ 53) (omega arith)
 
 int-to-float-t : tie.Need-int-to-float-t
 int-to-float-t c = in-float _ (c .before .pre .0)

@@ -1,0 +1,4 @@
+-- What is given out.
+pub mod Rfc7946
+pub mod Lines
+pub mod Laws

@@ -1,0 +1,20 @@
+use borrow.Author.Needs.{needs}
+use Rattle.similarity.specs.Projection.{geoBy}
+use Rattle.similarity.proofs.projection.geo.Statement.{statement}
+use Rattle.similarity.proofs.projection.geo.Tie as tie
+
+project-requires : tie.Need-project-requires
+project-requires c κs = search needs
+
+round9-requires : tie.Need-round9-requires
+round9-requires c κs = search needs
+
+round9-requires-2 : tie.Need-round9-requires-2
+round9-requires-2 c κs = search needs
+
+returns : tie.Need-returns
+unfolding geoBy
+returns c = cc
+
+pub geo-spec : {M : Type 1} → statement M
+geo-spec = tie.close (tie.spec project-requires round9-requires round9-requires-2 returns)
