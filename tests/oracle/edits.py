@@ -181,6 +181,8 @@ EDITS = {
             "use crate::record;\nuse crate::register::Registration;\n" + LEAF,
         ),
         leaf(1, "round"),
+        # Positions of a line by itself need it.
+        (1, "fn round9(", "pub fn round9("),
         (
             1,
             "        if pts.len() < 2 {\n",

@@ -8,6 +8,12 @@ use crate::{GeoError, Registration, georeference_scene};
 
 pub use crate::record::{Feature, Producer};
 
+// For the producers of points, each by itself.
+pub use crate::convert::round9;
+pub use crate::densify::{Budget, box_ring, densify_polyline, ellipse_ring, path_points};
+pub use crate::record::{begin, finish};
+pub use crate::scene::Path;
+
 /// Room in the four slices, in whole points, positions, feature lines and
 /// warnings, and the allowance to start from.
 #[derive(Clone, Copy)]

@@ -1,6 +1,7 @@
 // oracle place [OPTIONS] < stream
 // oracle batch [OPTIONS] < cases
 // oracle project < points
+// oracle densify < shapes
 //
 // `place` answers one stream under the sizes of document 01's program. `batch`
 // answers cases one after another; each is a line
@@ -9,7 +10,8 @@
 // feature lines, warnings), followed by LENGTH bytes; each answer stands
 // after a line `> NAME`. `project` takes eight f64 for each point, little-endian
 // (anchor's longitude and latitude, origin, scale, bearing, the canvas point),
-// and answers two: the longitude and latitude that `to_lonlat` gives.
+// and answers two: the longitude and latitude that `to_lonlat` gives. `densify`
+// answers for one path, ring or line at a time, as produce.rs says.
 //
 // Options: --work N, --positions N, --features N, --warnings N, --allowance N
 // and --limit N set sizes for `place`. --scene prints the parsed scene before
@@ -27,6 +29,7 @@ use std::io::{self, Read, Write as _};
 use std::process::exit;
 
 mod dump;
+mod produce;
 
 #[derive(Default)]
 struct Shown {
@@ -81,19 +84,24 @@ fn main() {
             print(&out);
         }
         "batch" => batch(&input, &shown),
-        "project" => project(&input),
+        "project" => write(&project(&input)),
+        "densify" => write(&produce::all(&input)),
         _ => usage(),
     }
 }
 
 fn usage() -> ! {
-    eprintln!("oracle place|batch|project [OPTIONS] < INPUT");
+    eprintln!("oracle place|batch|project|densify [OPTIONS] < INPUT");
     exit(2);
 }
 
 fn print(text: &str) {
+    write(text.as_bytes());
+}
+
+fn write(bytes: &[u8]) {
     io::stdout()
-        .write_all(text.as_bytes())
+        .write_all(bytes)
         .expect("the answer can be written");
 }
 
@@ -136,7 +144,7 @@ fn batch(mut input: &[u8], shown: &Shown) {
     }
 }
 
-fn project(input: &[u8]) {
+fn project(input: &[u8]) -> Vec<u8> {
     let mut out = Vec::new();
     for point in input.chunks_exact(64) {
         let mut numbers = [0.0; 8];
@@ -144,23 +152,24 @@ fn project(input: &[u8]) {
             *number = f64::from_le_bytes(bytes.try_into().expect("eight bytes"));
         }
         let [lon, lat, x, y, scale, bearing, px, py] = numbers;
-        let registration = Registration {
-            frame: Frame::Mercator,
-            anchor: LonLat { lon, lat },
-            origin: [x, y],
-            scale_m_per_in: scale,
-            bearing_deg: bearing,
-            method: Method::Anchor,
-            control_points: 0,
-            rms_m: None,
-        };
-        let p = registration.to_lonlat([px, py]);
+        let p = registration([lon, lat, x, y, scale, bearing]).to_lonlat([px, py]);
         out.extend(p.lon.to_le_bytes());
         out.extend(p.lat.to_le_bytes());
     }
-    io::stdout()
-        .write_all(&out)
-        .expect("the answer can be written");
+    out
+}
+
+fn registration([lon, lat, x, y, scale, bearing]: [f64; 6]) -> Registration {
+    Registration {
+        frame: Frame::Mercator,
+        anchor: LonLat { lon, lat },
+        origin: [x, y],
+        scale_m_per_in: scale,
+        bearing_deg: bearing,
+        method: Method::Anchor,
+        control_points: 0,
+        rms_m: None,
+    }
 }
 
 fn answer(bytes: &[u8], limit: usize, sizes: Sizes, shown: &Shown, out: &mut String) {

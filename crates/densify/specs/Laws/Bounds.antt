@@ -33,7 +33,7 @@ use Rattle.densify.specs.Laws.Sizes.{pick-made, quarter-within}
 
 -- ---- lists
 module _ {A : Type 0} (Q : A → Type 0) where
-  each-append : (a b : List A) → Each Q a → Each Q b → Each Q (a ++ b)
+  pub each-append : (a b : List A) → Each Q a → Each Q b → Each Q (a ++ b)
   each-append [] b h k = k
   each-append (x ∷ a) b h k = (h .0, each-append a b (h .1) k)
 
@@ -41,7 +41,7 @@ module _ {A : Type 0} (Q : A → Type 0) where
   each-four a b c d h i j k = each-append a (b ++ (c ++ d)) h (each-append b (c ++ d) i (each-append c d j k))
 
 module _ (Q : Point → Type 0) where
-  close-each : (ps : List Point) → Each Q ps → Each Q (closeRingOf ps)
+  pub close-each : (ps : List Point) → Each Q ps → Each Q (closeRingOf ps)
   unfolding closeRingOf
   close-each [] h = tt
   close-each (p ∷ ps) h = go (samePoint p (lastOf p ps))
@@ -301,7 +301,7 @@ tests = record { spoke-fits = tt; half-fits = tt; low-fits = tt; high-fits = tt;
 spoke-in : (u r : Float) → Near u → Near r → Turns r u
 spoke-in u r h i v j = fits-in spoke (near ∷ near ∷ unit ∷ []) (u ∷ r ∷ v ∷ []) (tests .spoke-fits) (h, (i, (j, tt)))
 
-half-near : (s : Float) → Near s → Near (div binary64 s K.two)
+pub half-near : (s : Float) → Near s → Near (div binary64 s K.two)
 half-near s h = enclosed half (near ∷ []) (s ∷ []) mMillion million (tests .half-fits) (h, tt)
 
 module _ (s u : Float) (h : Near s) (i : Near u) where
@@ -342,7 +342,7 @@ max-near : (x y : Float) → Near x → Near y → Near (maxOf x y)
 unfolding maxOf
 max-near x y h k = pick-near (isNan x) y _ k (pick-near (lt x y) y x k h)
 
-zero-near : Near K.zero
+pub zero-near : Near K.zero
 unfolding ofBits neg le
 zero-near = record { low = tt; high = tt; fl = tt; fh = tt }
 

@@ -1,0 +1,2 @@
+-- What the comparison asks.
+pub mod Drawings
