@@ -72,9 +72,10 @@ same-length c = search needs
 
 returns-2 : tie.Need-returns-2
 returns-2 c =
-    let a = c .before .args in
-    (sym (le-leb (a .at + 6) (length (a .out .now)) (omega arith)),
-    lined (a .out .now) (a .at) (a .f) (omega arith) (line-put (a .out .now) (a .at) (a .f) (omega arith)))
+    let a = c .before .args in (
+      sym (le-leb (a .at + 6) (length (a .out .now)) (omega arith)),
+      lined (a .out .now) (a .at) (a .f) (omega arith) (line-put (a .out .now) (a .at) (a .f) (omega arith)),
+    )
 
 pub write-line-spec : {M : Type 1} → statement M
 write-line-spec =

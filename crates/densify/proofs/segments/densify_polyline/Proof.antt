@@ -137,9 +137,11 @@ loop-again : tie.Need-loop-again Inv-loop μ-loop
 loop-again c =
     let a = c .before .before .before .before in
     let p = a .before .before .before .before .before .before .before .before in
-    let fits = not-false _ (c .if3 .left) in
-    (room (a .before .before .before .before .before .before .before), next-in (a .place-segment .ensures) fits,
-    segment-next _ _ _ (p .loop .i) _ (p .loop .left) _ (p .loop .inv .2) (room (a .before .before .before .before .before .before .before)) _ (drawn (a .before .before .before)) (a .place-segment .ensures) fits)
+    let fits = not-false _ (c .if3 .left) in (
+      room (a .before .before .before .before .before .before .before),
+      next-in (a .place-segment .ensures) fits,
+      segment-next _ _ _ (p .loop .i) _ (p .loop .left) _ (p .loop .inv .2) (room (a .before .before .before .before .before .before .before)) _ (drawn (a .before .before .before)) (a .place-segment .ensures) fits,
+    )
 
 returns-4 : tie.Need-returns-4 Inv-loop μ-loop
 returns-4 c =

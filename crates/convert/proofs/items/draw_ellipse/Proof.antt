@@ -1,0 +1,31 @@
+use borrow.Author.Needs.{needs}
+use Rattle.convert.specs.Laws.Items.{ellipse-round, ring-in, ring-played}
+use Rattle.convert.proofs.items.draw_ellipse.Statement.{statement}
+use Rattle.convert.proofs.items.draw_ellipse.Tie as tie
+
+ellipse-ring-requires : tie.Need-ellipse-ring-requires
+ellipse-ring-requires c κs = search needs
+
+draw-ring-requires : tie.Need-draw-ring-requires
+draw-ring-requires c κs =
+    let fits = c .before .before .before .before .before .before .before .before .before .before .before .pre in
+    (ring-in (c .before .before .before .before .before .ellipse-ring .ensures) (ellipse-round _ _ _ _ _ (fits .left) _ _), fits .positions, fits .features)
+
+same-length : tie.Need-same-length
+same-length c = search needs
+
+same-length-2 : tie.Need-same-length-2
+same-length-2 c = search needs
+
+same-length-3 : tie.Need-same-length-3
+same-length-3 c = search needs
+
+returns : tie.Need-returns
+returns c =
+    let fits = c .before .before .before .before .before .before .before .before .before .before .before .before .before .before .before .before .pre in
+    ring-played (c .before .before .before .before .before .before .before .before .before .before .ellipse-ring .ensures) (ellipse-round _ _ _ _ _ (fits .left) _ _) _ _ (c .before .before .before .before .draw-ring .ensures) fits
+
+pub draw-ellipse-spec : {M : Type 1} → statement M
+draw-ellipse-spec =
+    tie.close
+    (tie.spec ellipse-ring-requires draw-ring-requires same-length same-length-2 same-length-3 returns)

@@ -1,0 +1,271 @@
+-- The source's convert.rs, function by function: what each item of a scene draws, as one list of events in the source's order, with no regard to space.
+use Prim.Native.Nat.{ℕ, zero, suc, _+_}
+use mathlib.Core.Path.{_≡_}
+use mathlib.Core.Bool.{Bool, true, false, not, _&&_, _||_, cond}
+use mathlib.Core.List.{List, [], _∷_, _++_, map}
+use lib.ListN.{length}
+use lib.Dec.{eqb, ltb, leb}
+use lib.Ieee.{Float, binary64, ofBits, div}
+use Rattle.elementary.specs.Constants as K
+use Rattle.similarity.specs.declared.projection.Projection.{Projection}
+use Rattle.scene.specs.Scene.{Maybe, none, some, Point, DrawnPath, DrawnItem}
+use Rattle.register.specs.Register.{Warning, orValue}
+use Rattle.budget.specs.declared.Budget.{Budget}
+use Rattle.densify.specs.Densify.{Drawn, Made, closeRingOf, pathPointsOf, densifyPolylineOf, ellipseRingOf, boxRingOf}
+use Rattle.densify.specs.Written.{placedBy}
+use Rattle.geojson.specs.declared.Feature.{Feature}
+use Rattle.convert.specs.declared.shapes.Shape.{Shape}
+use Rattle.convert.specs.declared.shapes.Shape.the-variants.{Box, Ellipse, Circle, Dot, Points, Paths, Missing, Nothing}
+use Rattle.convert.specs.declared.state.Ctx.{Ctx}
+use Rattle.convert.specs.declared.state.Props.{Props}
+
+-- ---- what happens: a call of `take`, points of work that a shape needs, a feature with its positions, a warning
+pub data Event : Type 0 where
+  drew : Drawn → Event
+  need : ℕ → Event
+  feature : Feature → List Point → Event
+  warned : Warning → Event
+
+-- and the budget after it
+pub record Trace : Type 0 where
+  pub events : List Event
+  pub after : Budget
+
+abbrev pub quiet : Budget → Trace
+quiet b = record { events = []; after = b }
+
+abbrev pub single : Event → Budget → Trace
+single e b = record { events = e ∷ []; after = b }
+
+abbrev pub thenTrace : Trace → (Budget → Trace) → Trace
+thenTrace t f = let u = f (t .after) in record { events = t .events ++ u .events; after = u .after }
+
+abbrev pub pickTrace : Bool → Trace → Trace → Trace
+pickTrace true t u = t
+pickTrace false t u = u
+
+-- the draws of a producer
+abbrev pub drawsTrace : Made → Trace
+drawsTrace m = record { events = map drew (m .draws); after = m .after }
+
+abbrev pub missing : ℕ → Budget → Trace
+missing item b = single (warned (record { kind = 5; index = item })) b
+
+-- ---- geo_line and geo_ring
+-- the last position is the first, bit for bit
+abbrev pub endWith : Point → List Point → List Point
+endWith p [] = []
+endWith p (q ∷ []) = p ∷ []
+endWith p (q ∷ r ∷ rs) = q ∷ endWith p (r ∷ rs)
+
+abbrev pub sealed : List Point → List Point
+sealed [] = []
+sealed (p ∷ ps) = p ∷ endWith p ps
+
+-- those of a line (1) or a ring (2)
+abbrev pub positionsOf : ℕ → List Point → List Point
+positionsOf geometry ps = cond (eqb geometry 2) (sealed ps) ps
+
+unfoldable pub featureOf : Props → ℕ → ℕ → List Point → Event
+featureOf p geometry role ps =
+    feature (record { item = p .item; geometry = geometry; role = role; placement = p .placement; part = p .part; count = length ps }) ps
+
+-- the canvas points, densified and carried to the Earth: a line (1) or a ring (2)
+unfoldable pub strokeOf : Ctx → Props → ℕ → ℕ → List Point → Budget → Trace
+strokeOf cx p geometry role ps b =
+    let m = densifyPolylineOf (cx .step) (cx .projection .scale) ps b in
+    thenTrace (drawsTrace m) (λ r. single (featureOf p geometry role (positionsOf geometry (map (placedBy (cx .projection)) (m .points)))) r)
+
+-- document 01: fewer positions than a line or a ring has are not written; the draws stand, and a warning takes the place
+unfoldable pub unwrittenOf : Ctx → ℕ → List Point → Budget → Trace
+unwrittenOf cx item ps b =
+    thenTrace (drawsTrace (densifyPolylineOf (cx .step) (cx .projection .scale) ps b)) (λ r. missing item r)
+
+unfoldable pub pointOf : Ctx → Props → Point → Budget → Trace
+pointOf cx p at b = single (featureOf p 0 0 (placedBy (cx .projection) at ∷ [])) b
+
+-- ---- polyline_or_polygon
+-- a separate fill: of the closed outline where there is one, else of the closed points
+unfoldable pub fillOf : Ctx → Props → Maybe (List Point) → List Point → Budget → Trace
+fillOf cx p outline ring b =
+    pickTrace (p .fill && leb 4 (length (orValue outline ring))) (strokeOf cx p 2 1 (orValue outline ring) b) (quiet b)
+
+-- with its points ps, which are `ring` where they are closed, and its closed outline
+unfoldable pub shapeTrace : Ctx → Props → Bool → List Point → List Point → Maybe (List Point) → Budget → Trace
+shapeTrace cx p closed ps ring outline b =
+    pickTrace (ltb (length ps) 2) (quiet b)
+    (pickTrace (closed && leb 4 (length ring)) (strokeOf cx p 2 0 ring b)
+    (thenTrace (fillOf cx p outline ring b) (λ r. pickTrace closed (unwrittenOf cx (p .item) ps r) (strokeOf cx p 1 0 ps r))))
+
+abbrev pub closedOutline : Maybe (List Point) → Maybe (List Point)
+closedOutline none = none
+closedOutline (some ps) = some (closeRingOf ps)
+
+-- P + F + 1 points of work
+unfoldable pub workOf : Bool → List Point → List Point → Maybe (List Point) → ℕ
+workOf closed ps ring outline = length (cond closed ring ps) + length (orValue outline []) + 1
+
+unfoldable pub polylineOrPolygonOf : Ctx → Props → Bool → List Point → Maybe (List Point) → Budget → Trace
+polylineOrPolygonOf cx p closed ps outline b =
+    let ring = closeRingOf ps in
+    let closing = closedOutline outline in
+    thenTrace (single (need (workOf closed ps ring closing)) b) (λ r. shapeTrace cx p closed ps ring closing r)
+
+-- ---- shapes
+-- the ring of a box, a circle or an ellipse
+unfoldable pub ringTrace : Ctx → Props → Made → Trace
+ringTrace cx p m =
+    thenTrace (drawsTrace m) (λ r. thenTrace (single (need (length (m .points) + 1)) r) (λ q. strokeOf cx p 2 0 (m .points) q))
+
+abbrev pub headOf : List DrawnPath → Maybe DrawnPath
+headOf [] = none
+headOf (p ∷ ps) = some p
+
+abbrev pub tailOf : List DrawnPath → List DrawnPath
+tailOf [] = []
+tailOf (p ∷ ps) = ps
+
+-- an outline is flattened whether it is used or not
+unfoldable pub outlineOf : Ctx → Props → Bool → List Point → Maybe DrawnPath → Budget → Trace
+outlineOf cx p closed ps none b = polylineOrPolygonOf cx p closed ps none b
+outlineOf cx p closed ps (some o) b =
+    let m = pathPointsOf (cx .flatten) o b in
+    thenTrace (drawsTrace m) (λ r. polylineOrPolygonOf cx p closed ps (some (m .points)) r)
+
+unfoldable pub pathOf : Ctx → Props → DrawnPath → Maybe DrawnPath → Budget → Trace
+pathOf cx p path outline b =
+    let m = pathPointsOf (cx .flatten) path b in
+    thenTrace (drawsTrace m) (λ r. outlineOf cx p (path .closed) (m .points) outline r)
+
+abbrev pub withPart : Props → ℕ → Props
+withPart p n = record { item = p .item; placement = p .placement; part = n; fill = p .fill }
+
+-- the paths from the i-th on, each with the outline of its index; many says that the item has more than one
+unfoldable pub pathsOf : Ctx → Props → Bool → ℕ → List DrawnPath → List DrawnPath → Budget → Trace
+pathsOf cx p many i [] outlines b = quiet b
+pathsOf cx p many i (q ∷ qs) outlines b =
+    thenTrace (pathOf cx (withPart p (cond many (suc i) 0)) q (headOf outlines) b) (λ r. pathsOf cx p many (suc i) qs (tailOf outlines) r)
+
+-- ---- an item
+-- the kinds, by their position in KINDS: 0 box, 1 circle, 2 ellipse, 3 arc, 4 line, 5 arrow, 6 spline, 7 text, 8 dot, 9 brace, 10 block
+abbrev pub boxShape : Maybe Point → Maybe Float → Maybe Float → Float → Shape
+boxShape (some c) (some w) (some h) rad = Box (c .x) (c .y) w h rad
+boxShape (some c) (some w) none rad = Missing
+boxShape (some c) none h rad = Missing
+boxShape none w h rad = Missing
+
+abbrev pub ellipseShape : Maybe Point → Maybe Float → Maybe Float → Shape
+ellipseShape (some c) (some w) (some h) = Ellipse (c .x) (c .y) w h
+ellipseShape (some c) (some w) none = Missing
+ellipseShape (some c) none h = Missing
+ellipseShape none w h = Missing
+
+abbrev pub circleShape : Maybe Point → Maybe Float → Shape
+circleShape (some c) (some r) = Circle (c .x) (c .y) r
+circleShape (some c) none = Missing
+circleShape none r = Missing
+
+-- a text and a dot draw their point
+abbrev pub dotShape : Maybe Point → Shape
+dotShape (some c) = Dot (c .x) (c .y)
+dotShape none = Missing
+
+abbrev pub pickShape : Bool → Shape → Shape → Shape
+pickShape true a b = a
+pickShape false a b = b
+
+unfoldable pub boxOf : DrawnItem → Shape
+boxOf it = boxShape (it .at) (it .w) (it .h) (orValue (it .rad) K.zero)
+
+unfoldable pub ellipseOf : DrawnItem → Shape
+ellipseOf it = ellipseShape (it .at) (it .w) (it .h)
+
+unfoldable pub circleOf : DrawnItem → Shape
+circleOf it = circleShape (it .at) (it .r)
+
+unfoldable pub dotOf : DrawnItem → Shape
+dotOf it = dotShape (it .at)
+
+unfoldable pub shapeOf : DrawnItem → Shape
+shapeOf it =
+    let k = it .kind in
+    pickShape (it .hidden || eqb k 10) Nothing
+    (pickShape (eqb k 0) (boxOf it)
+    (pickShape (eqb k 1) (circleOf it)
+    (pickShape (eqb k 2) (ellipseOf it)
+    (pickShape (eqb k 7 || eqb k 8) (dotOf it)
+    (pickShape (eqb k 4 || eqb k 5) Points Paths)))))
+
+-- texts and dots stay on the screen, and so does what is of a screen class
+unfoldable pub onScreen : ℕ → Bool
+onScreen k = eqb k 7 || eqb k 8
+
+unfoldable pub propsOf : (ℕ → Bool) → ℕ → DrawnItem → Props
+propsOf rule i it = record { item = i; placement = cond (it .screen || rule (it .kind)) 1 0; part = 0; fill = it .fill }
+
+abbrev pub at : Float → Float → Point
+at x y = record { x = x; y = y }
+
+abbrev pub half : Float → Float
+half v = div binary64 v K.two
+
+unfoldable pub pointsTrace : Ctx → Props → Bool → Maybe (List Point) → Maybe (List Point) → Budget → Trace
+pointsTrace cx p closed none outline b = missing (p .item) b
+pointsTrace cx p closed (some ps) outline b = polylineOrPolygonOf cx p closed ps outline b
+
+unfoldable pub pathsTrace : Ctx → Props → List DrawnPath → List DrawnPath → Budget → Trace
+pathsTrace cx p [] outlines b = missing (p .item) b
+pathsTrace cx p (q ∷ qs) outlines b = pathsOf cx p (ltb 0 (length qs)) 0 (q ∷ qs) outlines b
+
+unfoldable pub drawnOf : Ctx → Props → DrawnItem → Shape → Budget → Trace
+drawnOf cx p it (Box x y w h rad) b =
+    ringTrace cx p (boxRingOf (cx .step) (cx .projection .scale) (cx .flatten) (at x y) w h rad b)
+drawnOf cx p it (Ellipse x y w h) b =
+    ringTrace cx p (ellipseRingOf (cx .step) (cx .projection .scale) (cx .flatten) (at x y) (half w) (half h) b)
+drawnOf cx p it (Circle x y r) b =
+    ringTrace cx p (ellipseRingOf (cx .step) (cx .projection .scale) (cx .flatten) (at x y) r r b)
+drawnOf cx p it (Dot x y) b = pointOf cx p (at x y) b
+drawnOf cx p it Points b = pointsTrace cx p (it .closed) (it .points) (it .fillPoints) b
+drawnOf cx p it Paths b = pathsTrace cx p (it .paths) (it .fillPaths) b
+drawnOf cx p it Missing b = missing (p .item) b
+drawnOf cx p it Nothing b = quiet b
+
+unfoldable pub itemOf : (ℕ → Bool) → Ctx → ℕ → DrawnItem → Budget → Trace
+itemOf rule cx i it b = drawnOf cx (propsOf rule i it) it (shapeOf it) b
+
+-- the items, the first of them the i-th
+unfoldable pub itemsOf : (ℕ → Bool) → Ctx → ℕ → List DrawnItem → Budget → Trace
+itemsOf rule cx i [] b = quiet b
+itemsOf rule cx i (it ∷ its) b = thenTrace (itemOf rule cx i it b) (λ r. itemsOf rule cx (suc i) its r)
+
+-- ---- convert
+unfoldable pub spentOf : Budget → Trace
+spentOf b = pickTrace (b .hit) (single (warned (record { kind = 6; index = 0 })) b) (quiet b)
+
+unfoldable pub convertOf : (ℕ → Bool) → Ctx → List DrawnItem → Budget → Trace
+convertOf rule cx its b = thenTrace (itemsOf rule cx 0 its b) (λ r. spentOf r)
+
+-- ---- what is read off the one list
+-- the draws
+unfoldable pub drawsIn : List Event → List Drawn
+drawsIn [] = []
+drawsIn (drew d ∷ es) = d ∷ drawsIn es
+drawsIn (need n ∷ es) = drawsIn es
+drawsIn (feature f ps ∷ es) = drawsIn es
+drawsIn (warned w ∷ es) = drawsIn es
+
+-- the warnings
+unfoldable pub warningsIn : List Event → List Warning
+warningsIn [] = []
+warningsIn (drew d ∷ es) = warningsIn es
+warningsIn (need n ∷ es) = warningsIn es
+warningsIn (feature f ps ∷ es) = warningsIn es
+warningsIn (warned w ∷ es) = w ∷ warningsIn es
+
+-- what holds of every feature with its positions
+abbrev pub EachFeature : (Feature → List Point → Type 0) → List Event → Type 0
+EachFeature Q [] = Unit {0}
+EachFeature Q (drew d ∷ es) = EachFeature Q es
+EachFeature Q (need n ∷ es) = EachFeature Q es
+EachFeature Q (feature f ps ∷ es) = Q f ps × EachFeature Q es
+EachFeature Q (warned w ∷ es) = EachFeature Q es

@@ -1,0 +1,363 @@
+-- Every feature of a scene is what RFC 7946 says, and lies on the Earth: of a sound registration, and of items whose numbers are at most 1,000,000 in magnitude. Assumes nothing.
+use Prim.Native.Nat.{ℕ, suc, _≤_}
+use native.Mathlib.Omega.{arith}
+use mathlib.Core.Path.{_≡_, refl, sym, ap, subst}
+use mathlib.Core.Bool.{Bool, true, false, _&&_, _||_, cond}
+use mathlib.Core.List.{List, [], _∷_, _++_, map}
+use lib.ListN.{length, length-map}
+use lib.Dec.{eqb, ltb, leb, lit≤}
+use borrow.Author.Tests.{leb-true, ltb-false}
+use lib.Ieee.{Float}
+use Rattle.float.specs.Laws.Magnitude.{wider}
+use Rattle.float.specs.Laws.Intervals.{in-finite}
+use Rattle.float.specs.Laws.Spans.{Each}
+use Rattle.elementary.specs.Constants as K
+use Rattle.geodesy.specs.declared.LonLat.{LonLat}
+use Rattle.geodesy.specs.Laws.Finite.{m180, m90, c90, OnEarth}
+use Rattle.similarity.specs.declared.projection.Registration.{Registration}
+use Rattle.similarity.specs.Projection.{projectionOf, geo-projects}
+use Rattle.similarity.specs.Laws.Project.{Sound, geo-in}
+use Rattle.similarity.specs.Laws.Fitted.{each-map}
+use Rattle.records.specs.Laws.Tests.{and-right}
+use Rattle.scene.specs.Scene.{Maybe, none, some, Point, Cubic, Form, curve, polyline, DrawnPath, DrawnItem}
+use Rattle.register.specs.Register.{orValue}
+use Rattle.register.specs.Laws.Near as R
+use Rattle.register.specs.Laws.Near.{Holds, NearItem}
+use Rattle.budget.specs.declared.Budget.{Budget}
+use Rattle.densify.specs.Densify.{Drawn, Made, closeRingOf, pathPointsOf, densifyPolylineOf, ellipseRingOf, boxRingOf}
+use Rattle.densify.specs.Written.{placedBy}
+use Rattle.densify.specs.Laws.Bounds.{Near, NearPoint, NearCubic, NearForm, InPoint, close-each, near-in, nears-in, half-near, zero-near, path-near, densify-in, ellipse-in, box-in}
+use Rattle.densify.specs.Laws.Counts.{densify-least, ring-least, ellipse-ring, box-ring}
+use Rattle.geojson.specs.declared.Feature.{Feature}
+use Rattle.geojson.specs.Rfc7946.{Positions, lastFrom, Closed, Geometry}
+use Rattle.convert.specs.declared.shapes.Shape.{Shape}
+use Rattle.convert.specs.declared.shapes.Shape.the-variants.{Box, Ellipse, Circle, Dot, Points, Paths, Missing, Nothing}
+use Rattle.convert.specs.declared.state.Ctx.{Ctx}
+use Rattle.convert.specs.declared.state.Props.{Props}
+use Rattle.convert.specs.Convert.{Event, drew, need, feature, warned, Trace, quiet, single, thenTrace, pickTrace, drawsTrace, missing, endWith, sealed, featureOf, strokeOf, unwrittenOf, pointOf, fillOf, shapeTrace, closedOutline, polylineOrPolygonOf}
+use Rattle.convert.specs.Convert.{ringTrace, headOf, tailOf, outlineOf, pathOf, withPart, pathsOf, boxShape, ellipseShape, circleShape, dotShape, pickShape, boxOf, ellipseOf, circleOf, dotOf, shapeOf, propsOf, at, half, pointsTrace, pathsTrace, drawnOf, itemOf, itemsOf, spentOf, convertOf, EachFeature}
+
+abbrev pub Earthly : Point → Type 0
+Earthly p = OnEarth (record { lon = p .x; lat = p .y })
+
+pub record Sane (f : Feature) (ps : List Point) : Type 0 where
+  pub geometry : Geometry (f .geometry) ps
+  pub counted : f .count ≡ length ps
+  pub earth : Each Earthly ps
+
+-- ---- positions
+positions : (ps : List Point) → Each Earthly ps → Positions ps
+positions [] h = tt
+positions (p ∷ ps) h = (record { lon = in-finite m180 K.c180 (p .x) (h .0 .0); lat = in-finite m90 c90 (p .y) (h .0 .1) }, positions ps (h .1))
+
+-- a ring's last position in the place of what stood there
+end-length : (p : Point) (ps : List Point) → length (endWith p ps) ≡ length ps
+end-length p [] = refl
+end-length p (q ∷ []) = refl
+end-length p (q ∷ r ∷ rs) = ap suc (end-length p (r ∷ rs))
+
+end-last : (p x q : Point) (qs : List Point) → lastFrom x (endWith p (q ∷ qs)) ≡ p
+end-last p x q [] = refl
+end-last p x q (r ∷ rs) = end-last p q r rs
+
+end-each : (Q : Point → Type 0) (p : Point) (ps : List Point) → Q p → Each Q ps → Each Q (endWith p ps)
+end-each Q p [] h k = tt
+end-each Q p (q ∷ []) h k = (h, tt)
+end-each Q p (q ∷ r ∷ rs) h k = (k .0, end-each Q p (r ∷ rs) h (k .1))
+
+sealed-length : (ps : List Point) → length (sealed ps) ≡ length ps
+sealed-length [] = refl
+sealed-length (p ∷ ps) = ap suc (end-length p ps)
+
+sealed-closed : (ps : List Point) → Closed (sealed ps)
+sealed-closed [] = tt
+sealed-closed (p ∷ []) = refl
+sealed-closed (p ∷ q ∷ qs) = end-last p p q qs
+
+sealed-each : (Q : Point → Type 0) (ps : List Point) → Each Q ps → Each Q (sealed ps)
+sealed-each Q [] h = tt
+sealed-each Q (p ∷ ps) h = (h .0, end-each Q p ps (h .0) (h .1))
+
+-- ---- traces whose features are sane
+record Fine (t : Trace) : Type 0 where
+  each : EachFeature Sane (t .events)
+
+fine-feature : (p : Props) (geometry role : ℕ) (ps : List Point) (b : Budget) → Geometry geometry ps → Each Earthly ps → Fine (single (featureOf p geometry role ps) b)
+unfolding featureOf
+fine-feature p geometry role ps b g h = record { each = (record { geometry = g; counted = refl; earth = h }, tt) }
+
+fine-draws : (m : Made) → Fine (drawsTrace m)
+fine-draws m = record { each = go (m .draws) }
+  where
+    go : (ds : List Drawn) → EachFeature Sane (map drew ds)
+    go [] = tt
+    go (d ∷ ds) = go ds
+
+fine-then : {t u : Trace} → Fine t → Fine u → Fine (thenTrace t (λ r. u))
+fine-then {t} {u} h k = record { each = go (t .events) (h .each) }
+  where
+    go : (es : List Event) → EachFeature Sane es → EachFeature Sane (es ++ u .events)
+    go [] h = k .each
+    go (drew d ∷ es) h = go es h
+    go (need n ∷ es) h = go es h
+    go (feature f ps ∷ es) h = (h .0, go es (h .1))
+    go (warned w ∷ es) h = go es h
+
+fine-pick : {t u : Trace} (c : Bool) → (c ≡ true → Fine t) → (c ≡ false → Fine u) → Fine (pickTrace c t u)
+fine-pick true h k = h refl
+fine-pick false h k = k refl
+
+-- no features at all
+fine-quiet : (b : Budget) → Fine (quiet b)
+fine-quiet b = record { each = tt }
+
+fine-need : (n : ℕ) (b : Budget) → Fine (single (need n) b)
+fine-need n b = record { each = tt }
+
+fine-missing : (item : ℕ) (b : Budget) → Fine (missing item b)
+fine-missing item b = record { each = tt }
+
+-- ---- canvas points that a line or a ring can be drawn through: at most 2 ^ 22 in size, so that what stands between them is at most 2 ^ 24
+abbrev Drawable : List Point → Type 0
+Drawable ps = Each (InPoint 22) ps
+
+close-drawable : (ps : List Point) → Drawable ps → Drawable (closeRingOf ps)
+close-drawable ps h = close-each (InPoint 22) ps h
+
+outline-drawable : (o : Maybe (List Point)) → Holds Drawable o → Holds Drawable (closedOutline o)
+outline-drawable none h = tt
+outline-drawable (some ps) h = close-drawable ps h
+
+or-holds : {A : Type 0} (Q : A → Type 0) (o : Maybe A) (x : A) → Holds Q o → Q x → Q (orValue o x)
+or-holds Q none x h k = k
+or-holds Q (some y) x h k = h
+
+-- ---- what condition 4 says of an item, in densify's words
+near-point : (p : Point) → R.NearPoint p → NearPoint p
+near-point p h = record { x = h .x; y = h .y }
+
+near-points : (ps : List Point) → Each R.NearPoint ps → Each NearPoint ps
+near-points [] h = tt
+near-points (p ∷ ps) h = (near-point p (h .0), near-points ps (h .1))
+
+near-cubics : (cs : List Cubic) → Each R.NearCubic cs → Each NearCubic cs
+near-cubics [] h = tt
+near-cubics (c ∷ cs) h =
+    (record { c1 = near-point (c .c1) (h .0 .c1); c2 = near-point (c .c2) (h .0 .c2); end = near-point (c .end) (h .0 .end) }, near-cubics cs (h .1))
+
+near-form : (f : Form) → R.NearForm f → NearForm f
+near-form (curve start cs) h = (near-point start (h .0), near-cubics cs (h .1))
+near-form (polyline ps) h = near-points ps h
+
+listed-drawable : (o : Maybe (List Point)) → Holds R.NearPoints o → Holds Drawable o
+listed-drawable none h = tt
+listed-drawable (some ps) h = nears-in ps (near-points ps (h .points))
+
+path-drawable : (tol : Float) (p : DrawnPath) (b : Budget) → R.NearPath p → Drawable (pathPointsOf tol p b .points)
+path-drawable tol p b h = nears-in (pathPointsOf tol p b .points) (path-near tol p b (near-form (p .form) h))
+
+head-near : (ps : List DrawnPath) → Each R.NearPath ps → Holds R.NearPath (headOf ps)
+head-near [] h = tt
+head-near (p ∷ ps) h = h .0
+
+tail-near : (ps : List DrawnPath) → Each R.NearPath ps → Each R.NearPath (tailOf ps)
+tail-near [] h = tt
+tail-near (p ∷ ps) h = h .1
+
+-- the numbers that a shape holds
+abbrev NearShape : Shape → Type 0
+NearShape (Box x y w h rad) = NearPoint (at x y) × Near w × Near h × Near rad
+NearShape (Ellipse x y w h) = NearPoint (at x y) × Near w × Near h
+NearShape (Circle x y r) = NearPoint (at x y) × Near r
+NearShape (Dot x y) = NearPoint (at x y)
+NearShape Points = Unit {0}
+NearShape Paths = Unit {0}
+NearShape Missing = Unit {0}
+NearShape Nothing = Unit {0}
+
+record Measured (s : Shape) : Type 0 where
+  near : NearShape s
+
+pick-measured : {s t : Shape} (c : Bool) → Measured s → Measured t → Measured (pickShape c s t)
+pick-measured true h k = h
+pick-measured false h k = k
+
+module _ (it : DrawnItem) (N : NearItem it) where
+  box-measured : Measured (boxOf it)
+  unfolding boxOf
+  box-measured = go (it .at) (it .w) (it .h) (N .at) (N .w) (N .h)
+    where
+      go : (c : Maybe Point) (w h : Maybe Float) → Holds R.NearPoint c → Holds Near w → Holds Near h → Measured (boxShape c w h (orValue (it .rad) K.zero))
+      go (some c) (some w) (some h) i j k = record { near = (near-point c i, j, k, or-holds Near (it .rad) K.zero (N .rad) zero-near) }
+      go (some c) (some w) none i j k = record { near = tt }
+      go (some c) none h i j k = record { near = tt }
+      go none w h i j k = record { near = tt }
+
+  ellipse-measured : Measured (ellipseOf it)
+  unfolding ellipseOf
+  ellipse-measured = go (it .at) (it .w) (it .h) (N .at) (N .w) (N .h)
+    where
+      go : (c : Maybe Point) (w h : Maybe Float) → Holds R.NearPoint c → Holds Near w → Holds Near h → Measured (ellipseShape c w h)
+      go (some c) (some w) (some h) i j k = record { near = (near-point c i, j, k) }
+      go (some c) (some w) none i j k = record { near = tt }
+      go (some c) none h i j k = record { near = tt }
+      go none w h i j k = record { near = tt }
+
+  circle-measured : Measured (circleOf it)
+  unfolding circleOf
+  circle-measured = go (it .at) (it .r) (N .at) (N .r)
+    where
+      go : (c : Maybe Point) (r : Maybe Float) → Holds R.NearPoint c → Holds Near r → Measured (circleShape c r)
+      go (some c) (some r) i j = record { near = (near-point c i, j) }
+      go (some c) none i j = record { near = tt }
+      go none r i j = record { near = tt }
+
+  dot-measured : Measured (dotOf it)
+  unfolding dotOf
+  dot-measured = go (it .at) (N .at)
+    where
+      go : (c : Maybe Point) → Holds R.NearPoint c → Measured (dotShape c)
+      go (some c) i = record { near = near-point c i }
+      go none i = record { near = tt }
+
+  shape-measured : Measured (shapeOf it)
+  unfolding shapeOf
+  shape-measured =
+      let k = it .kind in
+      pick-measured (it .hidden || eqb k 10) (record { near = tt })
+      (pick-measured (eqb k 0) box-measured
+      (pick-measured (eqb k 1) circle-measured
+      (pick-measured (eqb k 2) ellipse-measured
+      (pick-measured (eqb k 7 || eqb k 8) dot-measured
+      (pick-measured {s = Points} {t = Paths} (eqb k 4 || eqb k 5) (record { near = tt }) (record { near = tt }))))))
+
+-- ---- what an item draws
+module _ (r : Registration) (S : Sound r) (step flatten : Float) where
+  abbrev cx : Ctx
+  cx = record { projection = projectionOf r; step = step; flatten = flatten }
+
+  placed-earthly : (p : Point) → InPoint 24 p → Earthly (placedBy (projectionOf r) p)
+  unfolding placedBy
+  placed-earthly p h = subst (λ (g : LonLat). OnEarth g) (sym (geo-projects r (p .x) (p .y))) (geo-in r S (p .x) (p .y) (h .x) (h .y))
+
+  abbrev scale : Float
+  scale = projectionOf r .scale
+
+  -- the points of a line or a ring, and their positions
+  abbrev densified : List Point → Budget → Made
+  densified ps b = densifyPolylineOf step scale ps b
+
+  abbrev carried : List Point → Budget → List Point
+  carried ps b = map (placedBy (projectionOf r)) (densified ps b .points)
+
+  carried-earthly : (ps : List Point) (b : Budget) → Drawable ps → Each Earthly (carried ps b)
+  carried-earthly ps b h = each-map (placedBy (projectionOf r)) (InPoint 24) Earthly placed-earthly (densified ps b .points) (densify-in step scale ps b h)
+
+  carried-least : (ps : List Point) (b : Budget) → length ps ≤ length (carried ps b)
+  carried-least ps b = rw length-map (densify-least step scale ps b)
+
+  module _ (p : Props) where
+    fine-line : (role : ℕ) (ps : List Point) (b : Budget) → Drawable ps → 2 ≤ length ps → Fine (strokeOf cx p 1 role ps b)
+    unfolding strokeOf
+    fine-line role ps b h l =
+        let e = carried-earthly ps b h in
+        fine-then (fine-draws (densified ps b)) (fine-feature p 1 role (carried ps b) _ (record { positions = positions (carried ps b) e; many = omega (arith, carried-least ps b) }) e)
+
+    fine-ring : (role : ℕ) (ps : List Point) (b : Budget) → Drawable ps → 4 ≤ length ps → Fine (strokeOf cx p 2 role ps b)
+    unfolding strokeOf
+    fine-ring role ps b h l =
+        let qs = carried ps b in
+        let e = sealed-each Earthly qs (carried-earthly ps b h) in
+        fine-then (fine-draws (densified ps b))
+        (fine-feature p 2 role (sealed qs) _ (record { positions = positions (sealed qs) e; many = omega (arith, carried-least ps b, sealed-length qs); closed = sealed-closed qs }) e)
+
+    fine-unwritten : (ps : List Point) (b : Budget) → Fine (unwrittenOf cx (p .item) ps b)
+    unfolding unwrittenOf
+    fine-unwritten ps b = fine-then (fine-draws (densified ps b)) (fine-missing (p .item) _)
+
+    fine-dot : (q : Point) (b : Budget) → NearPoint q → Fine (pointOf cx p q b)
+    unfolding pointOf
+    fine-dot q b h =
+        let i = near-in q h in
+        let e : Each Earthly (placedBy (projectionOf r) q ∷ []) = (placed-earthly q (record { x = wider 22 24 (q .x) (lit≤ tt) (i .x); y = wider 22 24 (q .y) (lit≤ tt) (i .y) }), tt) in
+        fine-feature p 0 0 (placedBy (projectionOf r) q ∷ []) b (positions (placedBy (projectionOf r) q ∷ []) e, refl) e
+
+    fine-fill : (outline : Maybe (List Point)) (ring : List Point) (b : Budget) → Holds Drawable outline → Drawable ring → Fine (fillOf cx p outline ring b)
+    unfolding fillOf
+    fine-fill outline ring b h k =
+        let ps = orValue outline ring in
+        fine-pick (p .fill && leb 4 (length ps)) (λ t. fine-ring 1 ps b (or-holds Drawable outline ring h k) (leb-true _ _ (and-right (p .fill) _ t))) (λ t. fine-quiet b)
+
+    fine-shape : (closed : Bool) (ps ring : List Point) (outline : Maybe (List Point)) (b : Budget) →
+        Drawable ps → Drawable ring → Holds Drawable outline → Fine (shapeTrace cx p closed ps ring outline b)
+    unfolding shapeTrace
+    fine-shape closed ps ring outline b h i j =
+        fine-pick (ltb (length ps) 2) (λ t. fine-quiet b) (λ n.
+        fine-pick (closed && leb 4 (length ring)) (λ t. fine-ring 0 ring b i (leb-true _ _ (and-right closed _ t))) (λ t.
+        fine-then (fine-fill outline ring b j i) (fine-pick closed (λ t. fine-unwritten ps _) (λ t. fine-line 0 ps _ h (omega (arith, ltb-false (length ps) 2 n))))))
+
+    fine-polyline : (closed : Bool) (ps : List Point) (outline : Maybe (List Point)) (b : Budget) → Drawable ps → Holds Drawable outline → Fine (polylineOrPolygonOf cx p closed ps outline b)
+    unfolding polylineOrPolygonOf
+    fine-polyline closed ps outline b h i =
+        fine-then (fine-need _ b) (fine-shape closed ps (closeRingOf ps) (closedOutline outline) b h (close-drawable ps h) (outline-drawable outline i))
+
+    fine-made : (m : Made) → Drawable (m .points) → 4 ≤ length (m .points) → Fine (ringTrace cx p m)
+    unfolding ringTrace
+    fine-made m h l = fine-then (fine-draws m) (fine-then (fine-need _ (m .after)) (fine-ring 0 (m .points) _ h l))
+
+    fine-outline : (closed : Bool) (ps : List Point) (o : Maybe DrawnPath) (b : Budget) → Drawable ps → Holds R.NearPath o → Fine (outlineOf cx p closed ps o b)
+    unfolding outlineOf
+    fine-outline closed ps none b h i = fine-polyline closed ps none b h tt
+    fine-outline closed ps (some o) b h i = fine-then (fine-draws (pathPointsOf flatten o b)) (fine-polyline closed ps (some _) _ h (path-drawable flatten o b i))
+
+    fine-path : (path : DrawnPath) (o : Maybe DrawnPath) (b : Budget) → R.NearPath path → Holds R.NearPath o → Fine (pathOf cx p path o b)
+    unfolding pathOf
+    fine-path path o b h i = fine-then (fine-draws (pathPointsOf flatten path b)) (fine-outline (path .closed) _ o _ (path-drawable flatten path b h) i)
+
+    fine-points : (closed : Bool) (ps outline : Maybe (List Point)) (b : Budget) → Holds Drawable ps → Holds Drawable outline → Fine (pointsTrace cx p closed ps outline b)
+    unfolding pointsTrace
+    fine-points closed none outline b h i = fine-missing (p .item) b
+    fine-points closed (some ps) outline b h i = fine-polyline closed ps outline b h i
+
+  fine-paths : (p : Props) (many : Bool) (i : ℕ) (qs outlines : List DrawnPath) (b : Budget) → Each R.NearPath qs → Each R.NearPath outlines → Fine (pathsOf cx p many i qs outlines b)
+  unfolding pathsOf
+  fine-paths p many i [] outlines b h k = fine-quiet b
+  fine-paths p many i (q ∷ qs) outlines b h k =
+      fine-then (fine-path (withPart p (cond many (suc i) 0)) q (headOf outlines) b (h .0) (head-near outlines k))
+      (fine-paths p many (suc i) qs (tailOf outlines) _ (h .1) (tail-near outlines k))
+
+  fine-all-paths : (p : Props) (qs outlines : List DrawnPath) (b : Budget) → Each R.NearPath qs → Each R.NearPath outlines → Fine (pathsTrace cx p qs outlines b)
+  unfolding pathsTrace
+  fine-all-paths p [] outlines b h k = fine-missing (p .item) b
+  fine-all-paths p (q ∷ qs) outlines b h k = fine-paths p (ltb 0 (length qs)) 0 (q ∷ qs) outlines b h k
+
+  fine-drawn : (p : Props) (it : DrawnItem) (s : Shape) (b : Budget) → NearItem it → NearShape s → Fine (drawnOf cx p it s b)
+  unfolding drawnOf
+  fine-drawn p it (Box x y w h rad) b N k =
+      fine-made p (boxRingOf step scale flatten (at x y) w h rad b) (box-in step scale flatten (at x y) w h rad b (k .0) (k .1) (k .2) (k .3)) (ring-least (box-ring step scale flatten (at x y) w h rad b))
+  fine-drawn p it (Ellipse x y w h) b N k =
+      fine-made p (ellipseRingOf step scale flatten (at x y) (half w) (half h) b) (ellipse-in step scale flatten (at x y) (half w) (half h) b (k .0) (half-near w (k .1)) (half-near h (k .2)))
+      (omega (arith, ring-least (ellipse-ring step scale flatten (at x y) (half w) (half h) b)))
+  fine-drawn p it (Circle x y c) b N k =
+      fine-made p (ellipseRingOf step scale flatten (at x y) c c b) (ellipse-in step scale flatten (at x y) c c b (k .0) (k .1) (k .1))
+      (omega (arith, ring-least (ellipse-ring step scale flatten (at x y) c c b)))
+  fine-drawn p it (Dot x y) b N k = fine-dot p (at x y) b k
+  fine-drawn p it Points b N k = fine-points p (it .closed) (it .points) (it .fillPoints) b (listed-drawable (it .points) (N .points)) (listed-drawable (it .fillPoints) (N .fillPoints))
+  fine-drawn p it Paths b N k = fine-all-paths p (it .paths) (it .fillPaths) b (N .paths) (N .fillPaths)
+  fine-drawn p it Missing b N k = fine-missing (p .item) b
+  fine-drawn p it Nothing b N k = fine-quiet b
+
+  module _ (rule : ℕ → Bool) where
+    fine-items : (i : ℕ) (its : List DrawnItem) (b : Budget) → Each NearItem its → Fine (itemsOf rule cx i its b)
+    unfolding itemsOf itemOf
+    fine-items i [] b h = fine-quiet b
+    fine-items i (it ∷ its) b h = fine-then (fine-drawn (propsOf rule i it) it (shapeOf it) b (h .0) (shape-measured it (h .0) .near)) (fine-items (suc i) its _ (h .1))
+
+fine-spent : (b : Budget) → Fine (spentOf b)
+unfolding spentOf
+fine-spent b = fine-pick (b .hit) (λ t. record { each = tt }) (λ t. fine-quiet b)
+
+pub convert-sane : (rule : ℕ → Bool) (r : Registration) (step flatten : Float) (its : List DrawnItem) (b : Budget) → Sound r → Each NearItem its →
+    EachFeature Sane (convertOf rule (record { projection = projectionOf r; step = step; flatten = flatten }) its b .events)
+unfolding convertOf
+convert-sane rule r step flatten its b S N = fine-then (fine-items r S step flatten rule 0 its b N) (fine-spent _) .each

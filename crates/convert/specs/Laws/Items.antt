@@ -1,0 +1,113 @@
+-- Laws of what an item draws: its ring, its points or its paths. Assumes nothing.
+use Prim.Native.Nat.{ℕ, suc, _≤_}
+use native.Mathlib.Omega.{arith}
+use native.Mathlib.Nat.{zero-add}
+use mathlib.Core.Path.{_≡_, refl}
+use mathlib.Core.Bool.{Bool, true, false, cond}
+use mathlib.Core.List.{List, [], _∷_}
+use lib.ListN.{length}
+use lib.Dec.{ltb}
+use lib.Ieee.{Float}
+use borrow.Author.Tests.{lt-ltb}
+use Rattle.budget.specs.declared.Budget.{Budget}
+use Rattle.scene.specs.Scene.{Maybe, none, some, Point, DrawnPath, DrawnItem}
+use Rattle.densify.specs.declared.writing.Done.{Done}
+use Rattle.densify.specs.Densify.{Made, ellipseRingOf, boxRingOf}
+use Rattle.densify.specs.Written.{flats, Written}
+use Rattle.densify.specs.Laws.Writing.{flats-length, next-in}
+use Rattle.densify.specs.Laws.Replay.{ellipse-replays, box-replays}
+use Rattle.densify.specs.Laws.Counts.{ring-least, ellipse-ring, box-ring}
+use Rattle.densify.specs.Laws.Sizes.{left-falls, ellipse-most, box-most}
+use Rattle.convert.specs.declared.shapes.Shape.{Shape}
+use Rattle.convert.specs.declared.state.Ctx.{Ctx}
+use Rattle.convert.specs.declared.state.Props.{Props}
+use Rattle.convert.specs.declared.state.State.{State}
+use Rattle.convert.specs.Convert.{Trace, missing, polylineOrPolygonOf, ringTrace, pathsOf, shapeOf, onScreen, propsOf, pointsTrace, pathsTrace, drawnOf, itemOf}
+use Rattle.convert.specs.Space.{Sheet, most, longest, sheetBy, Fits, Played, Small, Ringed}
+use Rattle.convert.specs.Laws.Laying.{written-points}
+
+-- from a work slice of the same length
+pub played-from : {a : Trace} {j k : ℕ} {ps : List Float} {fs v : List ℕ} (st : State) {u : Sheet} {b : Budget} → j ≡ k
+    → Played a (sheetBy j ps fs v st) u b → Played a (sheetBy k ps fs v st) u b
+played-from st e h = rw e at h
+
+-- ---- rings
+-- a ring has points, and few
+pub record Round (m : Made) : Type 0 where
+  pub some : 1 ≤ length (m .points)
+  pub small : Small m
+
+module _ (step scale tol : Float) (c : Point) (b : Budget) (left : b .left ≤ most) where
+  pub ellipse-round : (rx ry : Float) → Round (ellipseRingOf step scale tol c rx ry b)
+  ellipse-round rx ry =
+      record {
+        some = omega (arith, ring-least (ellipse-ring step scale tol c rx ry b));
+        small = record { few = omega (arith, ellipse-most step scale tol c rx ry b); left = omega (arith, left-falls (ellipse-replays step scale tol c rx ry b)) };
+      }
+
+  pub box-round : (w h rad : Float) → Round (boxRingOf step scale tol c w h rad b)
+  box-round w h rad =
+      record {
+        some = omega (arith, ring-least (box-ring step scale tol c w h rad b));
+        small = record { few = omega (arith, box-most step scale tol c w h rad b); left = omega (arith, left-falls (box-replays step scale tol c w h rad b)) };
+      }
+
+module _ {w w′ : List Float} {m : Made} {d : Done} (one : Written w w′ 0 m d) (round : Round m) where
+  ends : d .ok ≡ true → d .at ≡ length (flats (m .points))
+  ends fits = omega (arith, one .next fits)
+
+  ringed : Ringed w′ m d
+  ringed =
+      record {
+        asked = rw (one .kept) (rw zero-add at (one .asked));
+        points = λ fits. written-points one fits;
+        end = ends;
+        after = one .left;
+        left = λ fits. rw (one .left fits) (round .small .left);
+        few = λ fits. omega (arith, ends fits, flats-length (m .points), round .small .few);
+      }
+
+  -- where it ends, as draw_ring asks for it
+  pub ring-in : d .ok ≡ true → (2 ≤ d .at) × (d .at ≤ length w′) × (d .at ≤ longest) × (d .budget .left ≤ most)
+  ring-in fits = (omega (arith, ends fits, flats-length (m .points), round .some), next-in one fits, ringed .few fits, ringed .left fits)
+
+  -- and drawn
+  pub ring-played : (cx : Ctx) (p : Props) {st r : State} {ps ps′ : List Float} {fs fs′ v : List ℕ}
+      → ((n : Made) (u : List ℕ) → Ringed w′ n d → Fits (sheetBy (length w′) ps fs u st) (st .budget)
+      → Played (ringTrace cx p n) (sheetBy (length w′) ps fs u st) (sheetBy (length w′) ps′ fs′ u r) (r .budget))
+      → Fits (sheetBy (length w) ps fs v st) (st .budget)
+      → Played (ringTrace cx p m) (sheetBy (length w) ps fs v st) (sheetBy (length w′) ps′ fs′ v r) (r .budget)
+  ring-played cx p {st = st} {v = v} drawn h = played-from st (one .kept) (drawn m v ringed (rw (one .kept) h))
+
+-- ---- points
+module _ (cx : Ctx) (p : Props) (closed : Bool) {ps : Maybe (List Point)} (outline : Maybe (List Point)) (b : Budget) {c : Budget} {t u : Sheet} where
+  pub points-missing : ps ≡ none → Played (missing (p .item) b) t u c → Played (pointsTrace cx p closed ps outline b) t u c
+  unfolding pointsTrace
+  points-missing e h = rw e h
+
+  pub points-drawn : {qs : List Point} {o : Maybe (List Point)} → ps ≡ some qs → outline ≡ o → Played (polylineOrPolygonOf cx p closed qs o b) t u c
+      → Played (pointsTrace cx p closed ps outline b) t u c
+  unfolding pointsTrace
+  points-drawn e f h = rw (e, f) h
+
+-- ---- paths
+-- there is a second path where an answer says so
+pub many-is : {qs : List DrawnPath} (q : DrawnPath) (rest : List DrawnPath) (more : Bool) → qs ≡ cond more (q ∷ rest) [] → ltb 0 (length qs) ≡ more
+many-is q rest true e = rw e (lt-ltb 0 (suc (length rest)) (omega arith))
+many-is q rest false e = rw e refl
+
+module _ (cx : Ctx) (p : Props) {qs : List DrawnPath} (outlines : List DrawnPath) (b : Budget) {c : Budget} {t u : Sheet} where
+  pub paths-missing : qs ≡ [] → Played (missing (p .item) b) t u c → Played (pathsTrace cx p qs outlines b) t u c
+  unfolding pathsTrace
+  paths-missing e h = rw e h
+
+  pub paths-drawn : {q : DrawnPath} {rest : List DrawnPath} {many : Bool} → qs ≡ q ∷ rest → ltb 0 (length rest) ≡ many → Played (pathsOf cx p many 0 qs outlines b) t u c
+      → Played (pathsTrace cx p qs outlines b) t u c
+  unfolding pathsTrace
+  paths-drawn e more h = rw (e, more) (rw e at h)
+
+-- ---- an item
+pub item-drawn : (cx : Ctx) {p : Props} (i : ℕ) (it : DrawnItem) {r s : Shape} (b : Budget) {c : Budget} {t u : Sheet} → p ≡ propsOf onScreen i it → r ≡ shapeOf it → r ≡ s
+    → Played (drawnOf cx p it s b) t u c → Played (itemOf onScreen cx i it b) t u c
+unfolding itemOf
+item-drawn cx i it b props shape is h = rw (← props, ← shape, is) h

@@ -1,0 +1,222 @@
+-- Laws of a stroke's positions: written into the lent tail of a slice, sealed where they are a ring's, and then played as a feature. Assumes nothing.
+use Prim.Native.Nat.{ℕ, zero, suc, _+_, _-_, _/_, _≤_, _<_}
+use mathlib.Core.Path.{_≡_, refl, sym, ap, _∙_}
+use mathlib.Core.Bool.{Bool, true, false, cond}
+use mathlib.Core.List.{List, [], _∷_, _++_, append-nil}
+use native.Mathlib.Omega.{arith}
+use native.Mathlib.Nat.{zero-add, add-zero}
+use lib.ListN.{length, take, drop, set, getD, length-append, length-drop}
+use lib.Seq.{length-take-le, take-all, drop-length, drop-drop, getD-append-add, set-comm, set-set}
+use lib.Dec.{eqb, leb}
+use lib.Ieee.{Float, nan}
+use borrow.Author.Tests.{le-leb, lt-leb, leb-true, leb-false, eq-eqb, ne-eqb}
+use borrow.Rule.Slice.PartMut.{midOf, postOf, putMid, same-len-mid, post-is, take-put}
+use Rattle.scene.specs.Scene.{Point}
+use Rattle.budget.specs.declared.Budget.{Budget}
+use Rattle.densify.specs.declared.writing.Done.{Done}
+use Rattle.densify.specs.Densify.{Made, lastOf, densifyPolylineOf}
+use Rattle.densify.specs.Written.{flats, put, pointsOf, pointsIn, placing, Written}
+use Rattle.densify.specs.Laws.Writing.{flats-append, flats-length, put-length, put-next, written-room}
+use Rattle.densify.specs.Laws.Segments.{placed-count}
+use Rattle.densify.specs.Laws.Counts.{densify-least}
+use Rattle.densify.specs.Laws.Replay.{densify-replays}
+use Rattle.densify.specs.Laws.Sizes.{left-falls, densify-sized}
+use Rattle.convert.specs.declared.state.Ctx.{Ctx}
+use Rattle.convert.specs.declared.state.Props.{Props}
+use Rattle.convert.specs.declared.state.State.{State}
+use Rattle.convert.specs.Convert.{single, endWith, sealed, positionsOf, featureOf, strokeOf}
+use Rattle.convert.specs.Space.{sheetBy, most, longest, sealedIn, Fits, Played, Finished}
+use Rattle.convert.specs.Laws.Playing.{played-drawn}
+use Rattle.convert.specs.Laws.Events.{Restated, written-lacks, written-finished}
+
+-- ---- the tail of a slice, lent on
+-- room in the tail is room in the whole
+room-behind : (at n k : ℕ) → at ≤ n → leb (0 + k) (n - at) ≡ leb (at + k) n
+room-behind at n k h = go (leb (at + k) n) refl
+  where
+    go : (x : Bool) → leb (at + k) n ≡ x → leb (0 + k) (n - at) ≡ x
+    go true e = le-leb (0 + k) (n - at) (omega (arith, leb-true (at + k) n e))
+    go false e = lt-leb (0 + k) (n - at) (omega (arith, leb-false (at + k) n e))
+
+module _ (w : List Float) (at : ℕ) (h : at ≤ length w) where
+  tail-is : midOf at (length w - at) w ≡ drop at w
+  tail-is = take-all (length w - at) (drop at w) (omega (arith, length-drop at w))
+
+  -- nothing lies behind it
+  behind : postOf at (length w - at) w ≡ []
+  behind = post-is at (length w) w h ∙ drop-length w
+
+  put-tail : (vs : List Float) → putMid at (length w - at) w (put (drop at w) 0 vs) ≡ put w at vs
+  unfolding put
+  put-tail vs = rw (behind, append-nil, zero-add, drop-drop (length vs) at w)
+
+  pub tail-written : {t : List Float} {m : Made} {r : Done} → Written (midOf at (length w - at) w) t 0 m r
+      → Written w (putMid at (length w - at) w t) at m (record { ok = r .ok; at = at + r .at; budget = r .budget })
+  tail-written {t} {m} {r} part =
+      let one : Written (drop at w) t 0 m r = rw tail-is at part in
+      record {
+        asked = one .asked ∙ rw (length-drop at w) (room-behind at (length w) (length (flats (m .points))) h);
+        next = λ e. omega (arith, one .next e);
+        left = one .left;
+        holds = λ e. ap (putMid at (length w - at) w) (one .holds e) ∙ put-tail (flats (m .points));
+        before = take-put at (length w - at) w t h;
+        kept = same-len-mid at (length w - at) w t (part .kept);
+      }
+
+-- ---- a ring's positions
+-- all but the last
+abbrev butLast : Point → List Point → List Point
+butLast p [] = []
+butLast p (q ∷ qs) = p ∷ butLast q qs
+
+last-behind : (p : Point) (ps : List Point) → p ∷ ps ≡ butLast p ps ++ (lastOf p ps ∷ [])
+last-behind p [] = refl
+last-behind p (q ∷ qs) = ap (λ (l : List Point). p ∷ l) (last-behind q qs)
+
+end-is : (p q : Point) (qs : List Point) → endWith p (q ∷ qs) ≡ butLast q qs ++ (p ∷ [])
+end-is p q [] = refl
+end-is p q (r ∷ rs) = ap (λ (l : List Point). q ∷ l) (end-is p r rs)
+
+sealed-is : (p : Point) (ps : List Point) → sealed (p ∷ ps) ≡ butLast p ps ++ (p ∷ [])
+sealed-is p [] = refl
+sealed-is p (q ∷ qs) = ap (λ (l : List Point). p ∷ l) (end-is p q qs)
+
+sealed-length : (ps : List Point) → length (sealed ps) ≡ length ps
+sealed-length [] = refl
+sealed-length (p ∷ ps) =
+    ap length (sealed-is p ps) ∙ length-append (butLast p ps) (p ∷ []) ∙ sym (ap length (last-behind p ps) ∙ length-append (butLast p ps) (lastOf p ps ∷ []))
+
+-- a point stored over another
+stored-over : (w : List Float) (i : ℕ) (a b c d : Float) → set (set (set (set w i a) (i + 1) b) i c) (i + 1) d ≡ set (set w i c) (i + 1) d
+stored-over w i a b c d =
+    let apart : i + 1 ≡ i → ⊥ = λ e. omega arith in
+    rw (set-comm (set w i a) (i + 1) i b c apart, set-set w i a c, set-set (set w i c) (i + 1) b d)
+
+first-in : (w : List Float) (at : ℕ) (p : Point) (ps : List Point) → at ≤ length w
+    → let v = put w at (flats (p ∷ ps)) in (getD v at nan ≡ p .x) × (getD v (at + 1) nan ≡ p .y)
+unfolding put flats
+first-in w at p ps h =
+    let n : length (take at w) ≡ at = length-take-le at w h in
+    let rest = p .x ∷ p .y ∷ (flats ps ++ drop (at + length (flats (p ∷ ps))) w) in
+    (rw (add-zero, n) at (getD-append-add (take at w) rest 0 nan), rw n at (getD-append-add (take at w) rest 1 nan))
+
+-- the last two floats before `to` become the point p that stands at `from`
+ends-with : (v : List Float) (from to i : ℕ) (p : Point) → to ≡ i + 2 → (getD v from nan ≡ p .x) × (getD v (from + 1) nan ≡ p .y)
+    → sealedIn v from to ≡ set (set v i (p .x)) (i + 1) (p .y)
+unfolding sealedIn
+ends-with v from to i p e first =
+    let two : to - 2 ≡ i = omega arith in
+    let one : to - 1 ≡ i + 1 = omega arith in
+    rw (two, one, first .0, first .1)
+
+sealed-put : (w : List Float) (at : ℕ) (ps : List Point) → 1 ≤ length ps → at + length (flats ps) ≤ length w
+    → sealedIn (put w at (flats ps)) at (at + length (flats ps)) ≡ put w at (flats (sealed ps))
+unfolding flats
+sealed-put w at [] some h = absurd (omega arith)
+sealed-put w at (p ∷ ps) some h =
+    let front = butLast p ps in
+    let last = lastOf p ps in
+    let i = at + length (flats front) in
+    let size : length (flats (p ∷ ps)) ≡ length (flats front) + 2 =
+    ap (λ (l : List Point). length (flats l)) (last-behind p ps) ∙ ap length (flats-append front (last ∷ [])) ∙ length-append (flats front) (flats (last ∷ [])) in
+    let room : i + 2 ≤ length w = omega arith in
+    ends-with (put w at (flats (p ∷ ps))) at (at + length (flats (p ∷ ps))) i p (omega arith) (first-in w at p ps (omega arith))
+    ∙ ap (λ (l : List Point). set (set (put w at (flats l)) i (p .x)) (i + 1) (p .y)) (last-behind p ps)
+    ∙ ap (λ (v : List Float). set (set v i (p .x)) (i + 1) (p .y)) (sym (put-next w at front last room))
+    ∙ stored-over (put w at (flats front)) i (last .x) (last .y) (p .x) (p .y)
+    ∙ put-next w at front p room
+    ∙ ap (λ (l : List Point). put w at (flats l)) (sym (sealed-is p ps))
+
+-- ---- the positions of a line or a ring
+module _ (geometry : ℕ) (ps : List Point) where
+  positions-length : length (positionsOf geometry ps) ≡ length ps
+  positions-length = go (eqb geometry 2)
+    where
+      go : (x : Bool) → length (cond x (sealed ps) ps) ≡ length ps
+      go true = sealed-length ps
+      go false = refl
+
+  positions-room : length (flats (positionsOf geometry ps)) ≡ length (flats ps)
+  positions-room = omega (arith, positions-length, flats-length ps, flats-length (positionsOf geometry ps))
+
+-- ---- how many points a stroke makes
+points-count : (w : List Float) (i n : ℕ) → length (pointsOf w i n) ≡ n
+unfolding pointsOf
+points-count w i zero = refl
+points-count w i (suc n) = ap suc (points-count w (i + 2) n)
+
+points-between : (w : List Float) (from to : ℕ) → length (pointsIn w from to) ≡ (to - from) / 2
+unfolding pointsIn
+points-between w from to = points-count w from ((to - from) / 2)
+
+-- a stroke's positions, before a ring is sealed
+abbrev pub strokeMade : Ctx → List Point → Budget → Made
+strokeMade cx ps b = placing (cx .projection) (densifyPolylineOf (cx .step) (cx .projection .scale) ps b)
+
+module _ (cx : Ctx) (w : List Float) (from to : ℕ) (b : Budget) where
+  abbrev between : List Point
+  between = pointsIn w from to
+
+  made-count : length (strokeMade cx between b .points) ≡ length (densifyPolylineOf (cx .step) (cx .projection .scale) between b .points)
+  made-count = placed-count (cx .projection) (densifyPolylineOf (cx .step) (cx .projection .scale) between b)
+
+  pub stroke-some : from + 2 ≤ to → 1 ≤ length (strokeMade cx between b .points)
+  stroke-some h = rw made-count (omega (arith, points-between w from to, densify-least (cx .step) (cx .projection .scale) between b))
+
+  pub stroke-few : to ≤ longest → b .left ≤ most → length (strokeMade cx between b .points) ≤ most + longest
+  stroke-few h left = rw made-count (omega (arith, points-between w from to, densify-sized (cx .step) (cx .projection .scale) between b))
+
+-- ---- where they stand
+pub record Stands (geometry : ℕ) (ps : List Point) (at : ℕ) (q q₂ : List Float) (end : ℕ) : Type 0 where
+  pub there : q₂ ≡ put q at (flats (positionsOf geometry ps))
+  pub ends : end ≡ at + length (flats (positionsOf geometry ps))
+
+module _ (geometry : ℕ) {q q₁ : List Float} {at : ℕ} {m : Made} {r : Done} (one : Written q q₁ at m r) (fits : r .ok ≡ true) where
+  pub line-stands : (geometry ≡ 2 → ⊥) → Stands geometry (m .points) at q q₁ (r .at)
+  line-stands line = record { there = rw (ne-eqb geometry 2 line) (one .holds fits); ends = rw (ne-eqb geometry 2 line) (one .next fits) }
+
+  pub ring-stands : geometry ≡ 2 → 1 ≤ length (m .points) → Stands geometry (m .points) at q (sealedIn q₁ at (r .at)) (r .at)
+  ring-stands ring some =
+      record {
+        there = rw (one .holds fits, one .next fits, eq-eqb geometry 2 ring) (sealed-put q at (m .points) some (written-room one fits));
+        ends = rw (positions-room geometry (m .points)) (one .next fits);
+      }
+
+  pub stands-length : {q₂ : List Float} {end : ℕ} → Stands geometry (m .points) at q q₂ end → length q₂ ≡ length q
+  stands-length s =
+      rw (s .there) (put-length q at (flats (positionsOf geometry (m .points))) (omega (arith, written-room one fits, positions-room geometry (m .points))))
+
+-- ---- a stroke as the code draws it
+module _ (cx : Ctx) (p : Props) (geometry role : ℕ) (ps : List Point) (work : ℕ) {q q₁ : List Float} {f v : List ℕ} {st : State} (d : Done)
+    (start : st .number ≡ 0) (h : Fits (sheetBy work q f v st) (st .budget))
+    (one : Written q q₁ (st .positions) (strokeMade cx ps (st .budget)) (record { ok = d .ok; at = st .positions + d .at; budget = d .budget })) where
+  abbrev made : Made
+  made = densifyPolylineOf (cx .step) (cx .projection .scale) ps (st .budget)
+
+  abbrev placed : List Point
+  placed = strokeMade cx ps (st .budget) .points
+
+  abbrev drawn : List Point
+  drawn = positionsOf geometry placed
+
+  same-room : length (flats drawn) ≡ length (flats placed)
+  same-room = positions-room geometry placed
+
+  pub stroke-lacks : {r : State} → d .ok ≡ false → Restated st 16 (st .budget) r
+      → Played (strokeOf cx p geometry role ps (st .budget)) (sheetBy work q f v st) (sheetBy work q₁ f v r) (r .budget)
+  unfolding strokeOf
+  stroke-lacks short is =
+      let lacks : length q < st .positions + length (flats placed) = leb-false (st .positions + length (flats placed)) (length q) (sym (one .asked) ∙ short) in
+      played-drawn made (λ b. single (featureOf p geometry role drawn) b)
+      (written-lacks p geometry role drawn (made .after) work start h (one .kept) (omega (arith, same-room)) is)
+
+  pub stroke-finished : {q₂ : List Float} {f′ : List ℕ} {r : State} {end : ℕ} → d .ok ≡ true → Stands geometry placed (st .positions) q q₂ end
+      → Finished p geometry role end (d .at / 2) (d .budget) f f′ st r
+      → Played (strokeOf cx p geometry role ps (st .budget)) (sheetBy work q f v st) (sheetBy work q₂ f′ v r) (r .budget)
+  unfolding strokeOf
+  stroke-finished fits stands fin =
+      let count : d .at / 2 ≡ length drawn = omega (arith, one .next fits, flats-length drawn, same-room) in
+      let left = left-falls (densify-replays (cx .step) (cx .projection .scale) ps (st .budget)) in
+      played-drawn made (λ b. single (featureOf p geometry role drawn) b)
+      (written-finished p geometry role drawn (made .after) work start h (omega (arith, written-room one fits, same-room)) (stands .there) (omega arith)
+      (rw (stands .ends, count, one .left fits) at fin))

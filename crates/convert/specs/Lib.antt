@@ -1,0 +1,4 @@
+-- Items to features.
+pub mod Convert
+pub mod Space
+pub mod Laws

@@ -1,0 +1,374 @@
+// Items, one after the other.
+ghost use mathlib.Core.Path.{_≡_};
+ghost use mathlib.Core.Bool.{Bool, true, false, cond};
+ghost use mathlib.Core.List.{List, []};
+ghost use Prim.Native.Nat.{ℕ, _+_, _≤_, _<_};
+ghost use lib.Ieee.{Float};
+ghost use lib.ListN.{length};
+ghost use Rattle.stream.specs.Payload.{payload, room};
+ghost use Rattle.scene.specs.Answers.{PathWithin, pointsFrom, pathsFrom, pathsBy, itemsAt, itemBy};
+ghost use Rattle.densify.specs.Densify.{boxRingOf, ellipseRingOf};
+ghost use Rattle.convert.specs.Convert.{ringTrace, pointsTrace, pathsOf, pathsTrace, withPart, onScreen, itemOf, itemsOf, convertOf};
+ghost use Rattle.convert.specs.Space.{sheetBy, Fits, Played};
+use crate::laying::lay_path;
+use crate::laying::lay_points;
+use crate::positions::spot;
+use crate::shapes::Shape;
+use crate::shapes::props_of;
+use crate::shapes::shape_of;
+use crate::state::Ctx;
+use crate::state::Props;
+use crate::state::State;
+use crate::state::warn;
+use crate::strokes::draw_ring;
+use crate::strokes::polyline_or_polygon;
+use densify::box_ring;
+use densify::ellipse_ring;
+use scene::Item;
+use scene::Path;
+use scene::next_item;
+use scene::next_path;
+use scene::points_of;
+
+fn draw_box(
+    cx: Ctx,
+    p: Props,
+    x: f64,
+    y: f64,
+    w: f64,
+    h: f64,
+    rad: f64,
+    work: &mut [f64],
+    positions: &mut [f64],
+    features: &mut [u32],
+    warnings: &mut [u32],
+    st: State,
+) -> State
+    requires { ⌜ Fits (sheetBy (length (now work)) (now positions) (now features) (now warnings) st) (st .budget) ⌝ }
+    ensures { λ r. ⌜ Played (ringTrace cx p (boxRingOf (cx .step) (cx .projection .scale) (cx .flatten) (record { x = x; y = y }) w h rad (st .budget))) (sheetBy (length (now (work .entry))) (now (positions .entry)) (now (features .entry)) (now (warnings .entry)) st) (sheetBy (length (now (work .exit))) (now (positions .exit)) (now (features .exit)) (now (warnings .exit)) r) (r .budget) ⌝ }
+{
+    let scale = cx.projection.scale;
+    let d = box_ring(
+        cx.step,
+        scale,
+        cx.flatten,
+        [x, y],
+        w,
+        h,
+        rad,
+        st.budget,
+        work,
+        0,
+    );
+    draw_ring(cx, p, d, work, positions, features, st)
+}
+
+fn draw_ellipse(
+    cx: Ctx,
+    p: Props,
+    x: f64,
+    y: f64,
+    rx: f64,
+    ry: f64,
+    work: &mut [f64],
+    positions: &mut [f64],
+    features: &mut [u32],
+    warnings: &mut [u32],
+    st: State,
+) -> State
+    requires { ⌜ Fits (sheetBy (length (now work)) (now positions) (now features) (now warnings) st) (st .budget) ⌝ }
+    ensures { λ r. ⌜ Played (ringTrace cx p (ellipseRingOf (cx .step) (cx .projection .scale) (cx .flatten) (record { x = x; y = y }) rx ry (st .budget))) (sheetBy (length (now (work .entry))) (now (positions .entry)) (now (features .entry)) (now (warnings .entry)) st) (sheetBy (length (now (work .exit))) (now (positions .exit)) (now (features .exit)) (now (warnings .exit)) r) (r .budget) ⌝ }
+{
+    let scale = cx.projection.scale;
+    let d = ellipse_ring(
+        cx.step,
+        scale,
+        cx.flatten,
+        [x, y],
+        rx,
+        ry,
+        st.budget,
+        work,
+        0,
+    );
+    draw_ring(cx, p, d, work, positions, features, st)
+}
+
+// The points that follow an item, from `next` on.
+fn draw_points(
+    s: &[u8],
+    cx: Ctx,
+    p: Props,
+    closed: bool,
+    next: usize,
+    work: &mut [f64],
+    positions: &mut [f64],
+    features: &mut [u32],
+    warnings: &mut [u32],
+    st: State,
+) -> State
+    requires { ⌜ Fits (sheetBy (length (now work)) (now positions) (now features) (now warnings) st) (st .budget) ⌝ }
+    ensures { λ r. ⌜ Played (pointsTrace cx p closed (pointsFrom (payload (now (s .entry))) next 0) (pointsFrom (payload (now (s .entry))) next 1) (st .budget)) (sheetBy (length (now (work .entry))) (now (positions .entry)) (now (features .entry)) (now (warnings .entry)) st) (sheetBy (length (now (work .exit))) (now (positions .exit)) (now (features .exit)) (now (warnings .exit)) r) (r .budget) ⌝ }
+{
+    let points = points_of(s, next, 0);
+    if !points.some {
+        return warn(warnings, st, 5, p.item);
+    }
+    let outline = points_of(s, next, 1);
+    let l = lay_points(s, closed, points, outline, st.budget, work);
+    polyline_or_polygon(cx, p, closed, l, work, positions, features, warnings, st)
+}
+
+// The next fill path, none where none was left before.
+fn next_outline(s: &[u8], q: usize, more: bool) -> Path
+    ensures { λ r. ⌜ cond more (pathsFrom (payload (now (s .entry))) q 1) [] ≡ pathsBy (payload (now (s .entry))) 1 r ⌝ }
+    ensures { λ r. ⌜ (r .some ≡ true → PathWithin (room (now (s .entry))) q r) ⌝ }
+{
+    if !more {
+        return Path {
+            some: false,
+            closed: false,
+            curve: false,
+            start: 0,
+            at: 0,
+            count: 0,
+            next: q,
+        };
+    }
+    next_path(s, q, 1)
+}
+
+// The part that a feature line tells of the i-th path: none where the item has one path alone.
+fn part_of(p: Props, many: bool, i: usize) -> Props
+    requires { ⌜ i < 4294967295 ⌝ }
+    ensures { λ r. ⌜ r ≡ withPart p (cond many (i + 1) 0) ⌝ }
+{
+    let mut part = 0u32;
+    if many {
+        part = i as u32 + 1;
+    }
+    Props {
+        item: p.item,
+        placement: p.placement,
+        part: part,
+        fill: p.fill,
+    }
+}
+
+// The paths that follow an item, each with the fill path of its index; `many` says that there is more than one.
+fn draw_each(
+    s: &[u8],
+    cx: Ctx,
+    p: Props,
+    many: bool,
+    next: usize,
+    work: &mut [f64],
+    positions: &mut [f64],
+    features: &mut [u32],
+    warnings: &mut [u32],
+    st: State,
+) -> State
+    requires { ⌜ (room (now s) < 4294967295) × Fits (sheetBy (length (now work)) (now positions) (now features) (now warnings) st) (st .budget) ⌝ }
+    ensures { λ r. ⌜ Played (pathsOf cx p many 0 (pathsFrom (payload (now (s .entry))) next 0) (pathsFrom (payload (now (s .entry))) next 1) (st .budget)) (sheetBy (length (now (work .entry))) (now (positions .entry)) (now (features .entry)) (now (warnings .entry)) st) (sheetBy (length (now (work .exit))) (now (positions .exit)) (now (features .exit)) (now (warnings .exit)) r) (r .budget) ⌝ }
+{
+    let mut state = st;
+    let mut q = next;
+    let mut o = next;
+    let mut more = true;
+    let mut i = 0usize;
+    loop {
+        if state.number != 0 {
+            return state;
+        }
+        let path = next_path(s, q, 0);
+        if !path.some {
+            return state;
+        }
+        let outline = next_outline(s, o, more);
+        let l = lay_path(s, path, outline, cx.flatten, state.budget, work);
+        let props = part_of(p, many, i);
+        state = polyline_or_polygon(
+            cx,
+            props,
+            path.closed,
+            l,
+            work,
+            positions,
+            features,
+            warnings,
+            state,
+        );
+        q = path.next;
+        o = outline.next;
+        more = outline.some;
+        i += 1;
+    }
+}
+
+fn draw_paths(
+    s: &[u8],
+    cx: Ctx,
+    p: Props,
+    next: usize,
+    work: &mut [f64],
+    positions: &mut [f64],
+    features: &mut [u32],
+    warnings: &mut [u32],
+    st: State,
+) -> State
+    requires { ⌜ (room (now s) < 4294967295) × Fits (sheetBy (length (now work)) (now positions) (now features) (now warnings) st) (st .budget) ⌝ }
+    ensures { λ r. ⌜ Played (pathsTrace cx p (pathsFrom (payload (now (s .entry))) next 0) (pathsFrom (payload (now (s .entry))) next 1) (st .budget)) (sheetBy (length (now (work .entry))) (now (positions .entry)) (now (features .entry)) (now (warnings .entry)) st) (sheetBy (length (now (work .exit))) (now (positions .exit)) (now (features .exit)) (now (warnings .exit)) r) (r .budget) ⌝ }
+{
+    let first = next_path(s, next, 0);
+    if !first.some {
+        return warn(warnings, st, 5, p.item);
+    }
+    let second = next_path(s, first.next, 0);
+    draw_each(
+        s,
+        cx,
+        p,
+        second.some,
+        next,
+        work,
+        positions,
+        features,
+        warnings,
+        st,
+    )
+}
+
+fn draw_item(
+    s: &[u8],
+    cx: Ctx,
+    it: Item,
+    i: u32,
+    work: &mut [f64],
+    positions: &mut [f64],
+    features: &mut [u32],
+    warnings: &mut [u32],
+    st: State,
+) -> State
+    requires { ⌜ (room (now s) < 4294967295) × Fits (sheetBy (length (now work)) (now positions) (now features) (now warnings) st) (st .budget) ⌝ }
+    ensures { λ r. ⌜ Played (itemOf onScreen cx i (itemBy (payload (now (s .entry))) it) (st .budget)) (sheetBy (length (now (work .entry))) (now (positions .entry)) (now (features .entry)) (now (warnings .entry)) st) (sheetBy (length (now (work .exit))) (now (positions .exit)) (now (features .exit)) (now (warnings .exit)) r) (r .budget) ⌝ }
+{
+    let p = props_of(it, i);
+    match shape_of(it) {
+        Shape::Box(x, y, w, h, rad) => draw_box(
+            cx,
+            p,
+            x,
+            y,
+            w,
+            h,
+            rad,
+            work,
+            positions,
+            features,
+            warnings,
+            st,
+        ),
+        Shape::Ellipse(x, y, w, h) => draw_ellipse(
+            cx,
+            p,
+            x,
+            y,
+            w / 2.0,
+            h / 2.0,
+            work,
+            positions,
+            features,
+            warnings,
+            st,
+        ),
+        Shape::Circle(x, y, r) => draw_ellipse(
+            cx,
+            p,
+            x,
+            y,
+            r,
+            r,
+            work,
+            positions,
+            features,
+            warnings,
+            st,
+        ),
+        Shape::Dot(x, y) => spot(cx, p, x, y, positions, features, st),
+        Shape::Points => draw_points(
+            s,
+            cx,
+            p,
+            it.closed,
+            it.next,
+            work,
+            positions,
+            features,
+            warnings,
+            st,
+        ),
+        Shape::Paths => draw_paths(s, cx, p, it.next, work, positions, features, warnings, st),
+        Shape::Missing => warn(warnings, st, 5, i),
+        Shape::Nothing => st,
+    }
+}
+
+fn draw_items(
+    s: &[u8],
+    cx: Ctx,
+    work: &mut [f64],
+    positions: &mut [f64],
+    features: &mut [u32],
+    warnings: &mut [u32],
+    st: State,
+) -> State
+    requires { ⌜ (room (now s) < 4294967295) × Fits (sheetBy (length (now work)) (now positions) (now features) (now warnings) st) (st .budget) ⌝ }
+    ensures { λ r. ⌜ Played (itemsOf onScreen cx 0 (itemsAt (payload (now (s .entry))) 0) (st .budget)) (sheetBy (length (now (work .entry))) (now (positions .entry)) (now (features .entry)) (now (warnings .entry)) st) (sheetBy (length (now (work .exit))) (now (positions .exit)) (now (features .exit)) (now (warnings .exit)) r) (r .budget) ⌝ }
+{
+    let mut state = st;
+    let mut q = 0usize;
+    let mut i = 0usize;
+    loop {
+        if state.number != 0 {
+            return state;
+        }
+        let it = next_item(s, q);
+        if !it.some {
+            return state;
+        }
+        state = draw_item(
+            s,
+            cx,
+            it,
+            i as u32,
+            work,
+            positions,
+            features,
+            warnings,
+            state,
+        );
+        q = it.next;
+        i += 1;
+    }
+}
+
+// Every item of the scene, then the warning that the allowance was spent.
+pub fn convert(
+    s: &[u8],
+    cx: Ctx,
+    work: &mut [f64],
+    positions: &mut [f64],
+    features: &mut [u32],
+    warnings: &mut [u32],
+    st: State,
+) -> State
+    requires { ⌜ (room (now s) < 4294967295) × Fits (sheetBy (length (now work)) (now positions) (now features) (now warnings) st) (st .budget) ⌝ }
+    ensures { λ r. ⌜ Played (convertOf onScreen cx (itemsAt (payload (now (s .entry))) 0) (st .budget)) (sheetBy (length (now (work .entry))) (now (positions .entry)) (now (features .entry)) (now (warnings .entry)) st) (sheetBy (length (now (work .exit))) (now (positions .exit)) (now (features .exit)) (now (warnings .exit)) r) (r .budget) ⌝ }
+{
+    let r = draw_items(s, cx, work, positions, features, warnings, st);
+    let left = r.budget;
+    if !left.hit {
+        return r;
+    }
+    warn(warnings, r, 6, 0)
+}

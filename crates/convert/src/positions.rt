@@ -1,0 +1,160 @@
+// Features: their positions, then their line.
+ghost use mathlib.Core.Path.{_≡_};
+ghost use mathlib.Core.List.{List};
+ghost use Prim.Native.Nat.{ℕ, _+_, _≤_};
+ghost use lib.Ieee.{Float};
+ghost use lib.ListN.{length};
+ghost use Rattle.scene.specs.Scene.{Point};
+ghost use Rattle.densify.specs.Written.{pointsIn};
+ghost use Rattle.convert.specs.Convert.{strokeOf, unwrittenOf, pointOf};
+ghost use Rattle.convert.specs.Space.{sheetBy, most, longest, sealedIn, Finished, Fits, Played};
+use crate::state::Ctx;
+use crate::state::Props;
+use crate::state::State;
+use crate::state::lack;
+use crate::state::warn;
+use crate::state::with_budget;
+use budget::Budget;
+use densify::densify_polyline;
+use densify::put_point;
+use densify::spend_polyline;
+use geojson::Feature;
+use geojson::write_line;
+use similarity::geo;
+
+// The last position of those from `from` to `to` becomes the first, bit for bit.
+fn seal(out: &mut [f64], from: usize, to: usize) -> usize
+    requires { ⌜ (from + 2 ≤ to) × (to ≤ length (now out)) ⌝ }
+    ensures { λ r. ⌜ (now (out .exit) ≡ sealedIn (now (out .entry)) from to) × (r ≡ to) ⌝ }
+{
+    let lon = out[from];
+    let lat = out[from + 1];
+    out[to - 2] = lon;
+    out[to - 1] = lat;
+    to
+}
+
+// The line of a feature whose positions stand from st.positions to `to`.
+fn finish(
+    p: Props,
+    geometry: u32,
+    role: u32,
+    to: usize,
+    count: u32,
+    budget: Budget,
+    features: &mut [u32],
+    st: State,
+) -> State
+    requires { ⌜ st .features ≤ length (now features) ⌝ }
+    ensures { λ r. ⌜ Finished p geometry role to count budget (now (features .entry)) (now (features .exit)) st r ⌝ }
+{
+    let line = Feature {
+        item: p.item,
+        geometry: geometry,
+        role: role,
+        placement: p.placement,
+        part: p.part,
+        count: count,
+    };
+    let at = st.features;
+    if !write_line(features, at, line) {
+        return lack(st, 17);
+    }
+    State {
+        number: 0,
+        positions: to,
+        features: at + 6,
+        warnings: st.warnings,
+        budget: budget,
+    }
+}
+
+// The points in `work` from `from` to `to`, densified and carried to the Earth: a line (geometry 1) or a ring (2). The tail of the position slice is lent on to be filled.
+pub fn stroke(
+    cx: Ctx,
+    p: Props,
+    geometry: u32,
+    role: u32,
+    work: &[f64],
+    from: usize,
+    to: usize,
+    positions: &mut [f64],
+    features: &mut [u32],
+    st: State,
+) -> State
+    requires { ⌜ (from + 2 ≤ to) × (to ≤ length (now work)) × (to ≤ longest) × (st .positions ≤ length (now positions)) × (st .features ≤ length (now features)) × (st .budget .left ≤ most) ⌝ }
+    ensures { λ r. ⌜ ((w : ℕ) (v : List ℕ) → Fits (sheetBy w (now (positions .entry)) (now (features .entry)) v st) (st .budget) → Played (strokeOf cx p geometry role (pointsIn (now (work .entry)) from to) (st .budget)) (sheetBy w (now (positions .entry)) (now (features .entry)) v st) (sheetBy w (now (positions .exit)) (now (features .exit)) v r) (r .budget)) ⌝ }
+{
+    if st.number != 0 {
+        return st;
+    }
+    let at = st.positions;
+    let d = densify_polyline(
+        cx.projection,
+        cx.step,
+        work,
+        from,
+        to,
+        st.budget,
+        &mut positions[at..],
+        0,
+    );
+    if !d.ok {
+        return lack(st, 16);
+    }
+    let mut end = at + d.at;
+    if geometry == 2 {
+        end = seal(positions, at, end);
+    }
+    finish(
+        p,
+        geometry,
+        role,
+        end,
+        (d.at / 2) as u32,
+        d.budget,
+        features,
+        st,
+    )
+}
+
+// A point.
+pub fn spot(
+    cx: Ctx,
+    p: Props,
+    x: f64,
+    y: f64,
+    positions: &mut [f64],
+    features: &mut [u32],
+    st: State,
+) -> State
+    requires { ⌜ (st .positions ≤ length (now positions)) × (st .features ≤ length (now features)) ⌝ }
+    ensures { λ r. ⌜ ((w : ℕ) (v : List ℕ) → Fits (sheetBy w (now (positions .entry)) (now (features .entry)) v st) (st .budget) → Played (pointOf cx p (record { x = x; y = y }) (st .budget)) (sheetBy w (now (positions .entry)) (now (features .entry)) v st) (sheetBy w (now (positions .exit)) (now (features .exit)) v r) (r .budget)) ⌝ }
+{
+    if st.number != 0 {
+        return st;
+    }
+    let g = geo(cx.projection, x, y);
+    let d = put_point(g.lon, g.lat, st.budget, positions, st.positions);
+    if !d.ok {
+        return lack(st, 16);
+    }
+    finish(p, 0, 0, d.at, 1, st.budget, features, st)
+}
+
+// Fewer positions than a ring has: the draws stand, and a warning takes the place.
+pub fn unwritten(
+    cx: Ctx,
+    item: u32,
+    work: &[f64],
+    from: usize,
+    to: usize,
+    warnings: &mut [u32],
+    st: State,
+) -> State
+    requires { ⌜ (from ≤ to) × (to ≤ length (now work)) × (st .warnings ≤ length (now warnings)) ⌝ }
+    ensures { λ r. ⌜ ((w : ℕ) (q : List Float) (f : List ℕ) → Fits (sheetBy w q f (now (warnings .entry)) st) (st .budget) → Played (unwrittenOf cx item (pointsIn (now (work .entry)) from to) (st .budget)) (sheetBy w q f (now (warnings .entry)) st) (sheetBy w q f (now (warnings .exit)) r) (r .budget)) ⌝ }
+{
+    let left = spend_polyline(cx.step, cx.projection.scale, work, from, to, st.budget);
+    warn(warnings, with_budget(st, left), 5, item)
+}

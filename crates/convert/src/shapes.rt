@@ -1,0 +1,128 @@
+// What an item draws.
+ghost use mathlib.Core.Path.{_≡_};
+ghost use mathlib.Core.List.{List};
+ghost use Prim.Native.Nat.{ℕ};
+ghost use Rattle.scene.specs.Answers.{itemBy};
+ghost use Rattle.convert.specs.Convert.{boxOf, ellipseOf, circleOf, dotOf, shapeOf, onScreen, propsOf};
+use crate::state::Props;
+use scene::Item;
+
+// A drawn shape with its centre, sizes and radii, or a list of points or paths.
+pub enum Shape {
+    Box(f64, f64, f64, f64, f64),
+    Ellipse(f64, f64, f64, f64),
+    Circle(f64, f64, f64),
+    Dot(f64, f64),
+    Points,
+    Paths,
+    Missing,
+    Nothing,
+}
+
+fn box_of(it: Item) -> Shape
+    ensures { λ r. ⌜ ((l : List ℕ) → r ≡ boxOf (itemBy l it)) ⌝ }
+{
+    if !it.at.some {
+        return Shape::Missing;
+    }
+    if !it.w.some {
+        return Shape::Missing;
+    }
+    if !it.h.some {
+        return Shape::Missing;
+    }
+    if !it.rad.some {
+        return Shape::Box(it.at.x, it.at.y, it.w.value, it.h.value, 0.0);
+    }
+    Shape::Box(it.at.x, it.at.y, it.w.value, it.h.value, it.rad.value)
+}
+
+fn ellipse_of(it: Item) -> Shape
+    ensures { λ r. ⌜ ((l : List ℕ) → r ≡ ellipseOf (itemBy l it)) ⌝ }
+{
+    if !it.at.some {
+        return Shape::Missing;
+    }
+    if !it.w.some {
+        return Shape::Missing;
+    }
+    if !it.h.some {
+        return Shape::Missing;
+    }
+    Shape::Ellipse(it.at.x, it.at.y, it.w.value, it.h.value)
+}
+
+fn circle_of(it: Item) -> Shape
+    ensures { λ r. ⌜ ((l : List ℕ) → r ≡ circleOf (itemBy l it)) ⌝ }
+{
+    if !it.at.some {
+        return Shape::Missing;
+    }
+    if !it.r.some {
+        return Shape::Missing;
+    }
+    Shape::Circle(it.at.x, it.at.y, it.r.value)
+}
+
+fn dot_of(it: Item) -> Shape
+    ensures { λ r. ⌜ ((l : List ℕ) → r ≡ dotOf (itemBy l it)) ⌝ }
+{
+    if !it.at.some {
+        return Shape::Missing;
+    }
+    Shape::Dot(it.at.x, it.at.y)
+}
+
+// Texts and dots stay on the screen.
+fn is_on_screen(kind: u8) -> bool
+    ensures { λ r. ⌜ r ≡ onScreen kind ⌝ }
+{
+    kind == 7 || kind == 8
+}
+
+pub fn shape_of(it: Item) -> Shape
+    ensures { λ r. ⌜ ((l : List ℕ) → r ≡ shapeOf (itemBy l it)) ⌝ }
+{
+    let k = it.kind;
+    if it.hidden {
+        return Shape::Nothing;
+    }
+    if k == 10 {
+        return Shape::Nothing;
+    }
+    if k == 0 {
+        return box_of(it);
+    }
+    if k == 1 {
+        return circle_of(it);
+    }
+    if k == 2 {
+        return ellipse_of(it);
+    }
+    if is_on_screen(k) {
+        return dot_of(it);
+    }
+    if k == 4 {
+        return Shape::Points;
+    }
+    if k == 5 {
+        return Shape::Points;
+    }
+    Shape::Paths
+}
+
+// What its feature lines say of the i-th item.
+pub fn props_of(it: Item, i: u32) -> Props
+    ensures { λ r. ⌜ ((l : List ℕ) → r ≡ propsOf onScreen i (itemBy l it)) ⌝ }
+{
+    let mut placement = 0u32;
+    if it.screen || is_on_screen(it.kind) {
+        placement = 1;
+    }
+    Props {
+        item: i,
+        placement: placement,
+        part: 0,
+        fill: it.fill,
+    }
+}

@@ -1,0 +1,85 @@
+// What is handed from item to item.
+ghost use mathlib.Core.Path.{_≡_};
+ghost use Prim.Native.Nat.{_≤_};
+ghost use lib.Ieee.{Float};
+ghost use mathlib.Core.List.{List};
+ghost use Prim.Native.Nat.{ℕ};
+ghost use lib.ListN.{length};
+ghost use Rattle.convert.specs.Convert.{single, warned};
+ghost use Rattle.convert.specs.Space.{sheetBy, lacking, Fits, Played};
+use budget::Budget;
+use similarity::Projection;
+
+// The same for a whole sheet: the projection, the longest step in metres, and the tolerance for curves in inches.
+pub struct Ctx {
+    pub projection: Projection,
+    pub step: f64,
+    pub flatten: f64,
+}
+
+// What a feature line says of its item; `fill` asks for a separate fill of an open shape.
+pub struct Props {
+    pub item: u32,
+    pub placement: u32,
+    pub part: u32,
+    pub fill: bool,
+}
+
+// How much of each slice is used, in floats and words. `number` is 0, or tells what lacked room.
+pub struct State {
+    pub number: u8,
+    pub positions: usize,
+    pub features: usize,
+    pub warnings: usize,
+    pub budget: Budget,
+}
+
+// Something lacks room.
+pub fn lack(st: State, number: u8) -> State
+    ensures { λ r. ⌜ (r .number ≡ number) × (r .positions ≡ st .positions) × (r .features ≡ st .features) × (r .warnings ≡ st .warnings) × (r .budget ≡ st .budget) ⌝ }
+{
+    let budget = st.budget;
+    State {
+        number: number,
+        positions: st.positions,
+        features: st.features,
+        warnings: st.warnings,
+        budget: budget,
+    }
+}
+
+pub fn with_budget(st: State, budget: Budget) -> State
+    ensures { λ r. ⌜ (r .number ≡ st .number) × (r .positions ≡ st .positions) × (r .features ≡ st .features) × (r .warnings ≡ st .warnings) × (r .budget ≡ budget) ⌝ }
+{
+    State {
+        number: st.number,
+        positions: st.positions,
+        features: st.features,
+        warnings: st.warnings,
+        budget: budget,
+    }
+}
+
+// One warning more.
+pub fn warn(warnings: &mut [u32], st: State, kind: u32, index: u32) -> State
+    requires { ⌜ st .warnings ≤ length (now warnings) ⌝ }
+    ensures { λ r. ⌜ ((w : ℕ) (p : List Float) (f : List ℕ) → Fits (sheetBy w p f (now (warnings .entry)) st) (st .budget) → Played (single (warned (record { kind = kind; index = index })) (st .budget)) (sheetBy w p f (now (warnings .entry)) st) (sheetBy w p f (now (warnings .exit)) r) (r .budget)) ⌝ }
+{
+    if st.number != 0 {
+        return st;
+    }
+    let n = st.warnings;
+    if warnings.len() - n < 2 {
+        return lack(st, 18);
+    }
+    warnings[n] = kind;
+    warnings[n + 1] = index;
+    let budget = st.budget;
+    State {
+        number: 0,
+        positions: st.positions,
+        features: st.features,
+        warnings: n + 2,
+        budget: budget,
+    }
+}

@@ -1,0 +1,126 @@
+// Lines, paths and rings: the source's polyline_or_polygon.
+ghost use mathlib.Core.Path.{_≡_};
+ghost use mathlib.Core.Bool.{Bool, true, false};
+ghost use mathlib.Core.List.{List};
+ghost use Prim.Native.Nat.{ℕ, _+_, _≤_};
+ghost use lib.Ieee.{Float};
+ghost use lib.ListN.{length, take};
+ghost use Rattle.scene.specs.Scene.{Maybe, Point};
+ghost use Rattle.budget.specs.declared.Budget.{Budget};
+ghost use Rattle.densify.specs.Densify.{Made, closeRingOf};
+ghost use Rattle.convert.specs.Convert.{closedOutline, fillOf, polylineOrPolygonOf, ringTrace};
+ghost use Rattle.convert.specs.Space.{sheetBy, most, longest, Fits, Played, Bounds, Laid, Lays, Ringed};
+use crate::laying::Laying;
+use crate::positions::stroke;
+use crate::positions::unwritten;
+use crate::state::Ctx;
+use crate::state::Props;
+use crate::state::State;
+use crate::state::lack;
+use crate::state::with_budget;
+use densify::Done;
+use densify::close_ring;
+
+// A separate fill, of the outline where there is one, else of the points, closed.
+fn fill(
+    cx: Ctx,
+    p: Props,
+    l: Laying,
+    work: &mut [f64],
+    positions: &mut [f64],
+    features: &mut [u32],
+    st: State,
+) -> State
+    requires { ⌜ Bounds l (length (now work)) × (st .positions ≤ length (now positions)) × (st .features ≤ length (now features)) × (st .budget .left ≤ most) ⌝ }
+    ensures { λ r. ⌜ ((closed : Bool) (ps : List Point) (o : Maybe (List Point)) (v : List ℕ) → Laid (now (work .entry)) closed ps o l → Fits (sheetBy (length (now (work .entry))) (now (positions .entry)) (now (features .entry)) v st) (st .budget) → Played (fillOf cx p (closedOutline o) (closeRingOf ps) (st .budget)) (sheetBy (length (now (work .entry))) (now (positions .entry)) (now (features .entry)) v st) (sheetBy (length (now (work .exit))) (now (positions .exit)) (now (features .exit)) v r) (r .budget)) ⌝ }
+    ensures { λ r. ⌜ take (l .own) (now (work .exit)) ≡ take (l .own) (now (work .entry)) ⌝ }
+    ensures { λ r. ⌜ ((v : List ℕ) → Fits (sheetBy (length (now (work .entry))) (now (positions .entry)) (now (features .entry)) v st) (st .budget) → Fits (sheetBy (length (now (work .exit))) (now (positions .exit)) (now (features .exit)) v r) (r .budget)) ⌝ }
+{
+    if !p.fill {
+        return st;
+    }
+    if l.outlined {
+        if l.fin - l.end < 8 {
+            return st;
+        }
+        return stroke(cx, p, 2, 1, work, l.end, l.fin, positions, features, st);
+    }
+    let ring = close_ring(st.budget, work, 0, l.own);
+    if ring.at < 8 {
+        return st;
+    }
+    stroke(cx, p, 2, 1, work, 0, ring.at, positions, features, st)
+}
+
+// An open or closed stroke: a polygon, or a line with its fill before it.
+pub fn polyline_or_polygon(
+    cx: Ctx,
+    p: Props,
+    closed: bool,
+    l: Laying,
+    work: &mut [f64],
+    positions: &mut [f64],
+    features: &mut [u32],
+    warnings: &mut [u32],
+    st: State,
+) -> State
+    requires { ⌜ (l .ok ≡ true → Bounds l (length (now work)) × (l .budget .left ≤ most)) × Fits (sheetBy (length (now work)) (now positions) (now features) (now warnings) st) (st .budget) ⌝ }
+    ensures { λ r. ⌜ ((w : List Float) (ps : List Point) (o : Maybe (List Point)) (b : Budget) → Lays w (now (work .entry)) closed ps o b l → Played (polylineOrPolygonOf cx p closed ps o b) (sheetBy (length (now (work .entry))) (now (positions .entry)) (now (features .entry)) (now (warnings .entry)) st) (sheetBy (length (now (work .exit))) (now (positions .exit)) (now (features .exit)) (now (warnings .exit)) r) (r .budget)) ⌝ }
+{
+    if st.number != 0 {
+        return st;
+    }
+    if !l.ok {
+        return lack(st, 15);
+    }
+    let drawn = with_budget(st, l.budget);
+    if l.own < 4 {
+        return drawn;
+    }
+    if closed {
+        if l.end >= 8 {
+            return stroke(cx, p, 2, 0, work, 0, l.end, positions, features, drawn);
+        }
+    }
+    let filled = fill(cx, p, l, work, positions, features, drawn);
+    if closed {
+        return unwritten(cx, p.item, work, 0, l.own, warnings, filled);
+    }
+    stroke(cx, p, 1, 0, work, 0, l.own, positions, features, filled)
+}
+
+// A ring whose points end at d.at.
+pub fn draw_ring(
+    cx: Ctx,
+    p: Props,
+    d: Done,
+    work: &[f64],
+    positions: &mut [f64],
+    features: &mut [u32],
+    st: State,
+) -> State
+    requires { ⌜ (d .ok ≡ true → (2 ≤ d .at) × (d .at ≤ length (now work)) × (d .at ≤ longest) × (d .budget .left ≤ most)) × (st .positions ≤ length (now positions)) × (st .features ≤ length (now features)) ⌝ }
+    ensures { λ r. ⌜ ((m : Made) (v : List ℕ) → Ringed (now (work .entry)) m d → Fits (sheetBy (length (now (work .entry))) (now (positions .entry)) (now (features .entry)) v st) (st .budget) → Played (ringTrace cx p m) (sheetBy (length (now (work .entry))) (now (positions .entry)) (now (features .entry)) v st) (sheetBy (length (now (work .entry))) (now (positions .exit)) (now (features .exit)) v r) (r .budget)) ⌝ }
+{
+    if st.number != 0 {
+        return st;
+    }
+    if !d.ok {
+        return lack(st, 15);
+    }
+    if work.len() - d.at < 2 {
+        return lack(st, 15);
+    }
+    stroke(
+        cx,
+        p,
+        2,
+        0,
+        work,
+        0,
+        d.at,
+        positions,
+        features,
+        with_budget(st, d.budget),
+    )
+}
