@@ -82,14 +82,14 @@ fn lay_outline(l: Laying, d: Done, work: &mut [f64]) -> Laying
     if !d.ok {
         return no_room(d.budget);
     }
-    let budget = d.budget;
-    let ring = close_ring(budget, work, l.end, d.at);
+    let after = d.budget;
+    let ring = close_ring(after, work, l.end, d.at);
     if !ring.ok {
-        return no_room(budget);
+        return no_room(after);
     }
     let fin = ring.at;
     if work.len() - fin < 2 {
-        return no_room(budget);
+        return no_room(after);
     }
     Laying {
         ok: true,
@@ -97,7 +97,7 @@ fn lay_outline(l: Laying, d: Done, work: &mut [f64]) -> Laying
         end: l.end,
         fin: fin,
         outlined: true,
-        budget: budget,
+        budget: after,
     }
 }
 
