@@ -1,0 +1,157 @@
+-- The host's call: its answer, and what each of the four lent slices holds after it, for every stream and every length of the slices.
+use Prim.Native.Nat.{ℕ, zero, suc, _/_}
+use mathlib.Core.Bool.{Bool, true, false, not, _&&_, cond}
+use mathlib.Core.List.{List, [], _∷_, _++_, map}
+use lib.ListN.{length}
+use lib.Dec.{eqb, ltb, leb}
+use lib.Ieee.{Float, binary64, ofBits, le, lt}
+use lib.Ieee.Scale.{finite}
+use Rattle.stream.specs.Blocks.{sized, allChecked}
+use Rattle.stream.specs.Payload.{payload}
+use Rattle.records.specs.Layout.{laidOut}
+use Rattle.records.specs.Limits.{limited}
+use Rattle.records.specs.Values.{flattenIn, rescaleIn, notAbove}
+use Rattle.scene.specs.Scene.{Scene, sceneOf}
+use Rattle.similarity.specs.declared.projection.Registration.{Registration}
+use Rattle.similarity.specs.Projection.{projectionOf}
+use Rattle.similarity.specs.Fit.{fitOf}
+use Rattle.register.specs.Register.{var, geoFrame, f0, f100, maxScale, isMercator, controlsOf, allPlaced, anchorOf, anchorPlaced, isSome, scaleValue, pxMode, above0, registrationOf, registerWarnings}
+use Rattle.budget.specs.declared.Budget.{Budget}
+use Rattle.convert.specs.declared.state.Ctx.{Ctx}
+use Rattle.convert.specs.Convert.{Event, warned, Trace, onScreen, convertOf}
+use Rattle.convert.specs.Space.{Sheet, playAll}
+use Rattle.geopic.specs.declared.Answer.{Answer}
+
+-- ---- what a scene draws
+-- MAX_STEP_M and MAX_VERTICES of the source's densify.rs
+abbrev pub maxStep : Float
+maxStep = f100
+
+abbrev pub fresh : Budget
+fresh = record { left = 2000000; hit = false }
+
+abbrev pub ctxOf : Scene → Ctx
+ctxOf sc = record { projection = projectionOf (registrationOf sc); step = maxStep; flatten = sc .flatten }
+
+-- the registration's warnings, then everything that its items draw
+unfoldable pub traceOf : Scene → Trace
+traceOf sc =
+    let t = convertOf onScreen (ctxOf sc) (sc .items) fresh in
+    record { events = map warned (registerWarnings sc) ++ t .events; after = t .after }
+
+-- ---- what is lent, and the sheet that comes of it
+pub record Lent : Type 0 where
+  pub work : List Float
+  pub positions : List Float
+  pub features : List ℕ
+  pub warnings : List ℕ
+
+abbrev pub blank : Lent → Sheet
+blank t =
+    record {
+      work = length (t .work);
+      positions = t .positions;
+      features = t .features;
+      warnings = t .warnings;
+      usedPositions = 0;
+      usedFeatures = 0;
+      usedWarnings = 0;
+      number = 0;
+    }
+
+unfoldable pub sheetOf : Scene → Lent → Sheet
+sheetOf sc t = playAll (traceOf sc .events) (blank t)
+
+-- ---- document 01's eighteen conditions, in its order
+-- 1 to 6: the stream; 7 to 14: the registration; 15 to 18: the first thing that lacks room
+unfoldable pub conditions : List ℕ → Lent → List Bool
+conditions s t =
+    let l = payload s in
+    let sc = sceneOf l in
+    let cs = controlsOf sc in
+    let few = ltb (length cs) 2 in
+    let r = registrationOf sc in
+    let short = sheetOf sc t .number in
+    not (sized s)
+    ∷ not (allChecked s (length s / 512))
+    ∷ not (laidOut l)
+    ∷ not (limited l)
+    ∷ notAbove (flattenIn l)
+    ∷ notAbove (rescaleIn l)
+    ∷ not (isMercator (sc .frame) (var sc geoFrame))
+    ∷ not (allPlaced cs && anchorPlaced (anchorOf sc))
+    ∷ ltb 64 (length cs)
+    ∷ (eqb (length cs) 0 && not (isSome (anchorOf sc)))
+    ∷ (not few && not (fitOf cs .some))
+    ∷ (few && not (lt f0 (scaleValue sc)))
+    ∷ (few && (pxMode sc && not (above0 (sc .viewScale))))
+    ∷ not (finite (r .scale) && le (r .scale) maxScale)
+    ∷ eqb short 15
+    ∷ eqb short 16
+    ∷ eqb short 17
+    ∷ eqb short 18
+    ∷ []
+
+-- the number of the first that holds, counted from i; 0 where none does
+unfoldable pub firstFrom : ℕ → List Bool → ℕ
+firstFrom i [] = 0
+firstFrom i (b ∷ bs) = cond b i (firstFrom (suc i) bs)
+
+unfoldable pub numberOf : List ℕ → Lent → ℕ
+numberOf s t = firstFrom 1 (conditions s t)
+
+-- ---- the answer
+-- a refusal's number, and zero for everything else
+abbrev pub refusal : ℕ → Answer
+refusal n = record { number = n; method = 0; controls = 0; spent = 0; positions = 0; features = 0; warnings = 0; left = 0 }
+
+-- method, control points, used counts, what is left of the allowance, and whether it was spent
+abbrev pub acceptance : Registration → Sheet → Budget → Answer
+acceptance r u b =
+    record {
+      number = 0;
+      method = r .method;
+      controls = r .controls;
+      spent = cond (b .hit) 1 0;
+      positions = u .usedPositions / 2;
+      features = u .usedFeatures / 6;
+      warnings = u .usedWarnings / 2;
+      left = b .left;
+    }
+
+abbrev pub pickAnswer : Bool → Answer → Answer → Answer
+pickAnswer true a b = a
+pickAnswer false a b = b
+
+unfoldable pub answerOf : List ℕ → Lent → Answer
+answerOf s t =
+    let sc = sceneOf (payload s) in
+    let n = numberOf s t in
+    pickAnswer (eqb n 0) (acceptance (registrationOf sc) (sheetOf sc t) (traceOf sc .after)) (refusal n)
+
+-- ---- the slices
+unfoldable pub clear : {A : Type 0} → A → ℕ → List A
+clear z zero = []
+clear z (suc n) = z ∷ clear z n
+
+abbrev pub pickList : {A : Type 0} → Bool → List A → List A → List A
+pickList true a b = a
+pickList false a b = b
+
+-- 1 to 14 leave them as they are, 15 to 18 clear all; work is cleared by acceptance too, and the others hold what was written, their tails as they were
+abbrev pub untouched : ℕ → Bool
+untouched n = not (eqb n 0) && leb n 14
+
+unfoldable pub sliceBy : {A : Type 0} → ℕ → A → List A → List A → List A
+sliceBy n z before written = pickList (eqb n 0) written (pickList (untouched n) before (clear z (length before)))
+
+unfoldable pub lentAfter : List ℕ → Lent → Lent
+lentAfter s t =
+    let n = numberOf s t in
+    let u = sheetOf (sceneOf (payload s)) t in
+    record {
+      work = sliceBy n f0 (t .work) (clear f0 (length (t .work)));
+      positions = sliceBy n f0 (t .positions) (u .positions);
+      features = sliceBy n 0 (t .features) (u .features);
+      warnings = sliceBy n 0 (t .warnings) (u .warnings);
+    }

@@ -1,0 +1,166 @@
+// The host's call, after the source's lib.rs: a stream in, positions, feature lines and warnings out.
+ghost use mathlib.Core.Path.{_≡_};
+ghost use mathlib.Core.List.{List};
+ghost use Prim.Native.Nat.{ℕ};
+ghost use lib.Ieee.{Float};
+ghost use lib.ListN.{length};
+ghost use Rattle.stream.specs.Payload.{payload};
+ghost use Rattle.records.specs.Refusals.{refusalOf};
+ghost use Rattle.scene.specs.Scene.{sceneOf};
+ghost use Rattle.register.specs.Register.{f0, registrationOf, registerRefusal};
+ghost use Rattle.convert.specs.Space.{sheetBy, Played};
+ghost use Rattle.geopic.specs.Geopic.{traceOf, Lent, blank, refusal, acceptance, clear, answerOf, lentAfter};
+use budget::Budget;
+use convert::Ctx;
+use convert::State;
+use convert::convert;
+use register::register;
+use register::write_warnings;
+use similarity::Registration;
+use similarity::projection_of;
+
+// The longest step between two positions, in metres.
+const MAX_STEP_M: f64 = 100.0;
+
+// The vertices that one scene may draw.
+const MAX_VERTICES: usize = 2000000;
+
+// `number` is 0, or the refusal's, with zero for everything else. Counts are whole positions, feature lines and warnings.
+#[repr(C)]
+pub struct Answer {
+    pub number: u32,
+    pub method: u32,
+    pub controls: u32,
+    pub spent: u32,
+    pub positions: usize,
+    pub features: usize,
+    pub warnings: usize,
+    pub left: usize,
+}
+
+fn refuse(number: u32) -> Answer
+    ensures { λ r. ⌜ r ≡ refusal number ⌝ }
+{
+    Answer {
+        number: number,
+        method: 0,
+        controls: 0,
+        spent: 0,
+        positions: 0,
+        features: 0,
+        warnings: 0,
+        left: 0,
+    }
+}
+
+fn clear_floats(out: &mut [f64]) -> usize
+    ensures { λ r. ⌜ (now (out .exit) ≡ clear f0 (length (now (out .entry)))) × (r ≡ length (now (out .entry))) ⌝ }
+{
+    let n = out.len();
+    let mut i = 0usize;
+    while i < n {
+        out[i] = 0.0;
+        i += 1;
+    }
+    n
+}
+
+fn clear_words(out: &mut [u32]) -> usize
+    ensures { λ r. ⌜ (now (out .exit) ≡ clear 0 (length (now (out .entry)))) × (r ≡ length (now (out .entry))) ⌝ }
+{
+    let n = out.len();
+    let mut i = 0usize;
+    while i < n {
+        out[i] = 0;
+        i += 1;
+    }
+    n
+}
+
+// The registration's warnings, then every item.
+fn draw(
+    s: &[u8],
+    r: Registration,
+    work: &mut [f64],
+    positions: &mut [f64],
+    features: &mut [u32],
+    warnings: &mut [u32],
+) -> State
+    requires { ⌜ (refusalOf (now s) ≡ 0) × (registerRefusal (sceneOf (payload (now s))) ≡ 0) × (r ≡ registrationOf (sceneOf (payload (now s)))) ⌝ }
+    ensures { λ st. ⌜ Played (traceOf (sceneOf (payload (now (s .entry))))) (blank (record { work = now (work .entry); positions = now (positions .entry); features = now (features .entry); warnings = now (warnings .entry) })) (sheetBy (length (now (work .exit))) (now (positions .exit)) (now (features .exit)) (now (warnings .exit)) st) (st .budget) ⌝ }
+{
+    let w = write_warnings(s, warnings, r.controls);
+    let fresh = Budget {
+        left: MAX_VERTICES,
+        hit: false,
+    };
+    let mut number = 0u8;
+    if !w.ok {
+        number = 18;
+    }
+    let st = State {
+        number: number,
+        positions: 0,
+        features: 0,
+        warnings: w.used,
+        budget: fresh,
+    };
+    let cx = Ctx {
+        projection: projection_of(r),
+        step: MAX_STEP_M,
+        flatten: scene::flatten(s),
+    };
+    convert(s, cx, work, positions, features, warnings, st)
+}
+
+fn accept(r: Registration, st: State) -> Answer
+    ensures { λ a. ⌜ ((w : ℕ) (p : List Float) (f v : List ℕ) → a ≡ acceptance r (sheetBy w p f v st) (st .budget)) ⌝ }
+{
+    let b = st.budget;
+    let mut spent = 0u32;
+    if b.hit {
+        spent = 1;
+    }
+    Answer {
+        number: 0,
+        method: r.method,
+        controls: r.controls,
+        spent: spent,
+        positions: st.positions / 2,
+        features: st.features / 6,
+        warnings: st.warnings / 2,
+        left: b.left,
+    }
+}
+
+// Places the scene of a stream on the Earth.
+#[no_mangle]
+pub extern "C" fn geopic_place(
+    s: &[u8],
+    work: &mut [f64],
+    positions: &mut [f64],
+    features: &mut [u32],
+    warnings: &mut [u32],
+) -> Answer
+    ensures { λ r. ⌜ r ≡ answerOf (now (s .entry)) (record { work = now (work .entry); positions = now (positions .entry); features = now (features .entry); warnings = now (warnings .entry) }) ⌝ }
+    ensures { λ r. ⌜ record { work = now (work .exit); positions = now (positions .exit); features = now (features .exit); warnings = now (warnings .exit) } ≡ lentAfter (now (s .entry)) (record { work = now (work .entry); positions = now (positions .entry); features = now (features .entry); warnings = now (warnings .entry) }) ⌝ }
+{
+    let number = records::refusal(s);
+    if number != 0 {
+        return refuse(number);
+    }
+    let o = register(s);
+    if o.number != 0 {
+        return refuse(o.number);
+    }
+    let r = o.registration;
+    let st = draw(s, r, work, positions, features, warnings);
+    clear_floats(work);
+    if st.number != 0 {
+        clear_floats(positions);
+        clear_words(features);
+        clear_words(warnings);
+        return refuse(st.number as u32);
+    }
+    accept(r, st)
+}

@@ -1,0 +1,266 @@
+/* The host's call from C, on cases as the generator writes them:
+ *     case NAME LIMIT WORK POSITIONS FEATURES WARNINGS ALLOWANCE LENGTH
+ * and LENGTH bytes (tests/oracle/main.rs).
+ *
+ * host answer < CASES    answers as `oracle batch --bits` does, and stops where a slice holds anything but what
+ *                        include/geopic.h says, what was not written included
+ * host sizes < CASES     for every accepted case: exactly enough room, and each slice one short, and 0 and 1
+ * host filter < CASES    the cases with the module's own allowance
+ *
+ * Every slice is allocated at its own length, so that a sanitizer sees a write behind it. */
+#include "geopic.h"
+
+#include <inttypes.h>
+#include <math.h>
+#include <stdio.h>
+#include <stdlib.h>
+#include <string.h>
+
+#define ALLOWANCE 2000000
+#define PATTERN 0xa5
+
+typedef struct {
+    char name[256];
+    size_t limit, work, positions, features, warnings, allowance, length;
+    uint8_t *bytes;
+} Case;
+
+static void stop(const Case *c, const char *why)
+{
+    fprintf(stderr, "host: %s: %s\n", c->name, why);
+    exit(1);
+}
+
+static void *taken(size_t n)
+{
+    void *p = malloc(n ? n : 1);
+    if (!p) {
+        perror("host");
+        exit(2);
+    }
+    memset(p, PATTERN, n ? n : 1);
+    return p;
+}
+
+static int next(Case *c)
+{
+    if (scanf("case %255s %zu %zu %zu %zu %zu %zu %zu", c->name, &c->limit, &c->work, &c->positions, &c->features,
+              &c->warnings, &c->allowance, &c->length) != 8) {
+        return 0;
+    }
+    if (getchar() != '\n') {
+        stop(c, "no end of line");
+    }
+    c->bytes = taken(c->length);
+    if (fread(c->bytes, 1, c->length, stdin) != c->length) {
+        stop(c, "cut off");
+    }
+    return 1;
+}
+
+static void write_case(const Case *c)
+{
+    printf("case %s %zu %zu %zu %zu %zu %zu %zu\n", c->name, c->limit, c->work, c->positions, c->features, c->warnings,
+           c->allowance, c->length);
+    fwrite(c->bytes, 1, c->length, stdout);
+}
+
+typedef struct {
+    double *work, *positions;
+    uint32_t *features, *warnings;
+    geopic_answer answer;
+} Call;
+
+static Call call(const Case *c)
+{
+    Call k = {.work = taken(16 * c->work),
+              .positions = taken(16 * c->positions),
+              .features = taken(24 * c->features),
+              .warnings = taken(8 * c->warnings)};
+    k.answer = geopic_place(c->bytes, c->length, k.work, 2 * c->work, k.positions, 2 * c->positions, k.features,
+                            6 * c->features, k.warnings, 2 * c->warnings);
+    return k;
+}
+
+static void release(Call *k)
+{
+    free(k->work);
+    free(k->positions);
+    free(k->features);
+    free(k->warnings);
+}
+
+/* Whether all bytes from `from` to `to` are the same given one. */
+static int all(const void *p, size_t from, size_t to, uint8_t byte)
+{
+    const uint8_t *b = p;
+    for (size_t i = from; i < to; i++) {
+        if (b[i] != byte) {
+            return 0;
+        }
+    }
+    return 1;
+}
+
+/* What each slice holds besides the used part. */
+static void check(const Case *c, const Call *k)
+{
+    const geopic_answer *a = &k->answer;
+    size_t p = 0, f = 0, w = 0;
+    uint8_t work = 0, rest = 0;
+    if (a->number == 0) {
+        p = 16 * a->positions;
+        f = 24 * a->features;
+        w = 8 * a->warnings;
+        rest = PATTERN;
+    } else {
+        if (a->method || a->controls || a->spent || a->positions || a->features || a->warnings || a->left) {
+            stop(c, "a refusal with more than its number");
+        }
+        if (a->number <= 14) {
+            work = rest = PATTERN;
+        }
+    }
+    if (!all(k->work, 0, 16 * c->work, work)) {
+        stop(c, "work");
+    }
+    if (!all(k->positions, p, 16 * c->positions, rest)) {
+        stop(c, "positions");
+    }
+    if (!all(k->features, f, 24 * c->features, rest)) {
+        stop(c, "features");
+    }
+    if (!all(k->warnings, w, 8 * c->warnings, rest)) {
+        stop(c, "warnings");
+    }
+}
+
+static uint64_t bits(double v)
+{
+    uint64_t b;
+    memcpy(&b, &v, sizeof b);
+    return b;
+}
+
+static void print(const Case *c, const Call *k)
+{
+    const geopic_answer *a = &k->answer;
+    if (a->number != 0) {
+        printf("E %" PRIu32 "\n", a->number);
+        return;
+    }
+    printf("R %" PRIu32 " %" PRIu32 "\n", a->method, a->controls);
+    size_t at = 0;
+    for (size_t i = 0; i < a->features; i++) {
+        const uint32_t *f = k->features + 6 * i;
+        printf("F %" PRIu32 " %" PRIu32 " %" PRIu32 " %" PRIu32 " %" PRIu32 " %" PRIu32 "\n", f[0], f[1], f[2], f[3],
+               f[4], f[5]);
+        for (uint32_t n = 0; n < f[5]; n++, at++) {
+            double lon = k->positions[2 * at], lat = k->positions[2 * at + 1];
+            printf("P %lld %lld\nQ %016" PRIx64 " %016" PRIx64 "\n", llround(lon * 1e9), llround(lat * 1e9), bits(lon),
+                   bits(lat));
+        }
+    }
+    if (at != a->positions) {
+        stop(c, "the lines' counts are not the positions used");
+    }
+    for (size_t i = 0; i < a->warnings; i++) {
+        printf("W %" PRIu32 " %" PRIu32 "\n", k->warnings[2 * i], k->warnings[2 * i + 1]);
+    }
+    printf("B %zu %" PRIu32 "\n", a->left, a->spent);
+}
+
+static void answer(const Case *c)
+{
+    printf("> %s\n", c->name);
+    if (c->limit != 0 && c->length > c->limit) {
+        printf("E 0\n");
+        return;
+    }
+    Call k = call(c);
+    check(c, &k);
+    print(c, &k);
+    release(&k);
+}
+
+static geopic_answer ask(const Case *c)
+{
+    Call k = call(c);
+    release(&k);
+    return k.answer;
+}
+
+/* The least work with which a case is accepted. */
+static size_t least_work(Case c)
+{
+    size_t low = 0, high = c.work;
+    while (low < high) {
+        c.work = low + (high - low) / 2;
+        if (ask(&c).number == 0) {
+            high = c.work;
+        } else {
+            low = c.work + 1;
+        }
+    }
+    return low;
+}
+
+/* The case with one of its four sizes changed, under a name that says which. */
+static void with(const Case *c, size_t *size, size_t value, const char *what)
+{
+    size_t kept = *size;
+    Case named = *c;
+    *size = value;
+    named.work = c->work;
+    named.positions = c->positions;
+    named.features = c->features;
+    named.warnings = c->warnings;
+    snprintf(named.name, sizeof named.name, "%.200s-%s-%zu", c->name, what, value);
+    write_case(&named);
+    *size = kept;
+}
+
+static void sizes(Case *c)
+{
+    geopic_answer a = ask(c);
+    if (a.number != 0) {
+        return;
+    }
+    c->limit = 0;
+    c->work = least_work(*c);
+    c->positions = a.positions;
+    c->features = a.features;
+    c->warnings = a.warnings;
+    size_t *each[] = {&c->work, &c->positions, &c->features, &c->warnings};
+    const char *names[] = {"work", "positions", "features", "warnings"};
+    for (int i = 0; i < 4; i++) {
+        with(c, each[i], *each[i], names[i]);
+        with(c, each[i], 0, names[i]);
+        with(c, each[i], 1, names[i]);
+        if (*each[i] > 0) {
+            with(c, each[i], *each[i] - 1, names[i]);
+        }
+    }
+}
+
+int main(int argc, char **argv)
+{
+    const char *mode = argc == 2 ? argv[1] : "";
+    Case c;
+    while (next(&c)) {
+        if (!strcmp(mode, "answer")) {
+            answer(&c);
+        } else if (!strcmp(mode, "sizes")) {
+            sizes(&c);
+        } else if (!strcmp(mode, "filter")) {
+            if (c.allowance == ALLOWANCE) {
+                write_case(&c);
+            }
+        } else {
+            fprintf(stderr, "host answer|sizes|filter < CASES\n");
+            return 2;
+        }
+        free(c.bytes);
+    }
+    return 0;
+}
