@@ -1,13 +1,11 @@
 -- The source's convert.rs, function by function: what each item of a scene draws, as one list of events in the source's order, with no regard to space.
 use Prim.Native.Nat.{ℕ, zero, suc, _+_}
-use mathlib.Core.Path.{_≡_}
 use mathlib.Core.Bool.{Bool, true, false, not, _&&_, _||_, cond}
 use mathlib.Core.List.{List, [], _∷_, _++_, map}
 use lib.ListN.{length}
 use lib.Dec.{eqb, ltb, leb}
-use lib.Ieee.{Float, binary64, ofBits, div}
+use lib.Ieee.{Float, binary64, div}
 use Rattle.elementary.specs.Constants as K
-use Rattle.similarity.specs.declared.projection.Projection.{Projection}
 use Rattle.scene.specs.Scene.{Maybe, none, some, Point, DrawnPath, DrawnItem}
 use Rattle.register.specs.Register.{Warning, orValue}
 use Rattle.budget.specs.declared.Budget.{Budget}

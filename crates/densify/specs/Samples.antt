@@ -5,7 +5,6 @@ use Prim.Native.Nat.{ℕ}
 use lib.ListN.{length}
 use lib.Ieee.{Float, binary64, ofBits, ofInt, toUnsigned, neg, add, sub, mul, div, lt, eq, le, sum, round, units, odd, size, climb, span}
 use Rattle.float.specs.Functions.{ceilOf}
-use Rattle.root.specs.Root as root
 use Rattle.elementary.specs.Constants as K
 use Rattle.budget.specs.declared.Budget.{Budget}
 use Rattle.budget.specs.Budget.{grantOf, takeOf}

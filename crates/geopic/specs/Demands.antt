@@ -4,14 +4,17 @@ use mathlib.Core.Path.{_≡_}
 use mathlib.Core.Bool.{cond}
 use mathlib.Core.List.{List}
 use Rattle.stream.specs.Payload.{payload}
-use Rattle.scene.specs.Scene.{Scene, sceneOf}
+use Rattle.scene.specs.Scene.{Point, Scene, sceneOf}
+use Rattle.similarity.specs.Projection.{geoOf}
+use Rattle.register.specs.Register.{registrationOf}
 use Rattle.budget.specs.Draws.{leftAfter, Claim}
-use Rattle.densify.specs.Laws.Replay.{drawsOf, fellShort}
+use Rattle.densify.specs.Written.{placedBy}
+use Rattle.densify.specs.Laws.Replay.{drawsOf, Granted, fellShort}
 use Rattle.convert.specs.Convert.{drawsIn, EachFeature}
 use Rattle.convert.specs.Laws.Features.{Sane}
-use Rattle.geopic.specs.Geopic.{traceOf, Lent, conditions, firstFrom, answerOf}
+use Rattle.geopic.specs.Geopic.{fresh, ctxOf, traceOf, Lent, conditions, firstFrom, answerOf}
 use Rattle.geopic.specs.Laws.Conditions.{AllFalse, number-is, number-none, none-number}
-use Rattle.geopic.specs.Laws.Scenes.{scene-sane, scene-claim, scene-left, scene-spent}
+use Rattle.geopic.specs.Laws.Scenes.{scene-sane, scene-geo, scene-claim, scene-grants, scene-left, scene-spent}
 
 module _ (s : List ℕ) (t : Lent) where
   abbrev sc : Scene
@@ -33,9 +36,17 @@ module _ (s : List ℕ) (t : Lent) where
     pub demand-2 : EachFeature Sane (traceOf sc .events)
     demand-2 = scene-sane s t h
 
-    -- 3. The scene's draws, in their order, are a list of draws from a fresh allowance of 2,000,000 ..
+    -- each position is the Rust's `geo` of its canvas point
+    pub demand-2-geo : (p : Point) → placedBy (ctxOf sc .projection) p ≡ (let g = geoOf (registrationOf sc) (p .x) (p .y) in record { x = g .lon; y = g .lat })
+    demand-2-geo p = scene-geo s p
+
+    -- 3. The scene's draws, in their order, are a list of draws from a fresh allowance of 2,000,000; its rings and lines are as 2 says ..
     pub demand-3 : Claim 2000000 (drawsOf (drawsIn (traceOf sc .events)))
     demand-3 = scene-claim s
+
+    -- .. each is granted what that list grants it ..
+    pub demand-3-grants : Granted fresh (drawsIn (traceOf sc .events))
+    demand-3-grants = scene-grants s
 
     -- .. what is left is what that list leaves ..
     pub demand-3-left : answerOf s t .left ≡ leftAfter 2000000 (drawsOf (drawsIn (traceOf sc .events)))

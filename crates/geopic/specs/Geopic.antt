@@ -4,7 +4,7 @@ use mathlib.Core.Bool.{Bool, true, false, not, _&&_, cond}
 use mathlib.Core.List.{List, [], _∷_, _++_, map}
 use lib.ListN.{length}
 use lib.Dec.{eqb, ltb, leb}
-use lib.Ieee.{Float, binary64, ofBits, le, lt}
+use lib.Ieee.{Float, le, lt}
 use lib.Ieee.Scale.{finite}
 use Rattle.stream.specs.Blocks.{sized, allChecked}
 use Rattle.stream.specs.Payload.{payload}
@@ -18,7 +18,7 @@ use Rattle.similarity.specs.Fit.{fitOf}
 use Rattle.register.specs.Register.{var, geoFrame, f0, f100, maxScale, isMercator, controlsOf, allPlaced, anchorOf, anchorPlaced, isSome, scaleValue, pxMode, above0, registrationOf, registerWarnings}
 use Rattle.budget.specs.declared.Budget.{Budget}
 use Rattle.convert.specs.declared.state.Ctx.{Ctx}
-use Rattle.convert.specs.Convert.{Event, warned, Trace, onScreen, convertOf}
+use Rattle.convert.specs.Convert.{warned, Trace, onScreen, convertOf}
 use Rattle.convert.specs.Space.{Sheet, playAll}
 use Rattle.geopic.specs.declared.Answer.{Answer}
 

@@ -34,7 +34,6 @@ use Rattle.geojson.specs.Lines as lines
 use Rattle.convert.specs.Convert as convert
 use Rattle.convert.specs.Space as space
 use Rattle.geopic.specs.Geopic as geopic
-use Rattle.geopic.specs.declared.Answer.{Answer}
 
 -- ---- one block with a right check: a payload of at most 508 bytes
 abbrev word : ℕ → List ℕ
@@ -72,17 +71,6 @@ stream = block 0 (short (1 ∷ f1 ++ variable register.geoFrame f1 ++ variable r
 abbrev pub lent : geopic.Lent
 lent = record { work = replicate 32 (ofBits binary64 0); positions = replicate 32 (ofBits binary64 0); features = replicate 12 0; warnings = replicate 4 0 }
 
--- R 0 0, 9 positions, 1 feature line, B 1999988 0
-pub answer : geopic.answerOf stream lent
-    ≡ record { number = 0; method = 0; controls = 0; spent = 0; positions = 9; features = 1; warnings = 0; left = 1999988 }
-unfolding floatFunctions.absOf floatFunctions.maxOf floatFunctions.minOf floatFunctions.truncOf floatFunctions.ceilOf floatFunctions.roundOf floatFunctions.remEuclid360Of horner.horner roots.rootDigits roots.isqrt roots.scaled roots.rootAt roots.rootOf elementaryFunctions.heldOf elementaryFunctions.toRadiansOf elementaryFunctions.toDegreesOf elementaryFunctions.hypotOf elementaryFunctions.turnOf elementaryFunctions.quadrantOf elementaryFunctions.restOf elementaryFunctions.sineAt elementaryFunctions.cosineAt elementaryFunctions.sinOf elementaryFunctions.cosOf elementaryFunctions.tanOf elementaryFunctions.lnAt elementaryFunctions.lnOf elementaryFunctions.twoTo elementaryFunctions.expAt elementaryFunctions.expOf elementaryFunctions.halvedOf elementaryFunctions.atanAt elementaryFunctions.atanUp elementaryFunctions.atanOf elementaryFunctions.angleOf elementaryFunctions.sidedOf elementaryFunctions.atan2Of elementaryFunctions.acosOf series.seriesOf series.evenOf series.oddOf series.factorial series.quotient series.terms series.sineTable series.cosineTable series.logarithmTable series.exponentialTable series.arctangentTable geodesy.normalizeLonOf geodesy.mercatorForwardOf geodesy.mercatorInverseOf fit.markOf fit.added fit.sumsOf fit.dividedBy fit.meansOf fit.momented fit.momentsOf fit.fitAt fit.solvedOf fit.roundOf fit.again fit.fitMarks fit.fitOf projection.planeOffsetOf projection.toLonLatOf projection.projectionOf projection.projectOf projection.round9Of projection.geoOf projection.geoBy numbers.u16At numbers.u32At numbers.u64At numbers.floatOf numbers.floatAt blocks.sized blocks.wordSum blocks.checked blocks.allChecked blocks.blocksOf payload.payloads payload.payload payload.rest records.plain records.allTo records.named records.labelled records.namedThen records.counted records.allZero records.endOf records.rescaleOf records.choiceWidth records.choiceFits records.choiceOf records.featureOf records.variableOf records.placeOf records.valuesWidth records.itemBegins records.itemFits records.itemWith records.itemOf records.pointsOf records.pathWith records.cubicsOf records.polylineOf records.pathOf records.byTag records.recordOf walk.entries walk.ends order.part search.past search.turnOf search.recordsOf layout.before layout.stepOf layout.inOrder layout.laidOutFrom layout.laidOut limits.number limits.near limits.choiceFloats limits.limitedAt limits.allLimited limits.limited values.flattenIn values.rescaleIn values.notAbove scene.valueOf scene.numberAt scene.bit scene.pointAt scene.pointsAt scene.cubicAt scene.cubicsAt scene.featureAt scene.variableAt scene.placeAt scene.formAt scene.pathAt scene.itemWith scene.itemAt scene.sceneOf labels.same labels.variableOf labels.sumOf labels.meanOf labels.meanPoint labels.startOf labels.firstStart labels.meanOrStart labels.referencePoint labels.greater labels.consider labels.bestPlace labels.carries labels.bestItem labels.pointOfLabel register.isMercator register.notZero register.pxMode register.mentioned register.eventOf register.featureEvent register.featureEvents register.isLon register.lonEvent register.variableEvents register.events register.controlsIn register.warningsIn register.controlsOf register.bothOf register.anchorOf register.halfAnchor register.placed register.allPlaced register.anchorPlaced register.scaleValue register.above0 register.effectiveScale register.registrationBy register.registrationOf register.registerRefusal register.anyDeclared register.ignoredWith register.viewWarnings register.halfWarnings register.registerWarnings budget.grantOf budget.takeOf densify.clamped densify.distOf densify.flatOf densify.midOf densify.firstOf densify.secondOf densify.leafOf densify.splitOf densify.flattenCubicOf densify.cubicsOf densify.formPoints densify.samePoint densify.closeRingOf densify.pathPointsOf densify.partsOf densify.alongOf densify.samplesTo densify.segmentWant densify.segmentOf densify.segmentsOf densify.densifyPolylineOf densify.byTolerance densify.arcVerticesOf densify.roundTo densify.ellipsePoint densify.ellipseRingOf densify.sharpCorners densify.cornerPoint densify.roundedCorners densify.quarterOf densify.boxRingOf written.flats written.pointsOf written.pointsIn written.closing written.closingIn written.put written.placedBy lines.putWords convert.featureOf convert.strokeOf convert.unwrittenOf convert.pointOf convert.fillOf convert.shapeTrace convert.workOf convert.polylineOrPolygonOf convert.ringTrace convert.outlineOf convert.pathOf convert.pathsOf convert.boxOf convert.ellipseOf convert.circleOf convert.dotOf convert.shapeOf convert.onScreen convert.propsOf convert.pointsTrace convert.pathsTrace convert.drawnOf convert.itemOf convert.itemsOf convert.spentOf convert.convertOf convert.drawsIn convert.warningsIn space.played space.playAll space.sealedIn geopic.traceOf geopic.sheetOf geopic.conditions geopic.firstFrom geopic.numberOf geopic.answerOf geopic.clear geopic.sliceBy geopic.lentAfter ofBits toBits ofInt toUnsigned neg add sub mul div rem lt eq le ne isNan sum round units odd size climb span
-answer = refl
-
--- F 0 2 0 0 0 9, and the rest of its slice as it was
-pub line : geopic.lentAfter stream lent .features ≡ 0 ∷ 2 ∷ 0 ∷ 0 ∷ 0 ∷ 9 ∷ replicate 6 0
-unfolding floatFunctions.absOf floatFunctions.maxOf floatFunctions.minOf floatFunctions.truncOf floatFunctions.ceilOf floatFunctions.roundOf floatFunctions.remEuclid360Of horner.horner roots.rootDigits roots.isqrt roots.scaled roots.rootAt roots.rootOf elementaryFunctions.heldOf elementaryFunctions.toRadiansOf elementaryFunctions.toDegreesOf elementaryFunctions.hypotOf elementaryFunctions.turnOf elementaryFunctions.quadrantOf elementaryFunctions.restOf elementaryFunctions.sineAt elementaryFunctions.cosineAt elementaryFunctions.sinOf elementaryFunctions.cosOf elementaryFunctions.tanOf elementaryFunctions.lnAt elementaryFunctions.lnOf elementaryFunctions.twoTo elementaryFunctions.expAt elementaryFunctions.expOf elementaryFunctions.halvedOf elementaryFunctions.atanAt elementaryFunctions.atanUp elementaryFunctions.atanOf elementaryFunctions.angleOf elementaryFunctions.sidedOf elementaryFunctions.atan2Of elementaryFunctions.acosOf series.seriesOf series.evenOf series.oddOf series.factorial series.quotient series.terms series.sineTable series.cosineTable series.logarithmTable series.exponentialTable series.arctangentTable geodesy.normalizeLonOf geodesy.mercatorForwardOf geodesy.mercatorInverseOf fit.markOf fit.added fit.sumsOf fit.dividedBy fit.meansOf fit.momented fit.momentsOf fit.fitAt fit.solvedOf fit.roundOf fit.again fit.fitMarks fit.fitOf projection.planeOffsetOf projection.toLonLatOf projection.projectionOf projection.projectOf projection.round9Of projection.geoOf projection.geoBy numbers.u16At numbers.u32At numbers.u64At numbers.floatOf numbers.floatAt blocks.sized blocks.wordSum blocks.checked blocks.allChecked blocks.blocksOf payload.payloads payload.payload payload.rest records.plain records.allTo records.named records.labelled records.namedThen records.counted records.allZero records.endOf records.rescaleOf records.choiceWidth records.choiceFits records.choiceOf records.featureOf records.variableOf records.placeOf records.valuesWidth records.itemBegins records.itemFits records.itemWith records.itemOf records.pointsOf records.pathWith records.cubicsOf records.polylineOf records.pathOf records.byTag records.recordOf walk.entries walk.ends order.part search.past search.turnOf search.recordsOf layout.before layout.stepOf layout.inOrder layout.laidOutFrom layout.laidOut limits.number limits.near limits.choiceFloats limits.limitedAt limits.allLimited limits.limited values.flattenIn values.rescaleIn values.notAbove scene.valueOf scene.numberAt scene.bit scene.pointAt scene.pointsAt scene.cubicAt scene.cubicsAt scene.featureAt scene.variableAt scene.placeAt scene.formAt scene.pathAt scene.itemWith scene.itemAt scene.sceneOf labels.same labels.variableOf labels.sumOf labels.meanOf labels.meanPoint labels.startOf labels.firstStart labels.meanOrStart labels.referencePoint labels.greater labels.consider labels.bestPlace labels.carries labels.bestItem labels.pointOfLabel register.isMercator register.notZero register.pxMode register.mentioned register.eventOf register.featureEvent register.featureEvents register.isLon register.lonEvent register.variableEvents register.events register.controlsIn register.warningsIn register.controlsOf register.bothOf register.anchorOf register.halfAnchor register.placed register.allPlaced register.anchorPlaced register.scaleValue register.above0 register.effectiveScale register.registrationBy register.registrationOf register.registerRefusal register.anyDeclared register.ignoredWith register.viewWarnings register.halfWarnings register.registerWarnings budget.grantOf budget.takeOf densify.clamped densify.distOf densify.flatOf densify.midOf densify.firstOf densify.secondOf densify.leafOf densify.splitOf densify.flattenCubicOf densify.cubicsOf densify.formPoints densify.samePoint densify.closeRingOf densify.pathPointsOf densify.partsOf densify.alongOf densify.samplesTo densify.segmentWant densify.segmentOf densify.segmentsOf densify.densifyPolylineOf densify.byTolerance densify.arcVerticesOf densify.roundTo densify.ellipsePoint densify.ellipseRingOf densify.sharpCorners densify.cornerPoint densify.roundedCorners densify.quarterOf densify.boxRingOf written.flats written.pointsOf written.pointsIn written.closing written.closingIn written.put written.placedBy lines.putWords convert.featureOf convert.strokeOf convert.unwrittenOf convert.pointOf convert.fillOf convert.shapeTrace convert.workOf convert.polylineOrPolygonOf convert.ringTrace convert.outlineOf convert.pathOf convert.pathsOf convert.boxOf convert.ellipseOf convert.circleOf convert.dotOf convert.shapeOf convert.onScreen convert.propsOf convert.pointsTrace convert.pathsTrace convert.drawnOf convert.itemOf convert.itemsOf convert.spentOf convert.convertOf convert.drawsIn convert.warningsIn space.played space.playAll space.sealedIn geopic.traceOf geopic.sheetOf geopic.conditions geopic.firstFrom geopic.numberOf geopic.answerOf geopic.clear geopic.sliceBy geopic.lentAfter ofBits toBits ofInt toUnsigned neg add sub mul div rem lt eq le ne isNan sum round units odd size climb span
-line = refl
-
 -- ---- the P lines: each number to the nearest whole number of 10⁻⁹ degree, by value
 abbrev pub agree : List Float → List Float → Bool
 agree [] [] = true
@@ -103,6 +91,12 @@ m = neg p
 abbrev pub ring : List Float
 ring = m ∷ m ∷ o ∷ m ∷ p ∷ m ∷ p ∷ o ∷ p ∷ p ∷ o ∷ p ∷ m ∷ p ∷ m ∷ o ∷ m ∷ m ∷ []
 
-pub positions : agree (geopic.lentAfter stream lent .positions) (ring ++ replicate 14 o) ≡ true
+pub sheet :
+    -- R 0 0, 9 positions, 1 feature line, B 1999988 0
+    (geopic.answerOf stream lent ≡ record { number = 0; method = 0; controls = 0; spent = 0; positions = 9; features = 1; warnings = 0; left = 1999988 })
+    -- F 0 2 0 0 0 9, and the rest of its slice as it was
+    × (geopic.lentAfter stream lent .features ≡ 0 ∷ 2 ∷ 0 ∷ 0 ∷ 0 ∷ 9 ∷ replicate 6 0)
+    -- the P lines, and the rest of the slice as it was
+    × (agree (geopic.lentAfter stream lent .positions) (ring ++ replicate 14 o) ≡ true)
 unfolding floatFunctions.absOf floatFunctions.maxOf floatFunctions.minOf floatFunctions.truncOf floatFunctions.ceilOf floatFunctions.roundOf floatFunctions.remEuclid360Of horner.horner roots.rootDigits roots.isqrt roots.scaled roots.rootAt roots.rootOf elementaryFunctions.heldOf elementaryFunctions.toRadiansOf elementaryFunctions.toDegreesOf elementaryFunctions.hypotOf elementaryFunctions.turnOf elementaryFunctions.quadrantOf elementaryFunctions.restOf elementaryFunctions.sineAt elementaryFunctions.cosineAt elementaryFunctions.sinOf elementaryFunctions.cosOf elementaryFunctions.tanOf elementaryFunctions.lnAt elementaryFunctions.lnOf elementaryFunctions.twoTo elementaryFunctions.expAt elementaryFunctions.expOf elementaryFunctions.halvedOf elementaryFunctions.atanAt elementaryFunctions.atanUp elementaryFunctions.atanOf elementaryFunctions.angleOf elementaryFunctions.sidedOf elementaryFunctions.atan2Of elementaryFunctions.acosOf series.seriesOf series.evenOf series.oddOf series.factorial series.quotient series.terms series.sineTable series.cosineTable series.logarithmTable series.exponentialTable series.arctangentTable geodesy.normalizeLonOf geodesy.mercatorForwardOf geodesy.mercatorInverseOf fit.markOf fit.added fit.sumsOf fit.dividedBy fit.meansOf fit.momented fit.momentsOf fit.fitAt fit.solvedOf fit.roundOf fit.again fit.fitMarks fit.fitOf projection.planeOffsetOf projection.toLonLatOf projection.projectionOf projection.projectOf projection.round9Of projection.geoOf projection.geoBy numbers.u16At numbers.u32At numbers.u64At numbers.floatOf numbers.floatAt blocks.sized blocks.wordSum blocks.checked blocks.allChecked blocks.blocksOf payload.payloads payload.payload payload.rest records.plain records.allTo records.named records.labelled records.namedThen records.counted records.allZero records.endOf records.rescaleOf records.choiceWidth records.choiceFits records.choiceOf records.featureOf records.variableOf records.placeOf records.valuesWidth records.itemBegins records.itemFits records.itemWith records.itemOf records.pointsOf records.pathWith records.cubicsOf records.polylineOf records.pathOf records.byTag records.recordOf walk.entries walk.ends order.part search.past search.turnOf search.recordsOf layout.before layout.stepOf layout.inOrder layout.laidOutFrom layout.laidOut limits.number limits.near limits.choiceFloats limits.limitedAt limits.allLimited limits.limited values.flattenIn values.rescaleIn values.notAbove scene.valueOf scene.numberAt scene.bit scene.pointAt scene.pointsAt scene.cubicAt scene.cubicsAt scene.featureAt scene.variableAt scene.placeAt scene.formAt scene.pathAt scene.itemWith scene.itemAt scene.sceneOf labels.same labels.variableOf labels.sumOf labels.meanOf labels.meanPoint labels.startOf labels.firstStart labels.meanOrStart labels.referencePoint labels.greater labels.consider labels.bestPlace labels.carries labels.bestItem labels.pointOfLabel register.isMercator register.notZero register.pxMode register.mentioned register.eventOf register.featureEvent register.featureEvents register.isLon register.lonEvent register.variableEvents register.events register.controlsIn register.warningsIn register.controlsOf register.bothOf register.anchorOf register.halfAnchor register.placed register.allPlaced register.anchorPlaced register.scaleValue register.above0 register.effectiveScale register.registrationBy register.registrationOf register.registerRefusal register.anyDeclared register.ignoredWith register.viewWarnings register.halfWarnings register.registerWarnings budget.grantOf budget.takeOf densify.clamped densify.distOf densify.flatOf densify.midOf densify.firstOf densify.secondOf densify.leafOf densify.splitOf densify.flattenCubicOf densify.cubicsOf densify.formPoints densify.samePoint densify.closeRingOf densify.pathPointsOf densify.partsOf densify.alongOf densify.samplesTo densify.segmentWant densify.segmentOf densify.segmentsOf densify.densifyPolylineOf densify.byTolerance densify.arcVerticesOf densify.roundTo densify.ellipsePoint densify.ellipseRingOf densify.sharpCorners densify.cornerPoint densify.roundedCorners densify.quarterOf densify.boxRingOf written.flats written.pointsOf written.pointsIn written.closing written.closingIn written.put written.placedBy lines.putWords convert.featureOf convert.strokeOf convert.unwrittenOf convert.pointOf convert.fillOf convert.shapeTrace convert.workOf convert.polylineOrPolygonOf convert.ringTrace convert.outlineOf convert.pathOf convert.pathsOf convert.boxOf convert.ellipseOf convert.circleOf convert.dotOf convert.shapeOf convert.onScreen convert.propsOf convert.pointsTrace convert.pathsTrace convert.drawnOf convert.itemOf convert.itemsOf convert.spentOf convert.convertOf convert.drawsIn convert.warningsIn space.played space.playAll space.sealedIn geopic.traceOf geopic.sheetOf geopic.conditions geopic.firstFrom geopic.numberOf geopic.answerOf geopic.clear geopic.sliceBy geopic.lentAfter ofBits toBits ofInt toUnsigned neg add sub mul div rem lt eq le ne isNan sum round units odd size climb span
-positions = refl
+sheet = (refl, refl, refl)

@@ -1,5 +1,5 @@
 -- How many points the producers make, and that rings are closed.
-use Prim.Native.Nat.{ℕ, zero, suc, _+_, _*_, _/_, _≤_, max}
+use Prim.Native.Nat.{ℕ, zero, suc, _+_, _*_, _/_, _≤_}
 use native.Mathlib.Omega.{arith}
 use mathlib.Core.Path.{_≡_, refl, sym, ap, _∙_}
 use mathlib.Core.Bool.{Bool, true, false, _||_, cond}

@@ -8,17 +8,19 @@ use borrow.Author.Tests.{eq-eqb, eqb-true, eqb-false}
 use Rattle.stream.specs.Payload.{payload}
 use Rattle.records.specs.Refusals.{refusalOf}
 use Rattle.scene.specs.Scene.{Point, Scene, sceneOf}
+use Rattle.similarity.specs.Projection.{geoOf, geo-projects}
 use Rattle.register.specs.Register.{Warning, registrationOf, registerRefusal, registerWarnings}
 use Rattle.register.specs.Laws.Sound.{accepted-tame, accepted-sound}
 use Rattle.budget.specs.Draws.{leftAfter, Claim}
 use Rattle.budget.specs.Laws.Draws.{claim}
 use Rattle.densify.specs.Densify.{Drawn}
-use Rattle.densify.specs.Laws.Replay.{drawsOf, fellShort}
+use Rattle.densify.specs.Written.{placedBy}
+use Rattle.densify.specs.Laws.Replay.{drawsOf, Granted, fellShort}
 use Rattle.geojson.specs.declared.Feature.{Feature}
 use Rattle.convert.specs.Convert.{Event, warned, onScreen, convertOf, drawsIn, EachFeature}
 use Rattle.convert.specs.Laws.Draws.{trace-left, trace-hit, convert-replays}
 use Rattle.convert.specs.Laws.Features.{Sane, convert-sane}
-use Rattle.geopic.specs.Geopic.{maxStep, fresh, ctxOf, traceOf, Lent, sheetOf, conditions, firstFrom, numberOf, acceptance, refusal, pickAnswer, answerOf}
+use Rattle.geopic.specs.Geopic.{maxStep, fresh, ctxOf, traceOf, Lent, sheetOf, numberOf, acceptance, answerOf}
 use Rattle.geopic.specs.Laws.Conditions.{number-is, early, middle}
 
 -- the registration's warnings draw nothing and give no feature
@@ -41,6 +43,13 @@ module _ (s : List ℕ) where
 
   pub scene-claim : Claim 2000000 (drawsOf (drawsIn (traceOf sc .events)))
   scene-claim = claim 2000000 (drawsOf (drawsIn (traceOf sc .events)))
+
+  pub scene-geo : (p : Point) → placedBy (ctxOf sc .projection) p ≡ (let g = geoOf (registrationOf sc) (p .x) (p .y) in record { x = g .lon; y = g .lat })
+  unfolding placedBy
+  scene-geo p = rw geo-projects
+
+  pub scene-grants : Granted fresh (drawsIn (traceOf sc .events))
+  scene-grants = rw draws-are (convert-replays onScreen (ctxOf sc) (sc .items) fresh .grants)
 
   left-is : traceOf sc .after .left ≡ leftAfter 2000000 (drawsOf (drawsIn (traceOf sc .events)))
   unfolding traceOf
