@@ -1,4 +1,5 @@
-"""The counted edits that make the oracle of the source.
+"""The counted edits that make the oracle of the source, and the two builds that
+the benchmark runs: one with the stand-ins alone, one with the library's leaves.
 
 Each edit is (how often the text occurs, the text, what takes its place). A
 count that differs, a file whose sum differs, or a library function of floats
@@ -18,7 +19,7 @@ SUMS = {
     "geojson.rs": "3d69a7a5e33f2bef158a0250c68d42b5505fafefa4cdb9020780d6e4a36bca01",
 }
 
-# Leaves: the library's method gives way to the stand-in's.
+# The library's leaf gives way to the stand-in's.
 LEAF = "use crate::leaf::Leaf as _;\n"
 
 
@@ -26,13 +27,64 @@ def leaf(count, name, stand_in=None):
     return (count, f".{name}(", f".leaf_{stand_in or name}(")
 
 
-EDITS = {
-    "lib.rs": [
-        # Neither is to be had; what records takes their place.
-        (1, "pub mod maplibre;\n", "pub mod front;\nmod leaf;\nmod record;\nmod standins;\npub mod stream;\n"),
-        (1, "#[cfg(test)]\nmod tests;\n", ""),
-        (1, "use std::fmt;\n", "use std::fmt;\n" + LEAF),
+def leaves_after(line):
+    return (1, line, line + LEAF)
+
+
+LEAVES = {
+    "lib.rs": [leaves_after("use std::fmt;\n"), leaf(2, "is_finite")],
+    "geodesy.rs": [
+        leaves_after("use crate::GeoError;\n"),
+        leaf(2, "abs"),
         leaf(2, "is_finite"),
+        (1, ".rem_euclid(360.0)", ".leaf_rem_euclid_360()"),
+        leaf(1, "hypot"),
+        leaf(1, "sin"),
+        leaf(1, "cos"),
+        leaf(1, "tan"),
+        leaf(1, "ln"),
+        leaf(1, "exp"),
+        leaf(1, "atan"),
+        leaf(1, "atan2"),
+        leaf(3, "to_radians"),
+        leaf(3, "to_degrees"),
+    ],
+    "densify.rs": [
+        leaves_after("use crate::register::Registration;\n"),
+        leaf(2, "abs"),
+        (1, "d(c1).max(d(c2))", "d(c1).leaf_max(d(c2))"),
+        (1, "tol.max(1e-9)", "tol.leaf_max(1e-9)"),
+        (1, "by_tol.max(by_step)", "by_tol.leaf_max(by_step)"),
+        (1, "rx.max(ry)", "rx.leaf_max(ry)"),
+        (1, "rad.max(0.0).min(hw).min(hh)", "rad.leaf_max(0.0).leaf_min(hw).leaf_min(hh)"),
+        leaf(3, "is_finite"),
+        leaf(3, "ceil"),
+        leaf(3, "hypot"),
+        leaf(2, "sin"),
+        leaf(2, "cos"),
+        leaf(1, "acos"),
+        leaf(1, "to_radians"),
+    ],
+    "register.rs": [
+        leaves_after("use crate::scene::Scene;\n"),
+        leaf(6, "is_finite"),
+        leaf(1, "max"),
+        leaf(1, "sqrt", "root"),
+        leaf(1, "hypot"),
+        leaf(4, "sin"),
+        leaf(4, "cos"),
+        leaf(1, "atan2"),
+        leaf(2, "to_radians"),
+        leaf(1, "to_degrees"),
+    ],
+    "convert.rs": [leaves_after("use crate::register::Registration;\n"), leaf(1, "round")],
+    "scene.rs": [],
+    "geojson.rs": [],
+}
+
+# What the oracle is told of: draws, shapes, features and warnings.
+REPORTS = {
+    "lib.rs": [
         # Every warning is numbered as it is made.
         (
             1,
@@ -48,20 +100,6 @@ EDITS = {
         ),
     ],
     "geodesy.rs": [
-        (1, "use crate::GeoError;\n", "use crate::GeoError;\n" + LEAF),
-        leaf(2, "abs"),
-        leaf(2, "is_finite"),
-        (1, ".rem_euclid(360.0)", ".leaf_rem_euclid_360()"),
-        leaf(1, "hypot"),
-        leaf(1, "sin"),
-        leaf(1, "cos"),
-        leaf(1, "tan"),
-        leaf(1, "ln"),
-        leaf(1, "exp"),
-        leaf(1, "atan"),
-        leaf(1, "atan2"),
-        leaf(3, "to_radians"),
-        leaf(3, "to_degrees"),
         (
             1,
             "-> Result<LonLat, GeoError> {\n",
@@ -72,21 +110,8 @@ EDITS = {
         (
             1,
             "use crate::register::Registration;\n",
-            "use crate::record::{self, Producer};\nuse crate::register::Registration;\n" + LEAF,
+            "use crate::record::{self, Producer};\nuse crate::register::Registration;\n",
         ),
-        leaf(2, "abs"),
-        (1, "d(c1).max(d(c2))", "d(c1).leaf_max(d(c2))"),
-        (1, "tol.max(1e-9)", "tol.leaf_max(1e-9)"),
-        (1, "by_tol.max(by_step)", "by_tol.leaf_max(by_step)"),
-        (1, "rx.max(ry)", "rx.leaf_max(ry)"),
-        (1, "rad.max(0.0).min(hw).min(hh)", "rad.leaf_max(0.0).leaf_min(hw).leaf_min(hh)"),
-        leaf(3, "is_finite"),
-        leaf(3, "ceil"),
-        leaf(3, "hypot"),
-        leaf(2, "sin"),
-        leaf(2, "cos"),
-        leaf(1, "acos"),
-        leaf(1, "to_radians"),
         # The allowance to start from is a parameter of the tests.
         (1, "left: MAX_VERTICES,", "left: record::allowance(),"),
         # Every draw, and who makes it.
@@ -138,17 +163,8 @@ EDITS = {
         (
             1,
             "use crate::scene::Scene;\n",
-            "use crate::record;\nuse crate::scene::Scene;\n" + LEAF,
+            "use crate::record;\nuse crate::scene::Scene;\n",
         ),
-        leaf(6, "is_finite"),
-        leaf(1, "max"),
-        leaf(1, "sqrt", "root"),
-        leaf(1, "hypot"),
-        leaf(4, "sin"),
-        leaf(4, "cos"),
-        leaf(1, "atan2"),
-        leaf(2, "to_radians"),
-        leaf(1, "to_degrees"),
         # Refusals 7, 8 and 9 stand before what the source refuses later.
         (
             1,
@@ -178,9 +194,8 @@ EDITS = {
         (
             1,
             "use crate::register::Registration;\n",
-            "use crate::record;\nuse crate::register::Registration;\n" + LEAF,
+            "use crate::record;\nuse crate::register::Registration;\n",
         ),
-        leaf(1, "round"),
         # Positions of a line by itself need it.
         (1, "fn round9(", "pub fn round9("),
         (
@@ -217,6 +232,14 @@ class Changed(Exception):
     pass
 
 
+def lib_edits(modules):
+    """Maps are left out and tests stay where they are; other modules come in."""
+    return [
+        (1, "pub mod maplibre;\n", "".join(f"{m};\n" for m in modules)),
+        (1, "#[cfg(test)]\nmod tests;\n", ""),
+    ]
+
+
 def replaced(name, text, count, old, new):
     found = text.count(old)
     if found != count:
@@ -224,14 +247,17 @@ def replaced(name, text, count, old, new):
     return text.replace(old, new)
 
 
-def edited(name, data):
-    """The text of a source file with its edits made."""
+def edited(name, data, modules, leaves, reports):
+    """The text of a source file with its edits made: which modules of the tests
+    lib.rs names, whether leaves are stand-ins, whether the source reports."""
     if hashlib.sha256(data).hexdigest() != SUMS[name]:
         raise Changed(f"{name}: the source is not the one the edits were made for")
     text = data.decode("utf-8")
-    for count, old, new in EDITS[name]:
+    chosen = lib_edits(modules) if name == "lib.rs" else []
+    chosen = chosen + (LEAVES[name] if leaves else []) + (REPORTS[name] if reports else [])
+    for count, old, new in chosen:
         text = replaced(name, text, count, old, new)
     left = LEFT_OVER.search(text)
-    if left:
+    if leaves and left:
         raise Changed(f"{name}: {left.group()} still goes to the library")
     return text
