@@ -1,2 +1,4 @@
 -- What the functions' proofs share.
-pub mod Loops
+pub mod Calls
+pub mod Lent
+pub mod Passing

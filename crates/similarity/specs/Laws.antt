@@ -2,3 +2,4 @@
 pub mod Project
 pub mod Bearing
 pub mod Fitted
+pub mod Passes

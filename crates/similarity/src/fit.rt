@@ -1,9 +1,9 @@
 // The fit of a similarity to control points, in two rounds.
 ghost use mathlib.Core.Path.{_≡_};
-ghost use mathlib.Core.List.{map};
 ghost use Prim.Native.Nat.{_≤_};
-ghost use lib.ListN.{take};
-ghost use Rattle.similarity.specs.Fit.{markOf, added, dividedBy, meansOf, momented, momentsOf, degenerate, fitAt, solvedOf, roundOf, again, fitOf, noMoments};
+ghost use lib.ListN.{length, take, drop};
+ghost use Rattle.similarity.specs.Fit.{markOf, noSums, added, dividedBy, noMoments, momented, degenerate, fitAt, solvedOf, fitOf};
+ghost use Rattle.similarity.specs.Passes.{firstSums, anchorAt, stepOf, passed, aboutCentroids, aboutAnchor, fitOfPass};
 use elementary::atan2;
 use elementary::hypot;
 use elementary::to_degrees;
@@ -21,7 +21,7 @@ pub struct Control {
     pub lat: f64,
 }
 
-// The same with its position projected once for both rounds: east and north. Sums and means of such take this form too.
+// The same with its position projected: east and north. Sums and means of such take this form too.
 pub struct Mark {
     pub x: f64,
     pub y: f64,
@@ -63,27 +63,6 @@ fn mark_of(c: Control) -> Mark
     }
 }
 
-// The first n points projected.
-fn marks_of(at: [Control; 64], n: usize) -> [Mark; 64]
-    requires { ⌜ n ≤ 64 ⌝ }
-    ensures { λ r. ⌜ take n r ≡ map markOf (take n at) ⌝ }
-{
-    let none = Mark {
-        x: 0.0,
-        y: 0.0,
-        e: 0.0,
-        n: 0.0,
-    };
-    let mut ms = [none; 64];
-    let mut i = 0usize;
-    while i < n {
-        let c = at[i];
-        ms[i] = mark_of(c);
-        i += 1;
-    }
-    ms
-}
-
 // One more point in the sums, about the anchor a.
 fn add_mark(a: Metres, s: Mark, m: Mark) -> Mark
     ensures { λ r. ⌜ r ≡ added a s m ⌝ }
@@ -107,26 +86,6 @@ fn divide(s: Mark, k: f64) -> Mark
     }
 }
 
-// The centroids of the first n points.
-fn means(a: Metres, ms: [Mark; 64], n: usize) -> Mark
-    requires { ⌜ n ≤ 64 ⌝ }
-    ensures { λ r. ⌜ r ≡ meansOf a (take n ms) ⌝ }
-{
-    let mut s = Mark {
-        x: 0.0,
-        y: 0.0,
-        e: 0.0,
-        n: 0.0,
-    };
-    let mut i = 0usize;
-    while i < n {
-        let m = ms[i];
-        s = add_mark(a, s, m);
-        i += 1;
-    }
-    divide(s, n as f64)
-}
-
 // One more point in the moments, about the anchor a and the centroids c.
 fn add_moment(a: Metres, c: Mark, s: Moments, m: Mark) -> Moments
     ensures { λ r. ⌜ r ≡ momented a c s m ⌝ }
@@ -140,24 +99,6 @@ fn add_moment(a: Metres, c: Mark, s: Moments, m: Mark) -> Moments
         b: s.b + (dx * ny - dy * ex),
         den: s.den + (dx * dx + dy * dy),
     }
-}
-
-fn moments_of(a: Metres, c: Mark, ms: [Mark; 64], n: usize) -> Moments
-    requires { ⌜ n ≤ 64 ⌝ }
-    ensures { λ r. ⌜ r ≡ momentsOf a c (take n ms) noMoments ⌝ }
-{
-    let mut s = Moments {
-        a: 0.0,
-        b: 0.0,
-        den: 0.0,
-    };
-    let mut i = 0usize;
-    while i < n {
-        let m = ms[i];
-        s = add_moment(a, c, s, m);
-        i += 1;
-    }
-    s
 }
 
 fn no_fit() -> Fit
@@ -213,45 +154,154 @@ fn solve(a: Metres, c: Mark, s: Moments) -> Fit
     fit_at(a, c, s.a / s.den, s.b / s.den)
 }
 
-// One round about the anchor a.
-fn fit_round(a: Metres, ms: [Mark; 64], n: usize) -> Fit
-    requires { ⌜ n ≤ 64 ⌝ }
-    ensures { λ r. ⌜ r ≡ roundOf a (take n ms) ⌝ }
-{
-    let c = means(a, ms, n);
-    solve(a, c, moments_of(a, c, ms, n))
+// A pass over the control points: with `centred` false it sums them about the anchor a, with `centred` true it adds up the moments about the centroids in s.
+pub struct Pass {
+    pub centred: bool,
+    // whether there is an anchor yet; the first point's position is the first
+    pub anchored: bool,
+    // whether the round before, if any, found a fit
+    pub found: bool,
+    pub a: Metres,
+    pub s: Mark,
+    pub m: Moments,
 }
 
-// Another about the anchor of the first.
-fn fit_again(f: Fit, ms: [Mark; 64], n: usize) -> Fit
-    requires { ⌜ n ≤ 64 ⌝ }
-    ensures { λ r. ⌜ r ≡ again f (take n ms) ⌝ }
+fn no_sums() -> Mark
+    ensures { λ r. ⌜ r ≡ noSums ⌝ }
 {
-    if !f.some {
-        return no_fit();
+    Mark {
+        x: 0.0,
+        y: 0.0,
+        e: 0.0,
+        n: 0.0,
     }
-    let p = LonLat {
+}
+
+fn no_moments() -> Moments
+    ensures { λ r. ⌜ r ≡ noMoments ⌝ }
+{
+    Moments {
+        a: 0.0,
+        b: 0.0,
+        den: 0.0,
+    }
+}
+
+// The sums of the first round, before any point.
+fn first_sums() -> Pass
+    ensures { λ r. ⌜ r ≡ firstSums ⌝ }
+{
+    Pass {
+        centred: false,
+        anchored: false,
+        found: true,
+        a: Metres { x: 0.0, y: 0.0 },
+        s: no_sums(),
+        m: no_moments(),
+    }
+}
+
+// The pass's anchor, or the point's own position where it has none yet.
+fn anchor_at(anchored: bool, a: Metres, m: Mark) -> Metres
+    ensures { λ r. ⌜ r ≡ anchorAt anchored a m ⌝ }
+{
+    if anchored {
+        return a;
+    }
+    Metres { x: m.e, y: m.n }
+}
+
+// One more point in the pass.
+fn step(p: Pass, c: Control) -> Pass
+    ensures { λ r. ⌜ r ≡ stepOf p c ⌝ }
+{
+    let m = mark_of(c);
+    let mut next = p;
+    if p.centred {
+        let moments = add_moment(p.a, p.s, p.m, m);
+        next.m = moments;
+        return next;
+    }
+    let a = anchor_at(p.anchored, p.a, m);
+    let sums = add_mark(a, p.s, m);
+    next.anchored = true;
+    next.a = a;
+    next.s = sums;
+    next
+}
+
+// The points from i on in the pass.
+pub fn pass_from(controls: &[Control], i: usize, p: Pass) -> Pass
+    requires { ⌜ length (now controls) ≤ 64 ⌝ }
+    ensures { λ r. ⌜ r ≡ passed (drop i (now (controls .entry))) p ⌝ }
+{
+    if i < controls.len() {
+        let c = controls[i];
+        let next = step(p, c);
+        return pass_from(controls, i + 1, next);
+    } else {
+        return p;
+    }
+}
+
+// The sums of n points become their centroids, and moments are next.
+fn about_centroids(p: Pass, n: usize) -> Pass
+    requires { ⌜ n ≤ 64 ⌝ }
+    ensures { λ r. ⌜ r ≡ aboutCentroids p n ⌝ }
+{
+    let mut next = p;
+    next.centred = true;
+    next.s = divide(p.s, n as f64);
+    next.m = no_moments();
+    next
+}
+
+// The first round's moments give the second round's anchor, and sums are next.
+fn about_anchor(p: Pass) -> Pass
+    ensures { λ r. ⌜ r ≡ aboutAnchor p ⌝ }
+{
+    let f = solve(p.a, p.s, p.m);
+    let at = LonLat {
         lon: f.lon,
         lat: f.lat,
     };
-    fit_round(mercator_forward(p), ms, n)
+    Pass {
+        centred: false,
+        anchored: true,
+        found: f.some,
+        a: mercator_forward(at),
+        s: no_sums(),
+        m: no_moments(),
+    }
 }
 
-// The fit to the first n control points.
+// What the second round's moments give, where the first found a fit.
+fn fit_of(p: Pass) -> Fit
+    ensures { λ r. ⌜ r ≡ fitOfPass p ⌝ }
+{
+    if !p.found {
+        return no_fit();
+    }
+    solve(p.a, p.s, p.m)
+}
+
+// The fit to control points, in two rounds of two passes.
+pub fn fit_controls(controls: &[Control]) -> Fit
+    requires { ⌜ length (now controls) ≤ 64 ⌝ }
+    ensures { λ r. ⌜ r ≡ fitOf (now (controls .entry)) ⌝ }
+{
+    let n = controls.len();
+    let sums = pass_from(controls, 0, first_sums());
+    let moments = pass_from(controls, 0, about_centroids(sums, n));
+    let sums = pass_from(controls, 0, about_anchor(moments));
+    let moments = pass_from(controls, 0, about_centroids(sums, n));
+    fit_of(moments)
+}
+
+// The fit to the first n of an array of control points.
 pub fn fit_points(at: [Control; 64], n: usize) -> Fit
     requires { ⌜ n ≤ 64 ⌝ }
     ensures { λ r. ⌜ r ≡ fitOf (take n at) ⌝ }
 {
-    if n == 0 {
-        return no_fit();
-    }
-    let ms = marks_of(at, n);
-    let first = ms[0];
-    let a = Metres {
-        x: first.e,
-        y: first.n,
-    };
-    let first_round = fit_round(a, ms, n);
-    let second_round = fit_again(first_round, ms, n);
-    second_round
+    fit_controls(&at[..n])
 }
