@@ -37,7 +37,7 @@ unsafe extern "C" {
     ) -> Answer;
 }
 
-/// What the module is lent; `work` is cleared by every call, so it is no longer than a scene here needs.
+/// What the module is lent. `work` is cleared by every call; nothing is cleared between calls.
 struct Lent {
     work: Vec<f64>,
     positions: Vec<f64>,
@@ -46,9 +46,9 @@ struct Lent {
 }
 
 impl Lent {
-    fn new() -> Lent {
+    fn with_work(points: usize) -> Lent {
         Lent {
-            work: vec![0.0; 2 * 8192],
+            work: vec![0.0; 2 * points],
             positions: vec![0.0; 2 * 4_000_000],
             features: vec![0; 6 * 3_000_000],
             warnings: vec![0; 2 * 3_000_000],
@@ -273,7 +273,7 @@ fn product(n: usize) -> Doc {
 
 fn main() {
     let rounds = std::env::args().nth(1).and_then(|n| n.parse().ok()).unwrap_or(11);
-    let lent = &mut Lent::new();
+    let lent = &mut Lent::with_work(8192);
 
     title("nanoseconds a position");
     by_position("straight segments, 101 positions each", &segments(), lent, rounds);
@@ -290,6 +290,7 @@ fn main() {
     megabytes("dots", &largest(&Item::new(DOT).at(3.0, 4.0)), lent, few);
 
     title("microseconds a sheet");
+    let lent = &mut Lent::with_work(2048);
     growth("items", &[1000, 4000, 16000, 64000], dots, lent, few);
     growth("host features", &[1000, 4000, 16000, 64000], features, lent, few);
     growth("variables", &[1000, 4000, 16000, 64000], variables, lent, few);

@@ -11,6 +11,9 @@
 extern "C" {
 #endif
 
+/* A call takes at most this many bytes of stack, whatever the stream, and no other memory but what it is lent. */
+#define GEOPIC_STACK 65536
+
 /* A refusal: `number` is 1 to 18 and everything else 0. Acceptance: `number` is 0. */
 typedef struct {
     uint32_t number;

@@ -2,6 +2,7 @@
 // points lie in one. The form of a case stands in tests/oracle/produce.rs.
 
 use crate::host::{self, Path};
+use crate::splitmix::Random;
 use std::f64::consts::PI;
 
 pub type Point = [f64; 2];
@@ -16,44 +17,14 @@ pub struct Case {
     pub numbers: Vec<f64>,
 }
 
-/// SplitMix64.
-pub struct Random(u64);
+pub fn seeded(seed: u64) -> Random {
+    Random::new(seed ^ 0x5bd1_e995_9d1c_a7e5)
+}
 
-impl Random {
-    pub fn new(seed: u64) -> Random {
-        Random(seed ^ 0x5bd1_e995_9d1c_a7e5)
-    }
-
-    fn next(&mut self) -> u64 {
-        self.0 = self.0.wrapping_add(0x9e37_79b9_7f4a_7c15);
-        let mut z = self.0;
-        z = (z ^ (z >> 30)).wrapping_mul(0xbf58_476d_1ce4_e5b9);
-        z = (z ^ (z >> 27)).wrapping_mul(0x94d0_49bb_1331_11eb);
-        z ^ (z >> 31)
-    }
-
-    pub fn below(&mut self, n: usize) -> usize {
-        (self.next() % n as u64) as usize
-    }
-
-    pub fn chance(&mut self, one_in: usize) -> bool {
-        self.below(one_in) == 0
-    }
-
-    pub fn pick<T: Copy>(&mut self, list: &[T]) -> T {
-        list[self.below(list.len())]
-    }
-
-    fn between(&mut self, a: f64, b: f64) -> f64 {
-        let t = (self.next() >> 11) as f64 / (1u64 << 53) as f64;
-        a + t * (b - a)
-    }
-
-    /// As many small numbers as large ones.
-    fn of_any_size(&mut self, low: i32, high: i32) -> f64 {
-        let power = low + self.below((high - low) as usize) as i32;
-        self.between(1.0, 10.0) * 10f64.powi(power)
-    }
+/// As many small numbers as large ones.
+fn of_any_size(r: &mut Random, low: i32, high: i32) -> f64 {
+    let power = low + r.below((high - low) as usize) as i32;
+    r.between(1.0, 10.0) * 10f64.powi(power)
 }
 
 /// How far a drawing reaches: to the limit, and to where squares underflow.
@@ -135,7 +106,7 @@ fn curve(r: &mut Random, reach: f64) -> Vec<Point> {
 fn tolerance(r: &mut Random, reach: f64) -> f64 {
     match r.below(6) {
         0 => r.pick(&[1e-3, 1e-9, 9e-10, 1e-300, 1e300, 0.0, -1e-3]),
-        1 => r.of_any_size(-12, 2),
+        1 => of_any_size(r, -12, 2),
         _ => reach * r.pick(&[1e-2, 1e-2, 1e-3, 3e-4, 0.1, 0.5, 1.0]),
     }
 }
@@ -143,7 +114,7 @@ fn tolerance(r: &mut Random, reach: f64) -> f64 {
 /// A scale under which so many inches have some parts of 100 m. One is beyond
 /// every registration's: lengths are infinite then.
 fn scale(r: &mut Random, inches: f64, most: i32) -> f64 {
-    let parts = r.of_any_size(-2, most);
+    let parts = of_any_size(r, -2, most);
     match r.below(16) {
         0 => r.pick(&[0.0, 1e-300, 1.0, 1e9, 1e307]),
         1..=3 => r.pick(&[25.0, 100.0, 400.0, 1000.0]),

@@ -10,9 +10,12 @@ use std::process::exit;
 
 mod cases;
 mod host;
+#[path = "../splitmix.rs"]
+mod splitmix;
 
-use cases::{BOX, Case, ELLIPSE, LINE, Laid, Random};
+use cases::{BOX, Case, ELLIPSE, LINE, Laid, seeded};
 use host::Drawing;
+use splitmix::Random;
 
 /// What has to occur.
 const KINDS: [&str; 31] = [
@@ -77,7 +80,7 @@ impl Tally {
     }
 
     fn compare(&mut self, number: usize, case: &Case, answer: &Answer) {
-        let mut random = Random::new(number as u64);
+        let mut random = seeded(number as u64);
         let result = self
             .points(case, answer, &mut random)
             .and_then(|()| self.draws(case, answer, &mut random));
@@ -314,7 +317,7 @@ fn first<const N: usize>(numbers: &[f64]) -> [f64; N] {
 }
 
 fn ask(count: usize, seed: u64) -> Vec<u8> {
-    let mut random = Random::new(seed);
+    let mut random = seeded(seed);
     let mut out: Vec<u64> = Vec::new();
     for _ in 0..count {
         let case = cases::case(&mut random);

@@ -1,31 +1,13 @@
 // The static library's producers of points, as Rust.
 
+#[path = "../abi.rs"]
+mod abi;
+
+pub use abi::Path;
+use abi::Registration;
+
 /// The source's MAX_STEP_M.
 const STEP: f64 = 100.0;
-
-#[repr(C)]
-#[derive(Clone, Copy)]
-pub struct Path {
-    pub some: bool,
-    pub closed: bool,
-    pub curve: bool,
-    pub start: usize,
-    pub at: usize,
-    pub count: u16,
-    pub next: usize,
-}
-
-#[repr(C)]
-struct Registration {
-    lon: f64,
-    lat: f64,
-    x: f64,
-    y: f64,
-    scale: f64,
-    bearing: f64,
-    method: u32,
-    controls: u32,
-}
 
 #[repr(C)]
 pub struct Drawing {

@@ -10,6 +10,8 @@ mod case;
 mod damage;
 mod named;
 mod random;
+#[path = "../splitmix.rs"]
+mod splitmix;
 mod write;
 
 use case::Case;

@@ -6,8 +6,11 @@
  *                        include/geopic.h says, what was not written included
  * host sizes < CASES     for every accepted case: exactly enough room, and each slice one short, and 0 and 1
  * host filter < CASES    the cases with the module's own allowance
+ * host stack < CASES     the most stack that a call took, on a stack of its own filled before; stops where that is more
+ *                        than include/geopic.h says
  *
  * Every slice is allocated at its own length, so that a sanitizer sees a write behind it. */
+#define _XOPEN_SOURCE 700 /* contexts */
 #include "geopic.h"
 
 #include <inttypes.h>
@@ -15,6 +18,7 @@
 #include <stdio.h>
 #include <stdlib.h>
 #include <string.h>
+#include <ucontext.h>
 
 #define ALLOWANCE 2000000
 #define PATTERN 0xa5
@@ -71,14 +75,25 @@ typedef struct {
     geopic_answer answer;
 } Call;
 
-static Call call(const Case *c)
+static Call lent(const Case *c)
 {
     Call k = {.work = taken(16 * c->work),
               .positions = taken(16 * c->positions),
               .features = taken(24 * c->features),
               .warnings = taken(8 * c->warnings)};
-    k.answer = geopic_place(c->bytes, c->length, k.work, 2 * c->work, k.positions, 2 * c->positions, k.features,
-                            6 * c->features, k.warnings, 2 * c->warnings);
+    return k;
+}
+
+static void place(const Case *c, Call *k)
+{
+    k->answer = geopic_place(c->bytes, c->length, k->work, 2 * c->work, k->positions, 2 * c->positions, k->features,
+                             6 * c->features, k->warnings, 2 * c->warnings);
+}
+
+static Call call(const Case *c)
+{
+    Call k = lent(c);
+    place(c, &k);
     return k;
 }
 
@@ -243,10 +258,43 @@ static void sizes(Case *c)
     }
 }
 
+/* The call on a stack of its own, whose bytes are a pattern before. */
+static uint8_t stack[1 << 20];
+static ucontext_t here, there;
+static const Case *asked;
+static Call *answered;
+
+static void call_there(void)
+{
+    place(asked, answered);
+}
+
+static size_t stack_taken(const Case *c)
+{
+    Call k = lent(c);
+    memset(stack, PATTERN, sizeof stack);
+    getcontext(&there);
+    there.uc_stack.ss_sp = stack;
+    there.uc_stack.ss_size = sizeof stack;
+    there.uc_link = &here;
+    makecontext(&there, call_there, 0);
+    asked = c;
+    answered = &k;
+    swapcontext(&here, &there);
+    release(&k);
+    size_t free_bytes = 0;
+    while (free_bytes < sizeof stack && stack[free_bytes] == PATTERN) {
+        free_bytes++;
+    }
+    return sizeof stack - free_bytes;
+}
+
 int main(int argc, char **argv)
 {
     const char *mode = argc == 2 ? argv[1] : "";
     Case c;
+    size_t most = 0, calls = 0;
+    char deepest[256] = "";
     while (next(&c)) {
         if (!strcmp(mode, "answer")) {
             answer(&c);
@@ -256,11 +304,22 @@ int main(int argc, char **argv)
             if (c.allowance == ALLOWANCE) {
                 write_case(&c);
             }
+        } else if (!strcmp(mode, "stack")) {
+            size_t n = stack_taken(&c);
+            calls++;
+            if (n > most) {
+                most = n;
+                memcpy(deepest, c.name, sizeof deepest);
+            }
         } else {
-            fprintf(stderr, "host answer|sizes|filter < CASES\n");
+            fprintf(stderr, "host answer|sizes|filter|stack < CASES\n");
             return 2;
         }
         free(c.bytes);
+    }
+    if (!strcmp(mode, "stack")) {
+        printf("stack: %zu calls, at most %zu bytes of %d (%s)\n", calls, most, GEOPIC_STACK, deepest);
+        return most > GEOPIC_STACK;
     }
     return 0;
 }

@@ -11,21 +11,12 @@ use std::collections::BTreeMap;
 use std::io::Write as _;
 use std::process::exit;
 
+#[path = "../abi.rs"]
+mod abi;
 #[path = "../answers.rs"]
 mod answers;
 
-#[repr(C)]
-#[derive(Clone, Copy)]
-struct Registration {
-    lon: f64,
-    lat: f64,
-    x: f64,
-    y: f64,
-    scale: f64,
-    bearing: f64,
-    method: u32,
-    controls: u32,
-}
+use abi::Registration;
 
 #[repr(C)]
 struct Outcome {

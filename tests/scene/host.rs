@@ -1,5 +1,10 @@
 // The static library's questions to a scene, as Rust.
 
+#[path = "../abi.rs"]
+mod abi;
+
+pub use abi::Path;
+
 #[repr(C)]
 pub struct Value {
     pub some: bool,
@@ -77,17 +82,6 @@ pub struct Points {
     pub some: bool,
     pub at: usize,
     pub count: u16,
-}
-
-#[repr(C)]
-pub struct Path {
-    pub some: bool,
-    pub closed: bool,
-    pub curve: bool,
-    pub start: usize,
-    pub at: usize,
-    pub count: u16,
-    pub next: usize,
 }
 
 extern "C" {
