@@ -2,6 +2,7 @@
 pub mod Writing
 pub mod Closing
 pub mod Segments
+pub mod Placing
 pub mod Rounds
 pub mod Replay
 pub mod Counts

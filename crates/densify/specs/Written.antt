@@ -7,7 +7,7 @@ use lib.ListN.{length, take, drop, getD}
 use lib.Dec.{leb}
 use lib.Ieee.{Float, nan}
 use Rattle.similarity.specs.declared.projection.Projection.{Projection}
-use Rattle.similarity.specs.Projection.{geoBy}
+use Rattle.similarity.specs.Projection.{geoBy, stretchedOf}
 use Rattle.scene.specs.declared.sections.Path.{Path}
 use Rattle.scene.specs.Scene.{Point, DrawnPath}
 use Rattle.scene.specs.Answers.{formBy}
@@ -76,3 +76,15 @@ placedBy t p = let g = geoBy t (p .x) (p .y) in record { x = g .lon; y = g .lat 
 -- the same draws, each point carried to the Earth
 abbrev pub placing : Projection → Made → Made
 placing t m = record { points = map (placedBy t) (m .points); after = m .after; draws = m .draws }
+
+-- ---- the same in stages, each for all points of a line
+unfoldable pub stretchedBy : Projection → Point → Point
+stretchedBy t p = let g = stretchedOf t (p .x) (p .y) in record { x = g .lon; y = g .lat }
+
+-- x as it is
+abbrev pub onY : (Float → Float) → Point → Point
+onY f p = record { x = p .x; y = f (p .y) }
+
+-- w with f of each point that stands from `from` to `to`, where it stood
+unfoldable pub inPlace : (Point → Point) → List Float → ℕ → ℕ → List Float
+inPlace f w from to = put w from (flats (map f (pointsIn w from to)))

@@ -2,6 +2,7 @@
 mod counts;
 mod cubic;
 mod paths;
+mod placing;
 mod rings;
 mod segments;
 mod writing;

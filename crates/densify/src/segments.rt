@@ -1,18 +1,17 @@
 // A straight segment in parts, handed on point by point.
 ghost use mathlib.Core.Path.{_≡_};
 ghost use Prim.Native.Nat.{_+_, _≤_, _<_};
-ghost use mathlib.Core.List.{[], _∷_, map};
 ghost use lib.ListN.{length};
 ghost use Rattle.densify.specs.Densify.{plain, segmentWant, alongOf, samplesTo, densifyPolylineOf};
-ghost use Rattle.densify.specs.Written.{pointIn, pointsIn, placedBy, placing, Written};
+ghost use Rattle.densify.specs.Written.{pointIn, pointsIn, placing, Written};
 use crate::counts::parts;
+use crate::placing::place_points;
 use crate::writing::Done;
 use crate::writing::put_point;
 use budget::Budget;
 use budget::draw;
 use elementary::hypot;
 use similarity::Projection;
-use similarity::geo;
 
 // How many vertices a segment wants: one for each of its parts.
 pub fn segment_want(step: f64, scale: f64, a: [f64; 2], b: [f64; 2]) -> usize
@@ -31,9 +30,8 @@ pub fn along(a: [f64; 2], b: [f64; 2], k: usize, n: usize) -> [f64; 2]
     [a[0] + t * (b[0] - a[0]), a[1] + t * (b[1] - a[1])]
 }
 
-// The positions of a segment's n parts, written into `out`.
-fn place_segment(
-    t: Projection,
+// The ends of a segment's n parts, written into `out`.
+fn sample_segment(
     a: [f64; 2],
     b: [f64; 2],
     n: usize,
@@ -42,14 +40,13 @@ fn place_segment(
     at: usize,
 ) -> Done
     requires { ⌜ (n < 4294967295) × (at ≤ length (now out)) ⌝ }
-    ensures { λ r. ⌜ Written (now (out .entry)) (now (out .exit)) at (plain (map (placedBy t) (samplesTo (λ k. alongOf (pointIn a) (pointIn b) k n) n)) budget) r ⌝ }
+    ensures { λ r. ⌜ Written (now (out .entry)) (now (out .exit)) at (plain (samplesTo (λ k. alongOf (pointIn a) (pointIn b) k n) n) budget) r ⌝ }
 {
     let mut next = at;
     let mut k = 1usize;
     while k <= n {
         let p = along(a, b, k, n);
-        let g = geo(t, p[0], p[1]);
-        let d = put_point(g.lon, g.lat, budget, out, next);
+        let d = put_point(p[0], p[1], budget, out, next);
         if !d.ok {
             return d;
         }
@@ -63,10 +60,10 @@ fn place_segment(
     }
 }
 
-// The positions of the polyline whose points stand in `work` from `from` to `to`, densified to this step: each is written into `out` as it is made.
-pub fn densify_polyline(
-    t: Projection,
+// The polyline whose points stand in `work` from `from` to `to`, densified to this step, on the canvas: each point is written into `out` as it is made.
+fn sample_polyline(
     step: f64,
+    scale: f64,
     work: &[f64],
     from: usize,
     to: usize,
@@ -75,7 +72,7 @@ pub fn densify_polyline(
     at: usize,
 ) -> Done
     requires { ⌜ (from ≤ to) × (to ≤ length (now work)) × (at ≤ length (now out)) ⌝ }
-    ensures { λ r. ⌜ Written (now (out .entry)) (now (out .exit)) at (placing t (densifyPolylineOf step (t .scale) (pointsIn (now (work .entry)) from to) budget)) r ⌝ }
+    ensures { λ r. ⌜ Written (now (out .entry)) (now (out .exit)) at (densifyPolylineOf step scale (pointsIn (now (work .entry)) from to) budget) r ⌝ }
 {
     if to - from < 2 {
         return Done {
@@ -86,8 +83,7 @@ pub fn densify_polyline(
     }
     let mut ax = work[from];
     let mut ay = work[from + 1];
-    let g = geo(t, ax, ay);
-    let first = put_point(g.lon, g.lat, budget, out, at);
+    let first = put_point(ax, ay, budget, out, at);
     if !first.ok {
         return first;
     }
@@ -97,10 +93,10 @@ pub fn densify_polyline(
     while to - i >= 2 {
         let bx = work[i];
         let by = work[i + 1];
-        let want = segment_want(step, t.scale, [ax, ay], [bx, by]);
+        let want = segment_want(step, scale, [ax, ay], [bx, by]);
         let taken = draw(left, want, 1);
         left = taken.budget;
-        let d = place_segment(t, [ax, ay], [bx, by], taken.granted, left, out, next);
+        let d = sample_segment([ax, ay], [bx, by], taken.granted, left, out, next);
         if !d.ok {
             return d;
         }
@@ -114,6 +110,28 @@ pub fn densify_polyline(
         at: next,
         budget: left,
     }
+}
+
+// The positions of that polyline: sampled on the canvas, then carried to the Earth where they stand.
+pub fn densify_polyline(
+    t: Projection,
+    step: f64,
+    work: &[f64],
+    from: usize,
+    to: usize,
+    budget: Budget,
+    out: &mut [f64],
+    at: usize,
+) -> Done
+    requires { ⌜ (from ≤ to) × (to ≤ length (now work)) × (at ≤ length (now out)) ⌝ }
+    ensures { λ r. ⌜ Written (now (out .entry)) (now (out .exit)) at (placing t (densifyPolylineOf step (t .scale) (pointsIn (now (work .entry)) from to) budget)) r ⌝ }
+{
+    let d = sample_polyline(step, t.scale, work, from, to, budget, out, at);
+    if !d.ok {
+        return d;
+    }
+    place_points(t, out, at, d.at);
+    d
 }
 
 // What such a polyline leaves of the budget where its positions are not written.

@@ -5,6 +5,7 @@ pub mod Powers
 pub mod Exponential
 pub mod Logarithm
 pub mod Arctangent
+pub mod Stages
 pub mod Arccosine
 pub mod Sine
 pub mod Tangent

@@ -2,5 +2,6 @@
 pub mod Constants
 pub mod Series
 pub mod Functions
+pub mod Stages
 pub mod Samples
 pub mod Laws

@@ -3,6 +3,7 @@ ghost use mathlib.Core.Path.{_≡_};
 ghost use lib.Dec.{T};
 ghost use lib.Ieee.Positive.{positive};
 ghost use Rattle.elementary.specs.Series.{seriesOf, evenOf, oddOf, sineTable, cosineTable, logarithmTable, exponentialTable, arctangentTable};
+ghost use Rattle.elementary.specs.Stages.{atanFirst, atanSecond, quadrupled, atanThird};
 ghost use Rattle.elementary.specs.Functions.{heldOf, toRadiansOf, toDegreesOf, hypotOf, turnOf, quadrantOf, restOf, sineAt, cosineAt, sinOf, cosOf, tanOf, lnAt, lnOf, Small, twoTo, expOf, halvedOf, atanAt, atanUp, atanOf, angleOf, sidedOf, atan2Of, acosOf};
 
 const PI: f64 = 3.141592653589793;
@@ -314,11 +315,18 @@ fn halved(v: f64) -> f64
     v / (1.0 + root::root(1.0 + v * v))
 }
 
+// Of the tangent of a quarter of the angle, the angle.
+fn quadruple(w: f64) -> f64
+    ensures { λ r. ⌜ r ≡ quadrupled w ⌝ }
+{
+    held(0.0, FRAC_PI_2, 4.0 * arctangent_series(w))
+}
+
 fn atan_at(v: f64) -> f64
     ensures { λ r. ⌜ r ≡ atanAt v ⌝ }
 {
     let w = halved(halved(v));
-    held(0.0, FRAC_PI_2, 4.0 * arctangent_series(w))
+    quadruple(w)
 }
 
 fn atan_up(v: f64) -> f64
@@ -338,6 +346,34 @@ pub fn atan(v: f64) -> f64
         return -atan_up(-v);
     }
     atan_up(v)
+}
+
+// The arc tangent of an argument above 0 in three stages, so that a line of points goes through one after the other. Above 1 the first two hand on the opposite.
+pub fn atan_first(v: f64) -> f64
+    ensures { λ r. ⌜ r ≡ atanFirst v ⌝ }
+{
+    if 1.0 < v {
+        return -halved(1.0 / v);
+    }
+    halved(v)
+}
+
+pub fn atan_second(w: f64) -> f64
+    ensures { λ r. ⌜ r ≡ atanSecond w ⌝ }
+{
+    if w < 0.0 {
+        return -halved(-w);
+    }
+    halved(w)
+}
+
+pub fn atan_third(w: f64) -> f64
+    ensures { λ r. ⌜ r ≡ atanThird w ⌝ }
+{
+    if w < 0.0 {
+        return held(0.0, FRAC_PI_2, FRAC_PI_2 - quadruple(-w));
+    }
+    quadruple(w)
 }
 
 // The angle of (|x|, |y|): FRAC_PI_2 where x = 0, also at two zeros.

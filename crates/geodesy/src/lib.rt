@@ -1,6 +1,6 @@
 // Web Mercator, EPSG:3857, after the source's geodesy.rs.
 ghost use mathlib.Core.Path.{_≡_};
-ghost use Rattle.geodesy.specs.Geodesy.{normalizeLonOf, mercatorForwardOf, mercatorInverseOf};
+ghost use Rattle.geodesy.specs.Geodesy.{normalizeLonOf, mercatorForwardOf, mercatorInverseOf, longitudeOf, stretchOf, northOf};
 use elementary::atan;
 use elementary::exp;
 use elementary::ln;
@@ -49,13 +49,32 @@ pub fn mercator_forward(p: LonLat) -> Metres
     Metres { x: x, y: y }
 }
 
+// The longitude of an abscissa.
+pub fn longitude(x: f64) -> f64
+    ensures { λ r. ⌜ r ≡ longitudeOf x ⌝ }
+{
+    normalize_lon(to_degrees(x / MERCATOR_RADIUS))
+}
+
+// The exponential of an ordinate, over the radius.
+pub fn stretched(y: f64) -> f64
+    ensures { λ r. ⌜ r ≡ stretchOf y ⌝ }
+{
+    exp(y / MERCATOR_RADIUS)
+}
+
+// The latitude of that exponential's arc tangent.
+pub fn north(a: f64) -> f64
+    ensures { λ r. ⌜ r ≡ northOf a ⌝ }
+{
+    to_degrees(2.0 * a - FRAC_PI_2)
+}
+
 pub fn mercator_inverse(m: Metres) -> LonLat
     ensures { λ r. ⌜ r ≡ mercatorInverseOf m ⌝ }
 {
-    let lon = to_degrees(m.x / MERCATOR_RADIUS);
-    let lat = to_degrees(2.0 * atan(exp(m.y / MERCATOR_RADIUS)) - FRAC_PI_2);
     LonLat {
-        lon: normalize_lon(lon),
-        lat: lat,
+        lon: longitude(m.x),
+        lat: north(atan(stretched(m.y))),
     }
 }

@@ -9,5 +9,7 @@ pub use fit::fit_points;
 pub use projection::Projection;
 pub use projection::Registration;
 pub use projection::geo;
+pub use projection::latitude;
 pub use projection::project;
 pub use projection::projection_of;
+pub use projection::stretch;

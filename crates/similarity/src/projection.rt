@@ -1,14 +1,19 @@
 // Canvas points to the Earth.
 ghost use mathlib.Core.Path.{_≡_};
-ghost use Rattle.similarity.specs.Projection.{projectionOf, projectOf, round9Of, geoBy};
+ghost use Rattle.similarity.specs.Projection.{projectionOf, projectOf, round9Of, geoBy, planeOf, stretchedOf, latitudeOf};
+ghost use Rattle.elementary.specs.Stages.{atanThird};
+use elementary::atan_third;
 use elementary::cos;
 use elementary::sin;
 use elementary::to_radians;
 use float::round;
 use geodesy::LonLat;
 use geodesy::Metres;
+use geodesy::longitude;
 use geodesy::mercator_forward;
 use geodesy::mercator_inverse;
+use geodesy::north;
+use geodesy::stretched;
 
 // A canvas point p goes to the anchor's plane: p less the origin, times the scale, turned so that the canvas's y axis points to the bearing.
 #[repr(C)]
@@ -58,18 +63,26 @@ pub fn projection_of(r: Registration) -> Projection
     }
 }
 
-// The source's `to_lonlat`, for the registration that the projection is of.
-pub fn project(p: Projection, x: f64, y: f64) -> LonLat
-    ensures { λ r. ⌜ r ≡ projectOf p x y ⌝ }
+// The point's position on the plane.
+fn plane(p: Projection, x: f64, y: f64) -> Metres
+    ensures { λ r. ⌜ r ≡ planeOf p x y ⌝ }
 {
     let dx = (x - p.x) * p.scale;
     let dy = (y - p.y) * p.scale;
     let e = dx * p.cos + dy * p.sin;
     let n = -dx * p.sin + dy * p.cos;
-    mercator_inverse(Metres {
+    Metres {
         x: p.east + e,
         y: p.north + n,
-    })
+    }
+}
+
+// The source's `to_lonlat`, for the registration that the projection is of.
+pub fn project(p: Projection, x: f64, y: f64) -> LonLat
+    ensures { λ r. ⌜ r ≡ projectOf p x y ⌝ }
+{
+    let m = plane(p, x, y);
+    mercator_inverse(m)
 }
 
 // Nine decimals, about 0.1 mm.
@@ -88,4 +101,22 @@ pub fn geo(p: Projection, x: f64, y: f64) -> LonLat
         lon: round9(at.lon),
         lat: round9(at.lat),
     }
+}
+
+// `geo` in stages, for a line of points: the longitude that is given out, and the exponential of the ordinate where the latitude will stand.
+pub fn stretch(p: Projection, x: f64, y: f64) -> LonLat
+    ensures { λ r. ⌜ r ≡ stretchedOf p x y ⌝ }
+{
+    let m = plane(p, x, y);
+    LonLat {
+        lon: round9(longitude(m.x)),
+        lat: stretched(m.y),
+    }
+}
+
+// The latitude that is given out, of what the first two stages of the arc tangent left.
+pub fn latitude(w: f64) -> f64
+    ensures { λ r. ⌜ r ≡ latitudeOf (atanThird w) ⌝ }
+{
+    round9(north(atan_third(w)))
 }

@@ -18,13 +18,13 @@ use Rattle.densify.specs.Laws.Writing.{flats-length, next-in}
 use Rattle.densify.specs.Laws.Replay.{ellipse-replays, box-replays}
 use Rattle.densify.specs.Laws.Counts.{ring-least, ellipse-ring, box-ring}
 use Rattle.densify.specs.Laws.Sizes.{left-falls, ellipse-most, box-most}
+use Rattle.densify.specs.Laws.Placing.{written-points}
 use Rattle.convert.specs.declared.shapes.Shape.{Shape}
 use Rattle.convert.specs.declared.state.Ctx.{Ctx}
 use Rattle.convert.specs.declared.state.Props.{Props}
 use Rattle.convert.specs.declared.state.State.{State}
 use Rattle.convert.specs.Convert.{Trace, missing, polylineOrPolygonOf, ringTrace, pathsOf, shapeOf, onScreen, propsOf, pointsTrace, pathsTrace, drawnOf, itemOf}
 use Rattle.convert.specs.Space.{Sheet, most, longest, sheetBy, Fits, Played, Small, Ringed}
-use Rattle.convert.specs.Laws.Laying.{written-points}
 
 -- from a work slice of the same length
 pub played-from : {a : Trace} {j k : ℕ} {ps : List Float} {fs v : List ℕ} (st : State) {u : Sheet} {b : Budget} → j ≡ k

@@ -3,9 +3,9 @@ use Prim.Native.Nat.{ℕ, zero, suc, _+_, _-_, _*_, _/_, _≤_, _<_}
 use native.Mathlib.Omega.{arith}
 use mathlib.Core.Path.{_≡_, refl, sym, ap, _∙_}
 use mathlib.Core.Bool.{Bool, true, false, cond, false≢true}
-use mathlib.Core.List.{List, [], _∷_, _++_, append-assoc}
-use lib.ListN.{length, take, drop, getD, length-append}
-use lib.Seq.{length-take-le, getD-take, getD-append-seam, getD-append-add}
+use mathlib.Core.List.{List, []}
+use lib.ListN.{length, take, getD}
+use lib.Seq.{getD-take}
 use lib.Ieee.{Float, nan}
 use borrow.Author.Tests.{le-leb, lt-leb, leb-true, leb-false}
 use Rattle.budget.specs.declared.Budget.{Budget}
@@ -16,8 +16,9 @@ use Rattle.scene.specs.Laws.Points.{points-length}
 use Rattle.register.specs.Register.{orValue}
 use Rattle.densify.specs.declared.writing.Done.{Done}
 use Rattle.densify.specs.Densify.{Made, plain, closeRingOf, closedIf, pathPointsOf}
-use Rattle.densify.specs.Written.{flats, pointsOf, pointsIn, closingIn, put, Written, drawnBy}
+use Rattle.densify.specs.Written.{flats, pointsOf, pointsIn, closingIn, Written, drawnBy}
 use Rattle.densify.specs.Laws.Writing.{flats-length, written-room, next-in, written-all, written-none, join-done, andThen-none}
+use Rattle.densify.specs.Laws.Placing.{written-points}
 use Rattle.densify.specs.Laws.Closing.{closed-done}
 use Rattle.densify.specs.Laws.Counts.{Within, close-within}
 use Rattle.densify.specs.Laws.Replay.{path-replays}
@@ -39,25 +40,6 @@ module _ (a b : List Float) (n : ℕ) (e : take n a ≡ take n b) where
   pub points-kept : (from to : ℕ) → to ≤ n → pointsIn a from to ≡ pointsIn b from to
   unfolding pointsIn
   points-kept from to h = run-kept from ((to - from) / 2) (omega arith)
-
--- ---- points that were put there
-run-back : (a : List Float) (ps : List Point) (b : List Float) → pointsOf (a ++ (flats ps ++ b)) (length a) (length ps) ≡ ps
-unfolding pointsOf flats
-run-back a [] b = refl
-run-back a (p ∷ ps) b =
-    let more = p .y ∷ (flats ps ++ b) in
-    let rest = run-back (a ++ (p .x ∷ p .y ∷ [])) ps b in
-    rw (getD-append-seam a (p .x) more nan, getD-append-add a (p .x ∷ more) 1 nan) (ap (λ (l : List Point). p ∷ l) (rw (append-assoc, length-append) at rest))
-
-pub points-back : (w : List Float) (at : ℕ) (ps : List Point) → at + length (flats ps) ≤ length w → pointsIn (put w at (flats ps)) at (at + length (flats ps)) ≡ ps
-unfolding pointsIn put
-points-back w at ps h =
-    let n : length (take at w) ≡ at = length-take-le at w (omega arith) in
-    let k : (at + length (flats ps) - at) / 2 ≡ length ps = omega (arith, flats-length ps) in
-    rw k (rw n at (run-back (take at w) ps (drop (at + length (flats ps)) w)))
-
-pub written-points : {w w₁ : List Float} {at : ℕ} {m : Made} {r : Done} → Written w w₁ at m r → r .ok ≡ true → pointsIn w₁ at (r .at) ≡ m .points
-written-points {w} {at = at} {m = m} one fits = rw (one .holds fits, one .next fits) (points-back w at (m .points) (written-room one fits))
 
 -- ---- Lays, by its answer
 module _ {w w′ : List Float} {closed : Bool} {ps : List Point} {o : Maybe (List Point)} {b : Budget} {r : Laying} where

@@ -18,6 +18,7 @@ use Rattle.densify.specs.Densify.{Made, plain, samePoint, closeRingOf}
 use Rattle.densify.specs.Written.{flats, put, pointOf, pointsOf, pointsIn, closing, closingIn, Written}
 use Rattle.densify.specs.Laws.Writing.{flats-length, written-all, next-in}
 use Rattle.densify.specs.Laws.Closing.{closed-done}
+use Rattle.densify.specs.Laws.Placing.{written-points}
 use Rattle.convert.specs.declared.laying.Laying.{Laying}
 use Rattle.convert.specs.declared.state.Ctx.{Ctx}
 use Rattle.convert.specs.declared.state.Props.{Props}
@@ -25,7 +26,7 @@ use Rattle.convert.specs.Convert.{Trace, need, quiet, single, thenTrace,
 use Rattle.convert.specs.Space.{Sheet, lacking, most, longest, Fits, Played, Outlined, Laid, Bounds, Lays, Ringed}
 use Rattle.convert.specs.Laws.Playing.{played-quiet, played-stuck, played-then, played-drawn}
 use Rattle.convert.specs.Laws.Events.{need-fits, need-lacks}
-use Rattle.convert.specs.Laws.Laying.{points-kept, written-points}
+use Rattle.convert.specs.Laws.Laying.{points-kept}
 
 -- on the same sheet, with another budget
 pub fits-spent : {t : Sheet} {b c : Budget} → Fits t b → c .left ≤ most → Fits t c

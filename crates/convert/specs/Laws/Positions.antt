@@ -1,5 +1,5 @@
 -- Laws of a stroke's positions: written into the lent tail of a slice, sealed where they are a ring's, and then played as a feature. Assumes nothing.
-use Prim.Native.Nat.{ℕ, zero, suc, _+_, _-_, _/_, _≤_, _<_}
+use Prim.Native.Nat.{ℕ, _+_, _-_, _/_, _≤_, _<_}
 use mathlib.Core.Path.{_≡_, refl, sym, ap, _∙_}
 use mathlib.Core.Bool.{Bool, true, false, cond}
 use mathlib.Core.List.{List, [], _∷_, _++_, append-nil}
@@ -15,9 +15,9 @@ use Rattle.scene.specs.Scene.{Point}
 use Rattle.budget.specs.declared.Budget.{Budget}
 use Rattle.densify.specs.declared.writing.Done.{Done}
 use Rattle.densify.specs.Densify.{Made, lastOf, densifyPolylineOf}
-use Rattle.densify.specs.Written.{flats, put, pointsOf, pointsIn, placing, Written}
+use Rattle.densify.specs.Written.{flats, put, pointsIn, placing, Written}
 use Rattle.densify.specs.Laws.Writing.{flats-append, flats-length, put-length, put-next, written-room}
-use Rattle.densify.specs.Laws.Segments.{placed-count}
+use Rattle.densify.specs.Laws.Placing.{points-between, placed-count}
 use Rattle.densify.specs.Laws.Counts.{densify-least}
 use Rattle.densify.specs.Laws.Replay.{densify-replays}
 use Rattle.densify.specs.Laws.Sizes.{left-falls, densify-sized}
@@ -140,15 +140,6 @@ module _ (geometry : ℕ) (ps : List Point) where
   positions-room = omega (arith, positions-length, flats-length ps, flats-length (positionsOf geometry ps))
 
 -- ---- how many points a stroke makes
-points-count : (w : List Float) (i n : ℕ) → length (pointsOf w i n) ≡ n
-unfolding pointsOf
-points-count w i zero = refl
-points-count w i (suc n) = ap suc (points-count w (i + 2) n)
-
-points-between : (w : List Float) (from to : ℕ) → length (pointsIn w from to) ≡ (to - from) / 2
-unfolding pointsIn
-points-between w from to = points-count w from ((to - from) / 2)
-
 -- a stroke's positions, before a ring is sealed
 abbrev pub strokeMade : Ctx → List Point → Budget → Made
 strokeMade cx ps b = placing (cx .projection) (densifyPolylineOf (cx .step) (cx .projection .scale) ps b)

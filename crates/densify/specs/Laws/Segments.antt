@@ -1,36 +1,21 @@
--- Laws of positions, of points that stand in a slice, and of the loops over a polyline's segments. Assumes nothing.
+-- Laws of points that stand in a slice, and of the loops over a polyline's segments. Assumes nothing.
 use Prim.Native.Nat.{ℕ, zero, suc, _+_, _-_, _*_, _/_, _≤_, _<_}
-use mathlib.Core.Path.{_≡_, refl, sym, ap, subst, _∙_}
+use mathlib.Core.Path.{_≡_, refl, sym, subst, _∙_}
 use mathlib.Core.Bool.{true, false}
-use mathlib.Core.List.{List, [], _∷_, _++_, map, map-append}
+use mathlib.Core.List.{List, [], _∷_, _++_}
 use native.Mathlib.Omega.{arith}
-use lib.ListN.{length, length-map}
+use lib.ListN.{length}
 use lib.Ieee.{Float}
 use borrow.Author.Tests.{leb-false}
 use Rattle.budget.specs.declared.Budget.{Budget}
 use Rattle.budget.specs.declared.Taken.{Taken}
 use Rattle.budget.specs.Budget.{grantOf, takeOf}
 use Rattle.scene.specs.Scene.{Point}
-use Rattle.geodesy.specs.declared.LonLat.{LonLat}
-use Rattle.similarity.specs.declared.projection.Projection.{Projection}
-use Rattle.similarity.specs.Projection.{geoBy}
 use Rattle.densify.specs.declared.writing.Done.{Done}
 use Rattle.densify.specs.Densify.{Made, plain, andThen, alongOf, samplesTo, segmentWant, segmentOf, segmentsOf, densifyPolylineOf}
-use Rattle.densify.specs.Written.{flats, pointOf, pointsOf, pointsIn, placedBy, placing, Written}
+use Rattle.densify.specs.Written.{flats, pointOf, pointsOf, pointsIn, Written}
 use Rattle.densify.specs.Laws.Writing.{flats-length, written-short, join-short, join-done, written-as, Leads, leads-next, leads-short, leads-end}
 use Rattle.densify.specs.Laws.Counts.{parts-within, samples-length}
-
--- ---- positions
-pub placed-count : (t : Projection) (m : Made) → length (placing t m .points) ≡ length (m .points)
-placed-count t m = length-map (m .points) (placedBy t)
-
-pub placing-then : (t : Projection) (a : Made) (f : Budget → Made) → placing t (andThen a f) ≡ andThen (placing t a) (λ r. placing t (f r))
-placing-then t a f = simp map-append
-
--- as the code makes it of `geo`
-pub placed-is : (t : Projection) {g : LonLat} (p q : Point) → g ≡ geoBy t (p .x) (p .y) → p ≡ q → record { x = g .lon; y = g .lat } ≡ placedBy t q
-unfolding placedBy
-placed-is t {g} p q e f = rw (e, f)
 
 -- ---- points that stand in a slice
 module _ (w : List Float) (i to : ℕ) where
@@ -55,23 +40,23 @@ written-fits h fits =
       kept = h .kept;
     }
 
-module _ (g : Point → Point) (f : ℕ → Point) where
+module _ (f : ℕ → Point) where
   abbrev pub sampled : ℕ → Budget → Made
-  sampled k b = plain (map g (samplesTo f k)) b
+  sampled k b = plain (samplesTo f k) b
 
-  samples-more : (k : ℕ) → 1 ≤ k → map g (samplesTo f (k - 1)) ++ (g (f k) ∷ []) ≡ map g (samplesTo f k)
+  samples-more : (k : ℕ) → 1 ≤ k → samplesTo f (k - 1) ++ (f k ∷ []) ≡ samplesTo f k
   unfolding samplesTo
   samples-more zero h = absurd (omega arith)
-  samples-more (suc k) h = let n : suc k - 1 ≡ k = omega arith in rw (n, map-append)
+  samples-more (suc k) h = let n : suc k - 1 ≡ k = omega arith in rw n
 
-  samples-room : (k : ℕ) → length (flats (map g (samplesTo f k))) ≡ 2 * k
-  samples-room k = rw (flats-length, length-map, samples-length)
+  samples-room : (k : ℕ) → length (flats (samplesTo f k)) ≡ 2 * k
+  samples-room k = rw (flats-length, samples-length)
 
   module _ {w w₁ w₂ : List Float} {at next : ℕ} {b : Budget} {r : Done} (k : ℕ) (some : 1 ≤ k)
       (done : Written w w₁ at (sampled (k - 1) b) (record { ok = true; at = next; budget = b }))
-      (one : Written w₁ w₂ next (plain (g (f k) ∷ []) b) r) where
+      (one : Written w₁ w₂ next (plain (f k ∷ []) b) r) where
     one-more : Written w w₂ at (sampled k b) r
-    one-more = written-as (plain _ b) (sampled k b) (samples-more k some) refl (join-done done (plain (g (f k) ∷ [])) refl one)
+    one-more = written-as (plain _ b) (sampled k b) (samples-more k some) refl (join-done done (plain (f k ∷ [])) refl one)
 
     pub sample-next : r .ok ≡ true → Written w w₂ at (sampled (k + 1 - 1) b) (record { ok = true; at = r .at; budget = b })
     sample-next fits = let n : k + 1 - 1 ≡ k = omega arith in rw n (written-fits one-more fits)
@@ -79,11 +64,11 @@ module _ (g : Point → Point) (f : ℕ → Point) where
     -- no room for the k-th: none for all n
     pub sample-short : (n : ℕ) → k ≤ n → r .ok ≡ false → Written w w₂ at (sampled n b) r
     sample-short n h short =
-        let few : length w < at + length (flats (map g (samplesTo f k))) = leb-false _ _ (sym (one-more .asked) ∙ short) in
+        let few : length w < at + length (flats (samplesTo f k)) = leb-false _ _ (sym (one-more .asked) ∙ short) in
         written-short w at (sampled n b) w₂ r (omega (arith, samples-room k, samples-room n)) short (one-more .before) (one-more .kept)
 
 -- ---- a polyline's segments, one by one
--- a segment has no more parts than `place_segment` takes
+-- a segment has no more parts than `sample_segment` takes
 want-within : (step scale : Float) (p q : Point) → segmentWant step scale p q ≤ 100000
 unfolding segmentWant
 want-within step scale p q = parts-within step _ .most
@@ -121,46 +106,31 @@ module _ (step scale : Float) (w : List Float) (i to : ℕ) (b : Budget) where
     spent-next h drawn = rw (segments-next h, drawn)
 
 -- the same, written
-module _ (t : Projection) (step : Float) (work : List Float) (i to : ℕ) (b : Budget) where
-  abbrev pub placedFrom : Point → Made
-  placedFrom p = placing t (segmentsOf step (t .scale) p (pointsIn work i to) b)
-
-  abbrev pub placedWhole : Made
-  placedWhole = placing t (densifyPolylineOf step (t .scale) (pointsIn work i to) b)
-
-  -- after the point at i
-  abbrev pub placedOn : Budget → Made
-  placedOn c = placing t (onwards step (t .scale) work i to c)
-
-  module _ (p : Point) {w w₁ : List Float} {at next : ℕ} {m : Made} (l : Leads w at m w₁ next (placedFrom p)) where
+module _ (step scale : Float) (work : List Float) (i to : ℕ) (b : Budget) where
+  module _ (p : Point) {w w₁ : List Float} {at next : ℕ} {m : Made} (l : Leads w at m w₁ next (segmentsOf step scale p (pointsIn work i to) b)) where
     pub segments-end : to < i + 2 → next ≤ length w₁ → Written w w₁ at m (record { ok = true; at = next; budget = b })
-    segments-end h k = leads-end (rw (segments-none step (t .scale) work i to b p h) at l) k
+    segments-end h k = leads-end (rw (segments-none step scale work i to b p h) at l) k
 
-    module _ (h : i + 2 ≤ to) {w₂ : List Float} {r : Done} (taken : Taken) (drawn : taken ≡ takeOf b (segmentWant step (t .scale) p (pointOf work i)) 1)
-        (one : Written w₁ w₂ next (sampled (placedBy t) (λ k. alongOf p (pointOf work i) k (taken .granted)) (taken .granted) (taken .budget)) r) where
-      abbrev segment : Made
-      segment = segmentOf step (t .scale) p (pointOf work i) b
+    module _ (h : i + 2 ≤ to) {w₂ : List Float} {r : Done} (taken : Taken) (drawn : taken ≡ takeOf b (segmentWant step scale p (pointOf work i)) 1)
+        (one : Written w₁ w₂ next (sampled (λ k. alongOf p (pointOf work i) k (taken .granted)) (taken .granted) (taken .budget)) r) where
+      turned : Leads w at m w₁ next (andThen (segmentOf step scale p (pointOf work i) b) (onwards step scale work i to))
+      turned = subst (λ (x : Made). Leads w at m w₁ next x) (segments-next step scale work i to b p h) l
 
-      turned : Leads w at m w₁ next (andThen (placing t segment) placedOn)
-      turned = subst (λ (x : Made). Leads w at m w₁ next x) (ap (placing t) (segments-next step (t .scale) work i to b p h) ∙ placing-then t segment (onwards step (t .scale) work i to)) l
-
-      written : Written w₁ w₂ next (placing t segment) r
+      written : Written w₁ w₂ next (segmentOf step scale p (pointOf work i) b) r
       unfolding segmentOf
       written = written-as _ _ (rw drawn) (rw drawn) one
 
       pub segment-short : r .ok ≡ false → Written w w₂ at m r
-      segment-short short = leads-short placedOn turned written short
+      segment-short short = leads-short (onwards step scale work i to) turned written short
 
-      pub segment-next : r .ok ≡ true → Leads w at m w₂ (r .at) (placedOn (taken .budget))
-      segment-next fits = rw (one .left fits) at (leads-next placedOn turned written fits)
+      pub segment-next : r .ok ≡ true → Leads w at m w₂ (r .at) (onwards step scale work i to (taken .budget))
+      segment-next fits = rw (one .left fits) at (leads-next (onwards step scale work i to) turned written fits)
 
   -- the first point, and then the segments
-  module _ (h : i + 2 ≤ to) {w w₁ : List Float} {at : ℕ} {r : Done} (first : Written w w₁ at (plain (placedBy t (pointOf work i) ∷ []) b) r) where
-    whole-is : placedWhole ≡ andThen (plain (placedBy t (pointOf work i) ∷ []) b) placedOn
-    whole-is = ap (placing t) (polyline-first step (t .scale) work i to b h) ∙ placing-then t (plain (pointOf work i ∷ []) b) (onwards step (t .scale) work i to)
+  module _ (h : i + 2 ≤ to) {w w₁ : List Float} {at : ℕ} {r : Done} (first : Written w w₁ at (plain (pointOf work i ∷ []) b) r) where
+    pub polyline-short : r .ok ≡ false → Written w w₁ at (densifyPolylineOf step scale (pointsIn work i to) b) r
+    polyline-short short = rw (polyline-first step scale work i to b h) (join-short first (onwards step scale work i to) short)
 
-    pub polyline-short : r .ok ≡ false → Written w w₁ at placedWhole r
-    polyline-short short = rw whole-is (join-short first placedOn short)
-
-    pub polyline-done : r .ok ≡ true → {w₂ : List Float} {s : Done} → Written w₁ w₂ (r .at) (placedOn b) s → Written w w₂ at placedWhole s
-    polyline-done fits rest = rw whole-is (join-done first placedOn fits (rw (first .left fits) rest))
+    pub polyline-done : r .ok ≡ true → {w₂ : List Float} {s : Done} → Written w₁ w₂ (r .at) (onwards step scale work i to b) s
+        → Written w w₂ at (densifyPolylineOf step scale (pointsIn work i to) b) s
+    polyline-done fits rest = rw (polyline-first step scale work i to b h) (join-done first (onwards step scale work i to) fits (rw (first .left fits) rest))

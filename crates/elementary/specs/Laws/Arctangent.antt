@@ -64,14 +64,22 @@ roots = iv K.one rootTwo
 abbrev halved-code : Expr → Expr → Expr
 halved-code v r = over v (plus (lit K.one) r)
 
-halved-test : T (encloses (halved-code (var 0) (var 1)) (iv K.zero K.one ∷ roots ∷ []) K.zero K.one)
+abbrev pub halved-encloses : Float → Float → Bool
+halved-encloses a b = encloses (halved-code (var 0) (var 1)) (iv a K.one ∷ roots ∷ []) b K.one
+
+-- from a to 1, with a not below 0
+pub halved-from : (a b v : Float) → T (le K.zero a) → T (halved-encloses a b) → Between a K.one v → Between b K.one (halvedOf v)
+unfolding halvedOf
+halved-from a b v z t i =
+    enclosed (halved-code (var 0) (var 1)) (iv a K.one ∷ roots ∷ []) (v ∷ rootOf (add binary64 K.one (mul binary64 v v)) ∷ []) b K.one t
+    (i, (root-in v (record { low = le-trans K.zero a v z (i .low); high = i .high; fl = unfold ofBits in tt; fh = i .fh }), tt))
+
+halved-test : T (le K.zero K.zero) × T (halved-encloses K.zero K.zero)
 unfolding ofBits add div le
-halved-test = tt
+halved-test = (tt, tt)
 
 halved-in : (v : Float) → Between K.zero K.one v → Between K.zero K.one (halvedOf v)
-unfolding halvedOf
-halved-in v i =
-    enclosed (halved-code (var 0) (var 1)) (iv K.zero K.one ∷ roots ∷ []) (v ∷ rootOf (add binary64 K.one (mul binary64 v v)) ∷ []) K.zero K.one halved-test (i, (root-in v i, tt))
+halved-in v i = halved-from K.zero K.zero v (halved-test .0) (halved-test .1) i
 
 -- over v, the root for v and the root for its half
 abbrev at-code : Expr
@@ -131,7 +139,7 @@ module _ (a lo hi : Float) (t : Ends a lo hi) where
       go false n = up-in v f g
 
 -- at most 1, as `<` fails
-unit-high : (v : Float) → T (le K.zero v) → T (not (lt K.one v)) → T (le v K.one)
+pub unit-high : (v : Float) → T (le K.zero v) → T (not (lt K.one v)) → T (le v K.one)
 unfolding ofBits
 unit-high v h n = neither K.zero K.one v tt tt (number v h) (le→not-lt K.zero v tt h) n .high
 

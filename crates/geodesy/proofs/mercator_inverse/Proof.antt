@@ -1,34 +1,24 @@
 use borrow.Author.Needs.{needs}
-use Rattle.geodesy.specs.Geodesy.{mercatorInverseOf}
+use Rattle.geodesy.specs.Geodesy.{mercatorInverseOf, longitudeOf, stretchOf, northOf}
 use Rattle.geodesy.proofs.mercator_inverse.Statement.{statement}
 use Rattle.geodesy.proofs.mercator_inverse.Tie as tie
 
-to-degrees-requires : tie.Need-to-degrees-requires
-to-degrees-requires c κs = search needs
+longitude-requires : tie.Need-longitude-requires
+longitude-requires c κs = search needs
 
-exp-requires : tie.Need-exp-requires
-exp-requires c κs = search needs
+stretched-requires : tie.Need-stretched-requires
+stretched-requires c κs = search needs
 
 atan-requires : tie.Need-atan-requires
 atan-requires c κs = search needs
 
-to-degrees-requires-2 : tie.Need-to-degrees-requires-2
-to-degrees-requires-2 c κs = search needs
-
-normalize-lon-requires : tie.Need-normalize-lon-requires
-normalize-lon-requires c κs = search needs
+north-requires : tie.Need-north-requires
+north-requires c κs = search needs
 
 returns : tie.Need-returns
-unfolding mercatorInverseOf
-returns c = rw (c .normalize-lon .ensures, c .before .to-degrees2 .ensures, c .before .before .atan .ensures, c .before .before .before .exp .ensures, c .before .before .before .before .before .to-degrees .ensures)
+unfolding mercatorInverseOf longitudeOf stretchOf northOf
+returns c = rw (c .north .ensures, c .before .atan .ensures, c .before .before .stretched .ensures, c .before .before .before .longitude .ensures)
 
 pub mercator-inverse-spec : {M : Type 1} → statement M
 mercator-inverse-spec =
-    tie.close
-    (tie.spec
-    to-degrees-requires
-    exp-requires
-    atan-requires
-    to-degrees-requires-2
-    normalize-lon-requires
-    returns)
+    tie.close (tie.spec longitude-requires stretched-requires atan-requires north-requires returns)

@@ -1,7 +1,7 @@
 -- Where a canvas point comes to lie under a sound registration, and that rounding to nine decimals keeps it there. Assumes nothing.
 use mathlib.Core.List.{List, [], _∷_}
 use Prim.Native.Nat.{ℕ, _+_, _*_, _^_, _≤_}
-use mathlib.Core.Path.{refl}
+use mathlib.Core.Path.{_≡_, refl}
 use native.Mathlib.Omega.{arith}
 use lib.Dec.{T, lit<, lit≤}
 use lib.Ieee.{Float, binary64, fits, neg, add, sub, mul, div, le, ofBits}
@@ -16,14 +16,17 @@ use Rattle.float.specs.Laws.Numbers.{half-within}
 use Rattle.float.specs.Laws.Spans.{plus2^, minus2^, within-between, between-within, ends-spans, spans-ends, mul-spans, div-spans, whole-spans}
 use Rattle.elementary.specs.Constants as K
 use Rattle.elementary.specs.Functions.{toRadiansOf, sinOf, cosOf}
+use Rattle.elementary.specs.Stages.{atanFirst, atanSecond, atanThird}
+use Rattle.elementary.specs.Laws.Stages.{stages-exp}
 use Rattle.elementary.specs.Laws.Codes.{encloses, enclosed}
 use Rattle.elementary.specs.Laws.Sine.{bound, low-bound, UnitSize, sin-unit, cos-unit}
 use Rattle.elementary.specs.Laws.Mercator.{c89·5, m89·5}
 use Rattle.geodesy.specs.declared.LonLat.{LonLat}
-use Rattle.geodesy.specs.Geodesy.{mercatorForwardOf}
+use Rattle.geodesy.specs.Geodesy.{mercatorForwardOf, mercatorInverseOf, longitudeOf, stretchOf, northOf}
 use Rattle.geodesy.specs.Laws.Finite.{m180, c90, OnEarth, inverse-in, forward-east, forward-anchor}
 use Rattle.similarity.specs.declared.projection.Registration.{Registration}
-use Rattle.similarity.specs.Projection.{anchorOf, planeOffsetOf, toLonLatOf, billion, round9Of, geoOf}
+use Rattle.similarity.specs.declared.projection.Projection.{Projection}
+use Rattle.similarity.specs.Projection.{anchorOf, planeOffsetOf, toLonLatOf, projectOf, billion, round9Of, geoOf, geoBy, planeOf, stretchedOf, latitudeOf}
 
 -- 1,000,000 and 1,000,000,000
 abbrev pub million : Float
@@ -122,3 +125,9 @@ rounded-earth p h = (rounded-in 180 K.c180 (p .lon) whole-180 (lit≤ tt) (h .0)
 pub geo-in : (r : Registration) → Sound r → (x y : Float) → Within 24 x → Within 24 y → OnEarth (geoOf r x y)
 unfolding geoOf
 geo-in r S x y v w = rounded-earth (toLonLatOf r x y) (project-in r S x y v w)
+
+-- ---- `geoBy` in stages
+pub geo-staged : (p : Projection) (x y : Float)
+    → geoBy p x y ≡ record { lon = stretchedOf p x y .lon; lat = latitudeOf (atanThird (atanSecond (atanFirst (stretchedOf p x y .lat)))) }
+unfolding geoBy projectOf mercatorInverseOf planeOf stretchedOf latitudeOf longitudeOf stretchOf northOf
+geo-staged p x y = rw stages-exp

@@ -1,4 +1,4 @@
-use mathlib.Core.Path.{refl, sym, _∙_}
+use mathlib.Core.Path.{sym, _∙_}
 use mathlib.Core.List.{[], _∷_}
 use borrow.Author.Needs.{needs}
 use borrow.Author.Tests.{leb-false, not-true, not-false}
@@ -6,7 +6,7 @@ use Rattle.scene.specs.Scene.{Point}
 use Rattle.densify.specs.Densify.{plain}
 use Rattle.densify.specs.Written.{placedBy, Written}
 use Rattle.densify.specs.Laws.Writing.{written-room}
-use Rattle.densify.specs.Laws.Segments.{placed-is}
+use Rattle.densify.specs.Laws.Placing.{placed-is}
 use Rattle.convert.specs.Convert.{pointOf}
 use Rattle.convert.specs.Laws.Playing.{played-stuck}
 use Rattle.convert.specs.Laws.Events.{written-lacks, written-finished}
@@ -28,7 +28,7 @@ placed : (c : tie.After-put-point) → let s = c .before .before .before .before
 placed c =
     let s = c .before .before .before .before .before .before .before .args in
     let p : Point = record { x = s .x; y = s .y } in
-    rw (placed-is (s .cx .projection) p p (c .before .before .geo .ensures) refl) at (c .put-point .ensures)
+    rw (placed-is (s .cx .projection) p (c .before .before .geo .ensures)) at (c .put-point .ensures)
 
 lack-requires : tie.Need-lack-requires
 lack-requires c κs = search needs
