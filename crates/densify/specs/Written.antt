@@ -21,6 +21,9 @@ pointIn p = record { x = getD p 0 nan; y = getD p 1 nan }
 abbrev pub blockIn : List (List Float) → Block
 blockIn b = record { p0 = pointIn (getD b 0 []); c1 = pointIn (getD b 1 []); c2 = pointIn (getD b 2 []); p3 = pointIn (getD b 3 []) }
 
+abbrev pub pointWith : Float → Float → Point
+pointWith x y = record { x = x; y = y }
+
 -- ---- points in a slice
 unfoldable pub flats : List Point → List Float
 flats [] = []

@@ -1,24 +1,48 @@
 // A line of canvas points carried to the Earth where it stands. Each pass does one stage for all points: within a point the stages wait for each other, between points they do not.
+// A value that went in just before, as the ordinate of a line that runs east, gives what it gave then.
 ghost use mathlib.Core.Path.{_≡_};
+ghost use mathlib.Core.Bool.{true};
 ghost use Prim.Native.Nat.{_≤_};
 ghost use lib.ListN.{length};
 ghost use Rattle.elementary.specs.Stages.{atanFirst, atanSecond, atanThird};
 ghost use Rattle.similarity.specs.Projection.{latitudeOf};
-ghost use Rattle.densify.specs.Written.{placedBy, stretchedBy, onY, inPlace};
+ghost use Rattle.densify.specs.Written.{pointWith, placedBy, stretchedBy, onY, inPlace};
 use elementary::atan_first;
 use elementary::atan_second;
+use float::same;
 use similarity::Projection;
 use similarity::latitude;
 use similarity::stretch;
+
+fn same_point(ax: f64, ay: f64, bx: f64, by: f64) -> bool
+    ensures { λ r. ⌜ (r ≡ true → pointWith ax ay ≡ pointWith bx by) ⌝ }
+{
+    if same(ax, bx) {
+        return same(ay, by);
+    }
+    false
+}
 
 // The longitude of each point, and the exponential of its ordinate.
 fn stretch_points(t: Projection, out: &mut [f64], from: usize, to: usize)
     requires { ⌜ (from ≤ to) × (to ≤ length (now out)) ⌝ }
     ensures { λ _. ⌜ now (out .exit) ≡ inPlace (stretchedBy t) (now (out .entry)) from to ⌝ }
 {
+    if to - from < 2 {
+        return;
+    }
+    let mut last_x = out[from];
+    let mut last_y = out[from + 1];
+    let mut g = stretch(t, last_x, last_y);
     let mut i = from;
     while to - i >= 2 {
-        let g = stretch(t, out[i], out[i + 1]);
+        let x = out[i];
+        let y = out[i + 1];
+        if !same_point(x, y, last_x, last_y) {
+            g = stretch(t, x, y);
+        }
+        last_x = x;
+        last_y = y;
         out[i] = g.lon;
         out[i + 1] = g.lat;
         i += 2;
@@ -30,10 +54,19 @@ fn halve_points(out: &mut [f64], from: usize, to: usize)
     requires { ⌜ (from ≤ to) × (to ≤ length (now out)) ⌝ }
     ensures { λ _. ⌜ now (out .exit) ≡ inPlace (onY atanFirst) (now (out .entry)) from to ⌝ }
 {
+    if to - from < 2 {
+        return;
+    }
+    let mut last = out[from + 1];
+    let mut made = atan_first(last);
     let mut i = from;
     while to - i >= 2 {
-        let w = atan_first(out[i + 1]);
-        out[i + 1] = w;
+        let v = out[i + 1];
+        if !same(v, last) {
+            made = atan_first(v);
+        }
+        last = v;
+        out[i + 1] = made;
         i += 2;
     }
 }
@@ -42,10 +75,19 @@ fn halve_again(out: &mut [f64], from: usize, to: usize)
     requires { ⌜ (from ≤ to) × (to ≤ length (now out)) ⌝ }
     ensures { λ _. ⌜ now (out .exit) ≡ inPlace (onY atanSecond) (now (out .entry)) from to ⌝ }
 {
+    if to - from < 2 {
+        return;
+    }
+    let mut last = out[from + 1];
+    let mut made = atan_second(last);
     let mut i = from;
     while to - i >= 2 {
-        let w = atan_second(out[i + 1]);
-        out[i + 1] = w;
+        let v = out[i + 1];
+        if !same(v, last) {
+            made = atan_second(v);
+        }
+        last = v;
+        out[i + 1] = made;
         i += 2;
     }
 }
@@ -55,10 +97,19 @@ fn give_latitudes(out: &mut [f64], from: usize, to: usize)
     requires { ⌜ (from ≤ to) × (to ≤ length (now out)) ⌝ }
     ensures { λ _. ⌜ now (out .exit) ≡ inPlace (onY (λ w. latitudeOf (atanThird w))) (now (out .entry)) from to ⌝ }
 {
+    if to - from < 2 {
+        return;
+    }
+    let mut last = out[from + 1];
+    let mut made = latitude(last);
     let mut i = from;
     while to - i >= 2 {
-        let w = latitude(out[i + 1]);
-        out[i + 1] = w;
+        let v = out[i + 1];
+        if !same(v, last) {
+            made = latitude(v);
+        }
+        last = v;
+        out[i + 1] = made;
         i += 2;
     }
 }

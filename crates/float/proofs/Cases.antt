@@ -7,7 +7,8 @@ use native.Mathlib.Omega.{arith}
 use lib.IntN.{ℤ, pos, negsuc}
 use lib.Dec.{T, eqb→eq}
 use lib.Pow.{pow-pos}
-use lib.Ieee.{Float, nan, inf, fin, binary64, unlike, up, down, round, sub, mul, lt, le, eq, ne, isNan, fits, ofBits}
+use lib.Ieee.{Float, nan, inf, fin, binary64, unlike, up, down, round, sub, mul, lt, le, eq, ne, isNan, fits, ofBits, toBits}
+use lib.Ieee.Bits.{ofBits-toBits}
 use lib.Ieee.Fits.{up-pos, down-pos}
 use lib.Ieee.Scale.{finite}
 use Rattle.float.specs.Functions.{pick, absOf, maxOf, minOf}
@@ -102,3 +103,18 @@ finite-test (fin s m e) = ap (λ (v : Float). eq v (fin false 0 (pos 0))) (zero-
     zero : (s : Bool) → eq (fin s 0 (pos 0)) (fin false 0 (pos 0)) ≡ true
     zero true = refl
     zero false = refl
+
+-- ---- same
+-- what compares equal is no NaN
+pub equal-numbers : (x y : Float) → eq x y ≡ true → T (not (isNan x)) × T (not (isNan y))
+unfolding eq isNan
+equal-numbers nan y h = absurd (yes false h)
+equal-numbers (inf s) nan h = absurd (yes false h)
+equal-numbers (inf s) (inf t) h = (tt, tt)
+equal-numbers (inf s) (fin t n d) h = (tt, tt)
+equal-numbers (fin s m e) nan h = absurd (yes false h)
+equal-numbers (fin s m e) (inf t) h = (tt, tt)
+equal-numbers (fin s m e) (fin t n d) h = (tt, tt)
+
+pub same-bits : (x y : Float) → fits binary64 x ≡ true → fits binary64 y ≡ true → toBits binary64 x ≡ toBits binary64 y → x ≡ y
+same-bits x y f g e = sym (ofBits-toBits binary64 x (yes _ f)) ∙ ap (ofBits binary64) e ∙ ofBits-toBits binary64 y (yes _ g)

@@ -1,5 +1,6 @@
 // What Rust's f64 has as methods, and a finite pattern taken apart.
 ghost use mathlib.Core.Path.{_≡_};
+ghost use mathlib.Core.Bool.{true};
 ghost use Prim.Native.Nat.{ℕ, _+_, _*_, _<_, _≤_, _%_, _^_, _/_};
 ghost use lib.Ieee.Scale.{finite};
 ghost use Rattle.float.specs.Functions.{absOf, maxOf, minOf, truncOf, ceilOf, roundOf, remEuclid360Of};
@@ -43,6 +44,16 @@ pub fn is_finite(x: f64) -> bool
     ensures { λ r. ⌜ r ≡ finite x ⌝ }
 {
     x * 0.0 == 0.0
+}
+
+// Whether both are known to be one value: 0.0 and -0.0 are two, and of a NaN nothing is known.
+pub fn same(a: f64, b: f64) -> bool
+    ensures { λ r. ⌜ (r ≡ true → a ≡ b) ⌝ }
+{
+    if a == b {
+        return f64::to_bits(a) == f64::to_bits(b);
+    }
+    false
 }
 
 // `%`, plus 360 where that is negative.

@@ -128,6 +128,10 @@ module _ {f : Point → Point} {w₀ : List Float} {from to : ℕ} {w : List Flo
         kept = simp length-set (h .kept);
       }
 
+-- no point
+pub pass-none : (f : Point → Point) (w : List Float) (from to : ℕ) → from ≤ to → to ≤ length w → to < from + 2 → w ≡ inPlace f w from to
+pass-none f w from to h k few = pass-end (pass-start f w from to h k) few
+
 -- the one store of a y
 pub pass-turn-y : (g : Float → Float) {w₀ : List Float} {from to : ℕ} {w : List Float} {i : ℕ} → Passed (onY g) w₀ from to w i → i + 2 ≤ to
     → (y : Float) → y ≡ g (getD w (i + 1) nan) → Passed (onY g) w₀ from to (set w (i + 1) y) (i + 2)

@@ -1,35 +1,61 @@
-use Prim.Native.Nat.{_-_}
+use Prim.Native.Nat.{_+_, _-_}
+use mathlib.Core.Path.{_≡_, sym, ap, _∙_}
+use mathlib.Core.Logic.{⊎-elim}
 use native.Mathlib.Omega.{arith}
+use lib.ListN.{getD}
+use lib.Ieee.{nan}
 use borrow.Author.Needs.{needs}
+use borrow.Author.Tests.{not-false}
 use Rattle.elementary.specs.Stages.{atanSecond}
 use Rattle.densify.specs.Written.{onY}
-use Rattle.densify.specs.Laws.Placing.{Passed, pass-start, pass-turn-y, pass-end}
+use Rattle.densify.specs.Laws.Placing.{Passed, pass-start, pass-end, pass-none, pass-turn-y}
 use Rattle.densify.proofs.placing.halve_again.Statement.{statement}
 use Rattle.densify.proofs.placing.halve_again.Tie as tie
 
 abbrev Inv-loop : tie.InvT-loop
-Inv-loop out₀ from to i₀ out i = Passed (onY atanSecond) out₀ from to out i
+Inv-loop out₀ from to last₀ made₀ i₀ out last made i = Passed (onY atanSecond) out₀ from to out i × (made ≡ atanSecond last)
 
 abbrev μ-loop : tie.MeasureT-loop
-μ-loop out₀ from to i₀ out i = to - i
+μ-loop out₀ from to last₀ made₀ i₀ out last made i = to - i
+
+sub-if1 : tie.Need-sub-if1 Inv-loop μ-loop
+sub-if1 c = omega arith
+
+returns : tie.Need-returns Inv-loop μ-loop
+returns c = pass-none _ _ _ _ (c .before .before .pre .0) (c .before .before .pre .1) (omega arith)
+
+add-last : tie.Need-add-last Inv-loop μ-loop
+add-last c = omega arith
+
+mul-last : tie.Need-mul-last Inv-loop μ-loop
+mul-last c = search needs
+
+slice-read-last : tie.Need-slice-read-last Inv-loop μ-loop
+slice-read-last c = omega arith
+
+atan-second-requires : tie.Need-atan-second-requires Inv-loop μ-loop
+atan-second-requires c κs = search needs
 
 loop-holds : tie.Need-loop-holds Inv-loop μ-loop
-loop-holds c = pass-start _ _ _ _ (c .before .pre .0) (c .before .pre .1)
+loop-holds c = (pass-start _ _ _ _ (c .before .before .before .before .pre .0) (c .before .before .before .before .pre .1), c .atan-second .ensures)
 
 sub-loop : tie.Need-sub-loop Inv-loop μ-loop
 sub-loop c = omega arith
 
-add-atan-second : tie.Need-add-atan-second Inv-loop μ-loop
-add-atan-second c = omega arith
+add-v : tie.Need-add-v Inv-loop μ-loop
+add-v c = omega arith
 
-mul-atan-second : tie.Need-mul-atan-second Inv-loop μ-loop
-mul-atan-second c = search needs
+mul-v : tie.Need-mul-v Inv-loop μ-loop
+mul-v c = search needs
 
-slice-read-atan-second : tie.Need-slice-read-atan-second Inv-loop μ-loop
-slice-read-atan-second c = omega arith
+slice-read-v : tie.Need-slice-read-v Inv-loop μ-loop
+slice-read-v c = omega arith
 
-atan-second-requires : tie.Need-atan-second-requires Inv-loop μ-loop
-atan-second-requires c κs = search needs
+same-requires : tie.Need-same-requires Inv-loop μ-loop
+same-requires c κs = search needs
+
+atan-second-requires-2 : tie.Need-atan-second-requires-2 Inv-loop μ-loop
+atan-second-requires-2 c κs = search needs
 
 add-out : tie.Need-add-out Inv-loop μ-loop
 add-out c = omega arith
@@ -46,14 +72,21 @@ add-i c = omega arith
 loop-less : tie.Need-loop-less Inv-loop μ-loop
 loop-less c = omega arith
 
+-- worked out, or as it was
+made-is : (c : tie.Joined2 Inv-loop μ-loop) → c .if2 .made ≡ atanSecond (getD (c .before .before .before .before .loop .out) (c .before .before .before .before .loop .i + 1) nan)
+made-is c =
+    ⊎-elim (λ k. k .2 ∙ k .1 .ensures)
+    (λ k. k .1 ∙ c .before .before .before .before .loop .inv .1 ∙ ap atanSecond (sym (c .before .same .ensures (not-false _ (k .0 .left)))))
+    (c .if2 .came)
+
 loop-again : tie.Need-loop-again Inv-loop μ-loop
-loop-again c = pass-turn-y _ (c .before .before .before .loop .inv) (omega arith) _ (c .atan-second .ensures)
+loop-again c = (pass-turn-y _ (c .before .before .before .before .loop .inv .0) (omega arith) _ (made-is c), made-is c)
 
 same-length : tie.Need-same-length Inv-loop μ-loop
-same-length c = c .before .loop .inv .kept
+same-length c = c .before .loop .inv .0 .kept
 
-returns : tie.Need-returns Inv-loop μ-loop
-returns c = pass-end (c .before .loop .inv) (omega arith)
+returns-2 : tie.Need-returns-2 Inv-loop μ-loop
+returns-2 c = pass-end (c .before .loop .inv .0) (omega arith)
 
 pub halve-again-spec : {M : Type 1} → statement M
 halve-again-spec =
@@ -61,12 +94,19 @@ halve-again-spec =
     (tie.spec
     Inv-loop
     μ-loop
+    sub-if1
+    returns
+    add-last
+    mul-last
+    slice-read-last
+    atan-second-requires
     loop-holds
     sub-loop
-    add-atan-second
-    mul-atan-second
-    slice-read-atan-second
-    atan-second-requires
+    add-v
+    mul-v
+    slice-read-v
+    same-requires
+    atan-second-requires-2
     add-out
     mul-out
     slice-write-out
@@ -74,4 +114,4 @@ halve-again-spec =
     loop-less
     loop-again
     same-length
-    returns)
+    returns-2)
