@@ -1,6 +1,7 @@
 // The next record that a question asks for.
 ghost use mathlib.Core.Path.{_≡_};
 ghost use mathlib.Core.Bool.{Bool, true, false};
+ghost use mathlib.Core.List.{[]};
 ghost use Prim.Native.Nat.{ℕ, _≤_};
 ghost use lib.ListN.{drop};
 ghost use Rattle.stream.specs.Payload.{payload};
@@ -114,6 +115,16 @@ fn turn_at(r: Record, tag: u8, key: u8) -> Turn
     Turn::On
 }
 
+// Whether nothing is left at byte q of the payload, or the end record begins there: what follows needs no look.
+fn is_end(s: &[u8], q: usize) -> bool
+    ensures { λ r. ⌜ (r ≡ true → (t k : ℕ) → recordsAt (payload (now (s .entry))) q t k ≡ []) ⌝ }
+{
+    if q >= stream::left(s, 0) {
+        return true;
+    }
+    stream::byte(s, 0, q) == 0
+}
+
 // The first record of a tag and key from p on, as far as such a record can stand.
 pub fn find(s: &[u8], p: usize, tag: u8, key: u8) -> Hit
     ensures { λ r. ⌜ recordsAt (payload (now (s .entry))) p tag key ≡ hitsOf (payload (now (s .entry))) tag key r ⌝ }
@@ -122,6 +133,13 @@ pub fn find(s: &[u8], p: usize, tag: u8, key: u8) -> Hit
 {
     let mut q = p;
     loop {
+        if is_end(s, q) {
+            return Hit {
+                some: false,
+                at: q,
+                next: q,
+            };
+        }
         match record_at(s, q) {
             Step::Bad => {
                 return Hit {
@@ -166,6 +184,9 @@ pub fn skip_to(s: &[u8], p: usize, tag: u8) -> usize
 {
     let mut q = p;
     loop {
+        if is_end(s, q) {
+            return q;
+        }
         match record_at(s, q) {
             Step::Bad => {
                 return q;

@@ -1,19 +1,22 @@
 -- A search: what it finds from one record on, and what a record that was found tells of its bytes.
-use mathlib.Core.Path.{_≡_, refl, ap}
-use mathlib.Core.List.{List, []}
+use mathlib.Core.Path.{_≡_, refl, ap, _∙_}
+use mathlib.Core.List.{List, [], _∷_}
 use mathlib.Core.Bool.{Bool, true, false, _&&_, cond}
 use Prim.Native.Nat.{ℕ, _+_, _*_, _≤_, _<_}
+use native.Mathlib.Nat.{add-zero}
 use native.Mathlib.Omega.{arith}
 use lib.ListN.{length, getD, drop, length-drop}
+use lib.Seq.{getD-drop}
 use lib.Dec.{eqb, ltb}
-use borrow.Author.Tests.{eqb-true, ne-eqb, le-ltb}
+use borrow.Author.Tests.{eq-eqb, eqb-true, ne-eqb, le-ltb}
 use Rattle.stream.specs.Numbers.{u16At}
 use Rattle.records.specs.declared.records.Record.{Record}
 use Rattle.records.specs.declared.records.Record.the-variants.{Rescale, Choice, Feature, Variable, Place, Item, Points, Path}
+use Rattle.records.specs.declared.records.Step.{Step}
 use Rattle.records.specs.declared.records.Step.the-variants.{Got, End, Bad}
 use Rattle.records.specs.declared.search.Turn.the-variants.{Here, On, Past}
-use Rattle.records.specs.Records.{choiceWidth, valuesWidth, recordOf}
-use Rattle.records.specs.Walk.{tagOf}
+use Rattle.records.specs.Records.{pick, allZero, endOf, choiceWidth, valuesWidth, byTag, recordOf}
+use Rattle.records.specs.Walk.{more, entries, tagOf}
 use Rattle.records.specs.Search.{keyOf, past, pickTurn, turnOf, sought, recordsOf, recordsAt}
 use Rattle.records.specs.Hits.{Standing}
 use Rattle.records.specs.Laws.Tests.{and-left, and-right}
@@ -33,6 +36,21 @@ module _ (l : List ℕ) (p t key : ℕ) where
   pub search-got : {r : Record} {k : ℕ} → recordOf (drop p l) ≡ Got r k → recordsAt l p t key ≡ sought (turnOf t key r) (drop p l) (recordsAt l (p + k) t key)
   unfolding recordsOf
   search-got e = ap (recordsOf t key) (entries-on l p e)
+
+-- ---- nothing is left, or the end record begins: no record, whatever follows
+closing : (l : List ℕ) → getD l 0 0 ≡ 0 → entries l 0 ≡ []
+unfolding entries recordOf byTag endOf
+closing [] h = refl
+closing (x ∷ xs) h = ended (eqb (length (x ∷ xs)) 0) (eqb x 0) (allZero (x ∷ xs)) _ (eq-eqb x 0 h)
+  where
+    ended : (a b c : Bool) (r : Step) → b ≡ true → more (x ∷ xs) (pick a Bad (pick b (pick c End Bad) r)) (λ n. entries xs n) ≡ []
+    ended true b c r h = refl
+    ended false b true r h = rw h refl
+    ended false b false r h = rw h refl
+
+pub search-closed : (l : List ℕ) (p t key : ℕ) → getD l p 0 ≡ 0 → recordsAt l p t key ≡ []
+unfolding recordsOf
+search-closed l p t key h = ap (recordsOf t key) (closing (drop p l) (rw (getD-drop, add-zero) h))
 
 -- ---- a search ends at a record of its tag and key
 is-here : (a b : Bool) → pickTurn a Here (pickTurn b Past On) ≡ Here → a ≡ true

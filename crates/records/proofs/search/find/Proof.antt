@@ -31,7 +31,7 @@ none h e = (e, ((λ n. absurd (subst T (sym n) tt)), h))
 -- a record stands at the position
 module _ (w : tie.After-turn-at Inv-loop μ-loop) where
   abbrev at : tie.At-loop Inv-loop μ-loop
-  at = w .before .before .before .before .before
+  at = w .before .before .before .before .before .before .before
 
   abbrev s : List ℕ
   s = at .before .before .args .s .now
@@ -58,23 +58,31 @@ module _ (w : tie.After-turn-at Inv-loop μ-loop) where
 loop-holds : tie.Need-loop-holds Inv-loop μ-loop
 loop-holds c = (omega arith, refl)
 
+is-end-requires : tie.Need-is-end-requires Inv-loop μ-loop
+is-end-requires c κs = search needs
+
+returns : tie.Need-returns Inv-loop μ-loop
+returns c =
+    let a = c .before .before in
+    none (a .loop .inv .0) (a .loop .inv .1 ∙ c .before .is-end .ensures (c .if1 .taken) _ _)
+
 record-at-requires : tie.Need-record-at-requires Inv-loop μ-loop
 record-at-requires c κs = search needs
 
 enum-told : tie.Need-enum-told Inv-loop μ-loop
 enum-told c = search needs
 
-returns : tie.Need-returns Inv-loop μ-loop
-returns c =
-    let a = c .before .before .before in
+returns-2 : tie.Need-returns-2 Inv-loop μ-loop
+returns-2 c =
+    let a = c .before .before .before .before .before in
     none (a .loop .inv .0) (a .loop .inv .1 ∙ search-bad _ (a .loop .q) _ _ (sym (c .before .before .record-at .ensures) ∙ c .enum-told .given .1))
 
 enum-told-2 : tie.Need-enum-told-2 Inv-loop μ-loop
 enum-told-2 c = search needs
 
-returns-2 : tie.Need-returns-2 Inv-loop μ-loop
-returns-2 c =
-    let a = c .before .before .before in
+returns-3 : tie.Need-returns-3 Inv-loop μ-loop
+returns-3 c =
+    let a = c .before .before .before .before .before in
     none (a .loop .inv .0) (a .loop .inv .1 ∙ search-end _ (a .loop .q) _ _ (sym (c .before .before .record-at .ensures) ∙ c .enum-told2 .given .1))
 
 enum-known-r : tie.Need-enum-known-r Inv-loop μ-loop
@@ -86,12 +94,12 @@ turn-at-requires c κs = search needs
 enum-told-3 : tie.Need-enum-told-3 Inv-loop μ-loop
 enum-told-3 c = search needs
 
-add-t10 : tie.Need-add-t10 Inv-loop μ-loop
-add-t10 c = let w = c .before .before in omega (arith, within w)
+add-t11 : tie.Need-add-t11 Inv-loop μ-loop
+add-t11 c = let w = c .before .before in omega (arith, within w)
 
-returns-3 : tie.Need-returns-3 Inv-loop μ-loop
+returns-4 : tie.Need-returns-4 Inv-loop μ-loop
 unfolding hitsOf
-returns-3 c =
+returns-4 c =
     let w = c .before .before in
     let asked = here _ _ _ (turned w (c .enum-told3 .given .1)) in
     (onward w (c .enum-told3 .given .1), ((λ h. record { is = w .before .before .r .given .0 .0; size = size w; got = got w; ends = refl; tag = asked .0; key = asked .1 }), at w .loop .inv .0))
@@ -99,8 +107,8 @@ returns-3 c =
 enum-told-4 : tie.Need-enum-told-4 Inv-loop μ-loop
 enum-told-4 c = search needs
 
-returns-4 : tie.Need-returns-4 Inv-loop μ-loop
-returns-4 c = none (at (c .before .before) .loop .inv .0) (onward (c .before .before) (c .enum-told4 .given .1))
+returns-5 : tie.Need-returns-5 Inv-loop μ-loop
+returns-5 c = none (at (c .before .before) .loop .inv .0) (onward (c .before .before) (c .enum-told4 .given .1))
 
 enum-told-5 : tie.Need-enum-told-5 Inv-loop μ-loop
 enum-told-5 c = search needs
@@ -121,18 +129,20 @@ find-spec =
     Inv-loop
     μ-loop
     loop-holds
+    is-end-requires
+    returns
     record-at-requires
     enum-told
-    returns
-    enum-told-2
     returns-2
+    enum-told-2
+    returns-3
     enum-known-r
     turn-at-requires
     enum-told-3
-    add-t10
-    returns-3
-    enum-told-4
+    add-t11
     returns-4
+    enum-told-4
+    returns-5
     enum-told-5
     add-q
     loop-less

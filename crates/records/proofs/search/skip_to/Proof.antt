@@ -21,9 +21,9 @@ abbrev μ-loop : tie.MeasureT-loop
 μ-loop s p tag q₀ q = room s - q
 
 -- a record of a smaller tag stands at the position
-module _ (w : tie.Else1 Inv-loop μ-loop) where
+module _ (w : tie.Else2 Inv-loop μ-loop) where
   abbrev at : tie.At-loop Inv-loop μ-loop
-  at = w .before .before .before .before .before .before
+  at = w .before .before .before .before .before .before .before .before
 
   abbrev s : List ℕ
   s = at .before .before .args .s .now
@@ -41,10 +41,16 @@ module _ (w : tie.Else1 Inv-loop μ-loop) where
   onward t k h m =
       at .loop .inv t k h m
       ∙ search-got (payload s) (at .loop .q) t k got
-      ∙ ap (λ (x : Turn). sought x (drop (at .loop .q) (payload s)) (recordsAt (payload s) (at .loop .q + size) t k)) (passes t k (w .before .before .before .r .given .0 .0) (omega (arith, w .before .tag-of .ensures, w .if1 .left)) m)
+      ∙ ap (λ (x : Turn). sought x (drop (at .loop .q) (payload s)) (recordsAt (payload s) (at .loop .q + size) t k)) (passes t k (w .before .before .before .r .given .0 .0) (omega (arith, w .before .tag-of .ensures, w .if2 .left)) m)
 
 loop-holds : tie.Need-loop-holds Inv-loop μ-loop
 loop-holds c = λ t k h m. refl
+
+is-end-requires : tie.Need-is-end-requires Inv-loop μ-loop
+is-end-requires c κs = search needs
+
+returns : tie.Need-returns Inv-loop μ-loop
+returns c = c .before .before .loop .inv
 
 record-at-requires : tie.Need-record-at-requires Inv-loop μ-loop
 record-at-requires c κs = search needs
@@ -52,14 +58,14 @@ record-at-requires c κs = search needs
 enum-told : tie.Need-enum-told Inv-loop μ-loop
 enum-told c = search needs
 
-returns : tie.Need-returns Inv-loop μ-loop
-returns c = c .before .before .before .loop .inv
+returns-2 : tie.Need-returns-2 Inv-loop μ-loop
+returns-2 c = c .before .before .before .before .before .loop .inv
 
 enum-told-2 : tie.Need-enum-told-2 Inv-loop μ-loop
 enum-told-2 c = search needs
 
-returns-2 : tie.Need-returns-2 Inv-loop μ-loop
-returns-2 c = c .before .before .before .loop .inv
+returns-3 : tie.Need-returns-3 Inv-loop μ-loop
+returns-3 c = c .before .before .before .before .before .loop .inv
 
 enum-known-r : tie.Need-enum-known-r Inv-loop μ-loop
 enum-known-r c = search needs
@@ -67,8 +73,8 @@ enum-known-r c = search needs
 tag-of-requires : tie.Need-tag-of-requires Inv-loop μ-loop
 tag-of-requires c κs = search needs
 
-returns-3 : tie.Need-returns-3 Inv-loop μ-loop
-returns-3 c = c .before .before .before .before .before .before .loop .inv
+returns-4 : tie.Need-returns-4 Inv-loop μ-loop
+returns-4 c = c .before .before .before .before .before .before .before .before .loop .inv
 
 add-q : tie.Need-add-q Inv-loop μ-loop
 add-q c = omega (arith, within c)
@@ -86,14 +92,16 @@ skip-to-spec =
     Inv-loop
     μ-loop
     loop-holds
+    is-end-requires
+    returns
     record-at-requires
     enum-told
-    returns
-    enum-told-2
     returns-2
+    enum-told-2
+    returns-3
     enum-known-r
     tag-of-requires
-    returns-3
+    returns-4
     add-q
     loop-less
     loop-again)
