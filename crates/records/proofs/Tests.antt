@@ -1,4 +1,4 @@
--- Tests: a call's answer, every number below n, a byte of a name, and a list of zeros.
+-- Tests: a call's answer, every number below n, and a list of zeros.
 use mathlib.Core.Path.{_≡_, refl, sym, _∙_}
 use mathlib.Core.List.{List, [], _∷_}
 use mathlib.Core.Bool.{Bool, true, false, not, and-false}
@@ -10,9 +10,9 @@ use native.Mathlib.Omega.{arith}
 use lib.ListN.{length, getD, drop, drop-of-length-le}
 use lib.Seq.{drop-cons}
 use lib.Dec.{eqb}
-use borrow.Author.Tests.{le-leb, lt-leb, eq-eqb, ne-eqb, eqb-true, not-true, not-false}
+use borrow.Author.Tests.{eq-eqb, ne-eqb, eqb-true, not-true, not-false}
 use Rattle.stream.specs.Numbers.{u16At, u32At}
-use Rattle.records.specs.Records.{allTo, plain, allZero}
+use Rattle.records.specs.Records.{allTo, allZero}
 use Rattle.records.specs.Laws.Tests.{and-left, and-right}
 
 -- ---- a call's answer, where the code tests that it does not hold
@@ -36,6 +36,11 @@ allTo-fails f zero i h e = absurd (omega arith)
 allTo-fails f (suc n) i h e =
     ⊎-elim (λ (eq : i ≡ n). rw (← eq, e, and-false) refl) (λ (lt : i < n). rw (allTo-fails f n i lt e) refl) (eq-or-lt-of-le (le-of-suc h))
 
+pub allTo-same : (f g : ℕ → Bool) (n : ℕ) → ((k : ℕ) → k < n → f k ≡ g k) → allTo f n ≡ allTo g n
+unfolding allTo
+allTo-same f g zero e = refl
+allTo-same f g (suc n) e = rw (allTo-same f g n (λ k h. e k (omega arith)), e n (omega arith)) refl
+
 -- t is none of the numbers below n, nested as the last arm of a match has it
 abbrev pub NoneBelow : ℕ → ℕ → Type 0
 NoneBelow t zero = Unit {0}
@@ -44,20 +49,6 @@ NoneBelow t (suc n) = NoneBelow t n × (t ≡ n → ⊥)
 pub none-below : (t n : ℕ) → NoneBelow t n → n ≤ t
 none-below t zero o = omega arith
 none-below t (suc n) o = omega (arith, none-below t n (o .0), o .1)
-
--- ---- a byte of a name
-module _ (x : ℕ) where
-  pub plain-low : x < 33 → plain x ≡ false
-  unfolding plain
-  plain-low h = rw (lt-leb 33 x h) refl
-
-  pub plain-high : 126 < x → plain x ≡ false
-  unfolding plain
-  plain-high h = rw (lt-leb x 126 h, and-false) refl
-
-  pub plain-is : 33 ≤ x → x ≤ 126 → plain x ≡ true
-  unfolding plain
-  plain-is h k = rw (le-leb 33 x h, le-leb x 126 k) refl
 
 -- ---- zeros
 zero-at : (l : List ℕ) (i : ℕ) → allZero l ≡ true → getD l i 0 ≡ 0

@@ -3,7 +3,7 @@ ghost use mathlib.Core.Path.{_≡_};
 ghost use Prim.Native.Nat.{_+_, _<_, _≤_};
 ghost use lib.ListN.{length, drop};
 ghost use Rattle.stream.specs.Payload.{room, rest};
-ghost use Rattle.records.specs.Records.{plains, named, labelled, namedThen, counted, allZero, choiceWidth, choiceFits, valuesWidth, itemBegins};
+ghost use Rattle.records.specs.Records.{plain, plains, named, labelled, namedThen, counted, allZero, choiceWidth, choiceFits, valuesWidth, itemBegins};
 ghost use Rattle.records.specs.Records.{endOf, rescaleOf, choiceOf, featureOf, variableOf, placeOf, itemOf, pointsOf, pathWith, pathOf, recordOf};
 use stream::byte;
 use stream::left;
@@ -59,23 +59,55 @@ pub fn wide16(x: u16) -> usize
     x as usize
 }
 
-// Whether n bytes from p on are all of 33 to 126.
-fn all_plain(part: &[u8], off: usize, p: usize, n: usize) -> bool
+fn is_plain(x: u8) -> bool
+    ensures { λ r. ⌜ r ≡ plain x ⌝ }
+{
+    if x < 33 {
+        return false;
+    }
+    x <= 126
+}
+
+// Whether n bytes from p on are all of 33 to 126, a check between them or not.
+fn apart_plain(part: &[u8], off: usize, p: usize, n: usize) -> bool
     requires { ⌜ (off ≤ room (now part)) × (p + n ≤ length (rest (now part) off)) ⌝ }
     ensures { λ r. ⌜ r ≡ plains (rest (now (part .entry)) off) p n ⌝ }
 {
     let mut i = 0usize;
     while i < n {
-        let x = byte(part, off, p + i);
-        if x < 33 {
-            return false;
-        }
-        if x > 126 {
+        if !is_plain(byte(part, off, p + i)) {
             return false;
         }
         i += 1;
     }
     true
+}
+
+// The same of n bytes of the part itself.
+fn run_plain(part: &[u8], at: usize, n: usize) -> bool
+    requires { ⌜ at + n ≤ length (now part) ⌝ }
+    ensures { λ r. ⌜ r ≡ plains (now (part .entry)) at n ⌝ }
+{
+    let mut i = 0usize;
+    while i < n {
+        if !is_plain(part[at + i]) {
+            return false;
+        }
+        i += 1;
+    }
+    true
+}
+
+// A name seldom has a check between its bytes: it is read where it stands.
+fn all_plain(part: &[u8], off: usize, p: usize, n: usize) -> bool
+    requires { ⌜ (off ≤ room (now part)) × (p + n ≤ length (rest (now part) off)) ⌝ }
+    ensures { λ r. ⌜ r ≡ plains (rest (now (part .entry)) off) p n ⌝ }
+{
+    let run = stream::run_at(part, off, p, n);
+    if run.some {
+        return run_plain(part, run.at, n);
+    }
+    apart_plain(part, off, p, n)
 }
 
 // Whether a name stands at p.

@@ -6,7 +6,7 @@ use native.Mathlib.Omega.{arith}
 use lib.ListN.{length, getD}
 use lib.Seq.{getD-drop}
 use Rattle.stream.specs.Numbers.{u16At, u32At, u64At}
-use Rattle.stream.specs.Payload.{payload, room, placeOf, rest}
+use Rattle.stream.specs.Payload.{payload, room, placeOf, rest, Straight}
 use Rattle.stream.specs.Laws.Payload.{payload-at, within}
 
 -- q is where byte i of the rest stands
@@ -28,3 +28,10 @@ module _ (s : List ℕ) (off : ℕ) (h : off ≤ room s) where
   pub eight : (i q : ℕ) → i + 8 ≤ length (rest s off) → q % 512 + 8 ≤ 508 → q ≡ placeOf (off + i) → u64At s q ≡ u64At (rest s off) i
   unfolding u64At
   eight i q l k e = rw (four i q (omega arith) (omega arith) e, four (i + 4) (q + 4) (omega arith) (omega arith) (omega arith))
+
+  pub straight : (i n q : ℕ) → i + n ≤ length (rest s off) → q % 512 + n ≤ 508 → q ≡ placeOf (off + i) → Straight s off i n q
+  straight i n q l k e =
+      record {
+        fits = omega (arith, within s off i n h l);
+        same = λ j g. one (i + j) (q + j) (omega arith) (omega arith);
+      }

@@ -1,7 +1,8 @@
 -- The payload of a stream, or of a part of it that starts at a block: what its blocks hold, joined.
-use Prim.Native.Nat.{ℕ, zero, suc, _+_, _*_, _/_, _%_}
+use mathlib.Core.Path.{_≡_}
+use Prim.Native.Nat.{ℕ, zero, suc, _+_, _*_, _/_, _%_, _≤_, _<_}
 use mathlib.Core.List.{List, [], _++_}
-use lib.ListN.{length, take, drop}
+use lib.ListN.{length, getD, take, drop}
 
 -- the first 508 bytes of each of the first n blocks
 unfoldable pub payloads : ℕ → List ℕ → List ℕ
@@ -26,3 +27,8 @@ rest s off = drop off (payload s)
 -- the part that starts at the block of byte p of the payload; in it, p is at p % 508
 abbrev pub partFrom : List ℕ → ℕ → List ℕ
 partFrom s p = drop (512 * (p / 508)) s
+
+-- n bytes of the rest, from i on, stand side by side in the part, from `at` on
+pub record Straight (s : List ℕ) (off i n at : ℕ) : Type 0 where
+  pub fits : at + n ≤ length s
+  pub same : (k : ℕ) → k < n → getD s (at + k) 0 ≡ getD (rest s off) (i + k) 0

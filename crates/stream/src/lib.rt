@@ -1,10 +1,11 @@
 // The blocks of a stream, and what stands at a place of their payload.
 ghost use mathlib.Core.Path.{_≡_};
+ghost use mathlib.Core.Bool.{Bool, true, false};
 ghost use Prim.Native.Nat.{_+_, _*_, _<_, _≤_};
 ghost use lib.ListN.{length, getD};
 ghost use Rattle.stream.specs.Numbers.{u16At, u32At, u64At, floatAt};
 ghost use Rattle.stream.specs.Blocks.{checked, blocksOf};
-ghost use Rattle.stream.specs.Payload.{room, placeOf, rest, partFrom};
+ghost use Rattle.stream.specs.Payload.{room, placeOf, rest, partFrom, Straight};
 
 mod numbers;
 
@@ -21,6 +22,12 @@ pub enum Blocks {
     Size,
     // a check is wrong
     Check,
+}
+
+// Whether bytes stand side by side in a part, and where the first of them does.
+pub struct Run {
+    pub some: bool,
+    pub at: usize,
 }
 
 // A float that was read. A NaN or an infinity has no value here: reading comes before condition 4.
@@ -98,6 +105,18 @@ pub fn byte(part: &[u8], off: usize, i: usize) -> u8
     ensures { λ r. ⌜ r ≡ getD (rest (now (part .entry)) off) i 0 ⌝ }
 {
     part[place(off + i)]
+}
+
+// Whether no check stands between the n bytes from i on.
+pub fn run_at(part: &[u8], off: usize, i: usize, n: usize) -> Run
+    requires { ⌜ (off ≤ room (now part)) × (i + n ≤ length (rest (now part) off)) ⌝ }
+    ensures { λ r. ⌜ (r .some ≡ true → Straight (now (part .entry)) off i n (r .at)) ⌝ }
+{
+    let at = place(off + i);
+    Run {
+        some: at % BLOCK + n <= PAYLOAD,
+        at: at,
+    }
 }
 
 pub fn short(part: &[u8], off: usize, i: usize) -> u16

@@ -1,63 +1,28 @@
 use borrow.Author.Needs.{needs}
-use Prim.Native.Nat.{_-_, _≤_}
-use native.Mathlib.Omega.{arith}
-use mathlib.Core.Bool.{true}
-use mathlib.Core.Path.{_∙_, _≡_, ap, refl, sym}
-use Rattle.stream.specs.Laws.Payload.{rest-length}
-use Rattle.stream.specs.Payload.{rest}
-use Rattle.records.specs.Records.{allTo, plain, plains}
-use Rattle.records.proofs.Tests.{allTo-fails, allTo-more, plain-high, plain-is, plain-low}
+use mathlib.Core.Path.{_∙_, ap}
+use Rattle.records.specs.Records.{plain}
+use Rattle.records.proofs.Tests.{allTo-same}
 use Rattle.records.proofs.records.all_plain.Statement.{statement}
 use Rattle.records.proofs.records.all_plain.Tie as tie
 
-abbrev Inv-loop : tie.InvT-loop
-Inv-loop part off p n i₀ i = (i ≤ n) × (plains (rest part off) p i ≡ true)
+run-at-requires : tie.Need-run-at-requires
+run-at-requires c κs = search needs
 
-abbrev μ-loop : tie.MeasureT-loop
-μ-loop part off p n i₀ i = n - i
+run-plain-requires : tie.Need-run-plain-requires
+run-plain-requires c κs = c .before .run-at .ensures (c .if1 .taken) .fits
 
-loop-holds : tie.Need-loop-holds Inv-loop μ-loop
-unfolding allTo
-loop-holds c = search needs
+returns : tie.Need-returns
+returns c =
+    let so = c .before .before .run-at .ensures (c .before .if1 .taken) in
+    c .run-plain .ensures ∙ allTo-same _ _ _ (λ k h. ap plain (so .same k h))
 
-add-byte : tie.Need-add-byte Inv-loop μ-loop
-add-byte c = omega (arith, rest-length (c .before .before .before .args .part .now) (c .before .before .before .args .off))
+apart-plain-requires : tie.Need-apart-plain-requires
+apart-plain-requires c κs = search needs
 
-byte-requires : tie.Need-byte-requires Inv-loop μ-loop
-byte-requires c κs = search needs
-
-returns : tie.Need-returns Inv-loop μ-loop
-returns c = sym (allTo-fails _ _ _ (c .before .before .loop-test .taken) (ap plain (sym (c .before .byte .ensures)) ∙ plain-low _ (omega arith)))
-
-returns-2 : tie.Need-returns-2 Inv-loop μ-loop
-returns-2 c = sym (allTo-fails _ _ _ (c .before .before .before .loop-test .taken) (ap plain (sym (c .before .before .byte .ensures)) ∙ plain-high _ (omega arith)))
-
-add-i : tie.Need-add-i Inv-loop μ-loop
-add-i c = search needs
-
-loop-less : tie.Need-loop-less Inv-loop μ-loop
-loop-less c = search needs
-
-loop-again : tie.Need-loop-again Inv-loop μ-loop
-loop-again c = (omega arith, allTo-more _ _ (c .before .before .before .before .loop .inv .1) (ap plain (sym (c .before .before .byte .ensures)) ∙ plain-is _ (omega arith) (omega arith)))
-
-returns-3 : tie.Need-returns-3 Inv-loop μ-loop
-returns-3 c =
-    let e : c .before .loop .i ≡ c .before .before .before .args .n = omega arith in
-    rw (← e, c .before .loop .inv .1) refl
+returns-2 : tie.Need-returns-2
+returns-2 c = search needs
 
 pub all-plain-spec : {M : Type 1} → statement M
 all-plain-spec =
     tie.close
-    (tie.spec
-    Inv-loop
-    μ-loop
-    loop-holds
-    add-byte
-    byte-requires
-    returns
-    returns-2
-    add-i
-    loop-less
-    loop-again
-    returns-3)
+    (tie.spec run-at-requires run-plain-requires returns apart-plain-requires returns-2)
