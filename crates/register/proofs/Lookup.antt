@@ -57,12 +57,12 @@ rising-any u [] r = tt
 rising-any u (v ∷ vs) r = (before-some u (v .name) (r .0), r .1)
 
 module _ (vars : ℕ → List NamedValue) where
-  pub none-passed : Rising [] (vars 0) → Passed vars [] (replicate 32 0) 0
-  none-passed r =
+  pub none-passed : (q : ℕ) → vars 0 ≡ vars q → Rising [] (vars 0) → Passed vars [] (replicate 32 0) q
+  none-passed q e r =
       record {
         sized = refl;
-        rising = r;
-        later = λ name h. refl;
+        rising = rw e at r;
+        later = λ name h. rw e refl;
         near = λ j name h k e. rw (getD-replicate {A = ℕ} 32 j 0 0 h) refl;
         runs-rise = λ j h. rw (getD-replicate {A = ℕ} 32 j 0 0 h) r;
       }

@@ -10,7 +10,7 @@ use Rattle.records.specs.Order.{part}
 use Rattle.scene.specs.declared.sections.Variable.{Variable}
 use Rattle.scene.specs.Scene.{sceneOf}
 use Rattle.scene.specs.Labels.{variableOf}
-use Rattle.scene.specs.Answers.{featuresAt, variablesAt, variablesBy}
+use Rattle.scene.specs.Answers.{featuresAt, variablesAt, variablesBy, Variables}
 use Rattle.scene.specs.Laws.Answers.{scene-lists}
 use Rattle.scene.specs.Laws.Rising.{Rising}
 use Rattle.register.specs.declared.controls.Gathered.{Gathered}
@@ -25,8 +25,8 @@ pub record Going (s : List ℕ) (g all : Gathered) (runs : List ℕ) (at len q :
   pub so-far : gathered (variableEvents (sceneOf (payload s)) 0 (variablesAt (payload s) 0)) g ≡ gathered (variableEvents (sceneOf (payload s)) 0 (variablesAt (payload s) q)) all
   pub sized : length (all .at) ≡ 64
 
-pub going : (s : List ℕ) (g : Gathered) → length (g .at) ≡ 64 → Rising [] (variablesAt (payload s) 0) → Going s g g (replicate 32 0) 0 0 0
-going s g h r = record { along = along s r; so-far = refl; sized = h }
+pub going : (s : List ℕ) (g : Gathered) {q : ℕ} → length (g .at) ≡ 64 → Variables (payload s) q → Rising [] (variablesAt (payload s) 0) → Going s g g (replicate 32 0) 0 0 q
+going s g h e r = record { along = along s e r; so-far = rw (e .all) refl; sized = h }
 
 module _ {s : List ℕ} {g all : Gathered} {runs : List ℕ} {at len q : ℕ} (d : Going s g all runs at len q) where
   pub gone : (v : Variable) → variablesAt (payload s) q ≡ variablesBy (payload s) v → not (v .some) ≡ true → all ≡ gathered (variableEvents (sceneOf (payload s)) 0 (variablesAt (payload s) 0)) g

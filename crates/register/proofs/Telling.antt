@@ -15,7 +15,7 @@ use Rattle.scene.specs.declared.sections.Feature.{Feature}
 use Rattle.scene.specs.declared.sections.Variable.{Variable}
 use Rattle.scene.specs.Scene.{Maybe, Scene, NamedFeature, NamedValue, sceneOf}
 use Rattle.scene.specs.Labels.{variableOf}
-use Rattle.scene.specs.Answers.{featuresAt, featuresBy, variablesAt, variablesBy}
+use Rattle.scene.specs.Answers.{featuresAt, featuresBy, variablesAt, variablesBy, Variables}
 use Rattle.scene.specs.Laws.Answers.{scene-lists}
 use Rattle.scene.specs.Laws.Rising.{Rising}
 use Rattle.register.specs.Register.{suffixLat, stem, var, isLon, resolved, mentioned, featureEvent, featureEvents, lonEvent, variableEvents, events, warningsIn, controlsOf, viewWarnings, halfWarnings, ignoredWith, registerWarnings}
@@ -80,8 +80,8 @@ pub record Telling (s : List ℕ) (t₀ t : Sheet) (runs : List ℕ) (at len q i
   pub kept : length (t .out) ≡ length (t₀ .out)
   pub short : i ≤ q
 
-pub telling : (s : List ℕ) (t : Sheet) → Fits t → Rising [] (variablesAt (payload s) 0) → Telling s t t (replicate 32 0) 0 0 0 0
-telling s t h r = record { along = along s r; all = refl; fits = h; kept = refl; short = omega arith }
+pub telling : (s : List ℕ) (t : Sheet) {q : ℕ} → Fits t → Variables (payload s) q → Rising [] (variablesAt (payload s) 0) → Telling s t t (replicate 32 0) 0 0 q 0
+telling s t h e r = record { along = along s e r; all = rw (e .all) refl; fits = h; kept = refl; short = omega arith }
 
 module _ {s : List ℕ} {t₀ t : Sheet} {runs : List ℕ} {at len q i : ℕ} (d : Telling s t₀ t runs at len q i) where
   pub all-variables : (v : Variable) → variablesAt (payload s) q ≡ variablesBy (payload s) v → not (v .some) ≡ true → (t ≡ allPushed (warningsIn (variableEvents (sceneOf (payload s)) 0 (variablesAt (payload s) 0))) t₀) × Fits t

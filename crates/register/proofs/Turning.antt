@@ -11,7 +11,7 @@ use Rattle.records.specs.Order.{part}
 use Rattle.scene.specs.declared.sections.Variable.{Variable}
 use Rattle.scene.specs.Scene.{NamedValue, sceneOf}
 use Rattle.scene.specs.Labels.{variableOf}
-use Rattle.scene.specs.Answers.{Within, variablesAt, variablesBy}
+use Rattle.scene.specs.Answers.{Within, variablesAt, variablesBy, Variables}
 use Rattle.scene.specs.Laws.Rising.{Rising}
 use Rattle.register.specs.Register.{suffixLon, suffixLat, stem, var, isLon}
 use Rattle.register.specs.Runs.{commonOf, runsOf}
@@ -25,9 +25,9 @@ pub record Along (s runs : List ℕ) (at len q : ℕ) : Type 0 where
   pub within : at + len ≤ room s
   pub short : len ≤ 31
 
-pub along : (s : List ℕ) → Rising [] (variablesAt (payload s) 0) → Along s (replicate 32 0) 0 0 0
+pub along : (s : List ℕ) {q : ℕ} → Variables (payload s) q → Rising [] (variablesAt (payload s) 0) → Along s (replicate 32 0) 0 0 q
 unfolding part
-along s r = record { passed = none-passed (variablesAt (payload s)) r; within = omega arith; short = omega arith }
+along s {q} e r = record { passed = none-passed (variablesAt (payload s)) q (e .all) r; within = omega arith; short = omega arith }
 
 -- the next variable is v, the runs become `to`, and t is whether it is `<L>_lon`
 pub record Turn (s runs : List ℕ) (at len q : ℕ) (v : Variable) (to : List ℕ) (t : Bool) : Type 0 where

@@ -9,7 +9,7 @@ ghost use Rattle.records.specs.Layout.{laidOut};
 ghost use Rattle.records.specs.Order.{part};
 ghost use Rattle.scene.specs.Scene.{sceneOf};
 ghost use Rattle.scene.specs.Labels.{variableOf};
-ghost use Rattle.scene.specs.Answers.{Labels, featuresAt, variablesAt};
+ghost use Rattle.scene.specs.Answers.{Labels, Variables, featuresAt, variablesAt};
 ghost use Rattle.scene.specs.Laws.Rising.{Rising};
 ghost use Rattle.register.specs.Register.{suffixLon, suffixLat, placed, mentioned, featureEvents, variableEvents, isLon, events};
 ghost use Rattle.register.specs.Gathered.{noControls, putOf, named, paired, gathered};
@@ -194,15 +194,15 @@ fn add_lon(
 }
 
 // The pairs of variables, after the host features, of which there are so many.
-fn gather_variables(s: &[u8], labels: usize, g: Gathered, features: usize) -> Gathered
-    requires { ⌜ (length (g .at) ≡ 64) × (features ≡ length (featuresAt (payload (now s)) 0)) × Rising [] (variablesAt (payload (now s)) 0) × Labels (payload (now s)) labels ⌝ }
+fn gather_variables(s: &[u8], vars: usize, labels: usize, g: Gathered, features: usize) -> Gathered
+    requires { ⌜ (length (g .at) ≡ 64) × (features ≡ length (featuresAt (payload (now s)) 0)) × Rising [] (variablesAt (payload (now s)) 0) × Labels (payload (now s)) labels × Variables (payload (now s)) vars ⌝ }
     ensures { λ r. ⌜ r ≡ gathered (variableEvents (sceneOf (payload (now (s .entry)))) 0 (variablesAt (payload (now (s .entry))) 0)) g ⌝ }
 {
     let mut all = g;
     let mut runs = [0usize; 32];
     let mut at = 0usize;
     let mut len = 0usize;
-    let mut q = 0usize;
+    let mut q = vars;
     loop {
         let v = next_variable(s, q);
         if !v.some {
@@ -221,12 +221,12 @@ fn gather_variables(s: &[u8], labels: usize, g: Gathered, features: usize) -> Ga
 }
 
 // All control points, in their order.
-pub fn gather(s: &[u8]) -> Gathered
-    requires { ⌜ laidOut (payload (now s)) ≡ true ⌝ }
+pub fn gather(s: &[u8], vars: usize) -> Gathered
+    requires { ⌜ (laidOut (payload (now s)) ≡ true) × Variables (payload (now s)) vars ⌝ }
     ensures { λ r. ⌜ r ≡ gathered (events (sceneOf (payload (now (s .entry))))) noControls ⌝ }
 {
     let labels = first_label(s);
     let f = gather_features(s, labels);
     let g = f.controls;
-    gather_variables(s, labels, g, f.count)
+    gather_variables(s, vars, labels, g, f.count)
 }

@@ -6,6 +6,7 @@ ghost use lib.ListN.{take};
 ghost use Rattle.stream.specs.Payload.{payload};
 ghost use Rattle.records.specs.Layout.{laidOut};
 ghost use Rattle.scene.specs.Scene.{sceneOf};
+ghost use Rattle.scene.specs.Answers.{Variables};
 ghost use Rattle.register.specs.Outcome.{refusedBy, outcomeOf, checkedOf, declaredOutcome, fittedOutcome};
 use crate::controls::gather;
 use crate::controls::is_placed;
@@ -16,6 +17,7 @@ use crate::declared::is_px;
 use crate::declared::scale_of;
 use float::is_finite;
 use scene::Spot;
+use scene::first_variable;
 use similarity::Control;
 use similarity::Registration;
 use similarity::fit_points;
@@ -66,16 +68,17 @@ fn check_scale(r: Registration) -> Outcome
 }
 
 // 12 to 14: by what is declared, about an anchor, with an origin.
-fn declare(s: &[u8], anchor: Spot, origin: Spot, n: u32) -> Outcome
+fn declare(s: &[u8], vars: usize, anchor: Spot, origin: Spot, n: u32) -> Outcome
+    requires { ⌜ Variables (payload (now s)) vars ⌝ }
     ensures { λ o. ⌜ o ≡ declaredOutcome (sceneOf (payload (now (s .entry)))) (record { x = anchor .x; y = anchor .y }) (record { x = origin .x; y = origin .y }) n ⌝ }
 {
-    let declared = scale_of(s);
+    let declared = scale_of(s, vars);
     let value = if declared.some { declared.value } else { 100.0 };
     if !(0.0 < value) {
         return refuse(12);
     }
     let view = scene::view_scale(s);
-    let px = is_px(s);
+    let px = is_px(s, vars);
     if px {
         if !view.some {
             return refuse(13);
@@ -85,7 +88,7 @@ fn declare(s: &[u8], anchor: Spot, origin: Spot, n: u32) -> Outcome
         }
     }
     let per_inch = if px { value * view.value } else { value };
-    let bearing = bearing_of(s);
+    let bearing = bearing_of(s, vars);
     let turned = if bearing.some { bearing.value } else { 0.0 };
     let r = Registration {
         lon: anchor.x,
@@ -128,11 +131,12 @@ pub fn register(s: &[u8]) -> Outcome
     requires { ⌜ laidOut (payload (now s)) ≡ true ⌝ }
     ensures { λ o. ⌜ o ≡ outcomeOf (sceneOf (payload (now (s .entry)))) ⌝ }
 {
-    if !is_mercator(s) {
+    let vars = first_variable(s);
+    if !is_mercator(s, vars) {
         return refuse(7);
     }
-    let g = gather(s);
-    let a = anchor_of(s);
+    let g = gather(s, vars);
+    let a = anchor_of(s, vars);
     if !g.placed {
         return refuse(8);
     }
@@ -161,7 +165,7 @@ pub fn register(s: &[u8]) -> Outcome
             x: c.x,
             y: c.y,
         };
-        return declare(s, anchor, origin, 1);
+        return declare(s, vars, anchor, origin, 1);
     }
     if !a.some {
         return refuse(10);
@@ -171,5 +175,5 @@ pub fn register(s: &[u8]) -> Outcome
         x: 0.0,
         y: 0.0,
     };
-    declare(s, a, origin, 0)
+    declare(s, vars, a, origin, 0)
 }

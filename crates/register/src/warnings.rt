@@ -10,7 +10,7 @@ ghost use Rattle.records.specs.Layout.{laidOut};
 ghost use Rattle.records.specs.Order.{part};
 ghost use Rattle.scene.specs.Scene.{sceneOf};
 ghost use Rattle.scene.specs.Labels.{variableOf};
-ghost use Rattle.scene.specs.Answers.{Labels, featuresAt, variablesAt};
+ghost use Rattle.scene.specs.Answers.{Labels, Variables, featuresAt, variablesAt};
 ghost use Rattle.scene.specs.Laws.Rising.{Rising};
 ghost use Rattle.register.specs.Register.{suffixLon, suffixLat, resolved, mentioned, featureEvents, variableEvents, lonEvent, warningsIn, controlsOf, viewWarnings, halfWarnings, anyDeclared, ignoredWith, registerWarnings};
 ghost use Rattle.register.specs.Warned.{Sheet, pushed, allPushed, fateOf};
@@ -24,6 +24,7 @@ use crate::runs::common;
 use crate::runs::lat_of;
 use crate::runs::next_runs;
 use scene::first_label;
+use scene::first_variable;
 use scene::next_feature;
 use scene::next_variable;
 use scene::point_of_label;
@@ -133,8 +134,15 @@ fn warn_lon(
 }
 
 // Of the variables, behind so many host features.
-fn warn_variables(s: &[u8], labels: usize, out: &mut [u32], w: Warned, features: usize) -> Warned
-    requires { ⌜ (room (now s) < 4294967296) × (w .used ≤ length (now out)) × (features ≡ length (featuresAt (payload (now s)) 0)) × Rising [] (variablesAt (payload (now s)) 0) × Labels (payload (now s)) labels ⌝ }
+fn warn_variables(
+    s: &[u8],
+    vars: usize,
+    labels: usize,
+    out: &mut [u32],
+    w: Warned,
+    features: usize,
+) -> Warned
+    requires { ⌜ (room (now s) < 4294967296) × (w .used ≤ length (now out)) × (features ≡ length (featuresAt (payload (now s)) 0)) × Rising [] (variablesAt (payload (now s)) 0) × Labels (payload (now s)) labels × Variables (payload (now s)) vars ⌝ }
     ensures { λ r. ⌜ record { out = now (out .exit); said = r } ≡ allPushed (warningsIn (variableEvents (sceneOf (payload (now (s .entry)))) 0 (variablesAt (payload (now (s .entry))) 0))) (record { out = now (out .entry); said = w }) ⌝ }
     ensures { λ r. ⌜ r .used ≤ length (now (out .exit)) ⌝ }
 {
@@ -142,7 +150,7 @@ fn warn_variables(s: &[u8], labels: usize, out: &mut [u32], w: Warned, features:
     let mut runs = [0usize; 32];
     let mut at = 0usize;
     let mut len = 0usize;
-    let mut q = 0usize;
+    let mut q = vars;
     let mut i = 0usize;
     loop {
         let v = next_variable(s, q);
@@ -173,8 +181,8 @@ fn warn_variables(s: &[u8], labels: usize, out: &mut [u32], w: Warned, features:
 }
 
 // 1: a view_scale without geo_px.
-fn warn_view(s: &[u8], out: &mut [u32], w: Warned) -> Warned
-    requires { ⌜ w .used ≤ length (now out) ⌝ }
+fn warn_view(s: &[u8], vars: usize, out: &mut [u32], w: Warned) -> Warned
+    requires { ⌜ (w .used ≤ length (now out)) × Variables (payload (now s)) vars ⌝ }
     ensures { λ r. ⌜ record { out = now (out .exit); said = r } ≡ allPushed (viewWarnings (sceneOf (payload (now (s .entry))))) (record { out = now (out .entry); said = w }) ⌝ }
     ensures { λ r. ⌜ r .used ≤ length (now (out .exit)) ⌝ }
 {
@@ -182,15 +190,15 @@ fn warn_view(s: &[u8], out: &mut [u32], w: Warned) -> Warned
     if !view.some {
         return w;
     }
-    if is_px(s) {
+    if is_px(s, vars) {
         return w;
     }
     push(out, w, 1, 0)
 }
 
 // 2: half an anchor.
-fn warn_half(s: &[u8], out: &mut [u32], w: Warned) -> Warned
-    requires { ⌜ w .used ≤ length (now out) ⌝ }
+fn warn_half(s: &[u8], vars: usize, out: &mut [u32], w: Warned) -> Warned
+    requires { ⌜ (w .used ≤ length (now out)) × Variables (payload (now s)) vars ⌝ }
     ensures { λ r. ⌜ record { out = now (out .exit); said = r } ≡ allPushed (halfWarnings (sceneOf (payload (now (s .entry))))) (record { out = now (out .entry); said = w }) ⌝ }
     ensures { λ r. ⌜ r .used ≤ length (now (out .exit)) ⌝ }
 {
@@ -198,8 +206,8 @@ fn warn_half(s: &[u8], out: &mut [u32], w: Warned) -> Warned
     if a.some {
         return w;
     }
-    let lon = value_of(s, 0, b"geo_lon");
-    let lat = value_of(s, 0, b"geo_lat");
+    let lon = value_of(s, vars, b"geo_lon");
+    let lat = value_of(s, vars, b"geo_lat");
     if lon.some == lat.some {
         return w;
     }
@@ -207,23 +215,24 @@ fn warn_half(s: &[u8], out: &mut [u32], w: Warned) -> Warned
 }
 
 // Whether a scale, a bearing or geo_px is declared.
-fn declares(s: &[u8]) -> bool
+fn declares(s: &[u8], vars: usize) -> bool
+    requires { ⌜ Variables (payload (now s)) vars ⌝ }
     ensures { λ r. ⌜ r ≡ anyDeclared (sceneOf (payload (now (s .entry)))) ⌝ }
 {
-    let scale = scale_of(s);
+    let scale = scale_of(s, vars);
     if scale.some {
         return true;
     }
-    let bearing = bearing_of(s);
+    let bearing = bearing_of(s, vars);
     if bearing.some {
         return true;
     }
-    is_px(s)
+    is_px(s, vars)
 }
 
 // 4: what is ignored with n control points.
-fn warn_ignored(s: &[u8], out: &mut [u32], w: Warned, n: u32) -> Warned
-    requires { ⌜ w .used ≤ length (now out) ⌝ }
+fn warn_ignored(s: &[u8], vars: usize, out: &mut [u32], w: Warned, n: u32) -> Warned
+    requires { ⌜ (w .used ≤ length (now out)) × Variables (payload (now s)) vars ⌝ }
     ensures { λ r. ⌜ record { out = now (out .exit); said = r } ≡ allPushed (ignoredWith n (sceneOf (payload (now (s .entry))))) (record { out = now (out .entry); said = w }) ⌝ }
     ensures { λ r. ⌜ r .used ≤ length (now (out .exit)) ⌝ }
 {
@@ -232,11 +241,11 @@ fn warn_ignored(s: &[u8], out: &mut [u32], w: Warned, n: u32) -> Warned
     }
     let mut warned = w;
     if n >= 2 {
-        if declares(s) {
+        if declares(s, vars) {
             warned = push(out, warned, 4, 0);
         }
     }
-    let anchor = anchor_of(s);
+    let anchor = anchor_of(s, vars);
     if anchor.some {
         warned = push(out, warned, 4, 0);
     }
@@ -249,11 +258,12 @@ pub fn write_warnings(s: &[u8], out: &mut [u32], n: u32) -> Warned
     ensures { λ r. ⌜ record { out = now (out .exit); said = r } ≡ allPushed (registerWarnings (sceneOf (payload (now (s .entry))))) (record { out = now (out .entry); said = record { ok = true; used = 0 } }) ⌝ }
 {
     let none = Warned { ok: true, used: 0 };
-    let view = warn_view(s, out, none);
+    let vars = first_variable(s);
+    let view = warn_view(s, vars, out, none);
     let labels = first_label(s);
     let f = warn_features(s, labels, out, view);
     let featured = f.warned;
-    let all = warn_variables(s, labels, out, featured, f.count);
-    let half = warn_half(s, out, all);
-    warn_ignored(s, out, half, n)
+    let all = warn_variables(s, vars, labels, out, featured, f.count);
+    let half = warn_half(s, vars, out, all);
+    warn_ignored(s, vars, out, half, n)
 }

@@ -136,6 +136,10 @@ pub record Labels (l : List ℕ) (p : ℕ) : Type 0 where
   pub places : placesAt l 0 ≡ placesAt l p
   pub items : itemsAt l 0 ≡ itemsAt l p
 
+-- all variables do
+pub record Variables (l : List ℕ) (p : ℕ) : Type 0 where
+  pub all : variablesAt l 0 ≡ variablesAt l p
+
 -- ---- keys
 abbrev pub keyBy : code-key.Key → Key
 keyBy k = record { top = k .top; line = k .line; col = k .col; order = k .order }

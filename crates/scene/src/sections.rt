@@ -6,7 +6,7 @@ ghost use Rattle.stream.specs.Payload.{payload, room};
 ghost use lib.ListN.{drop};
 ghost use Rattle.scene.specs.Scene.{itemAt};
 ghost use Rattle.scene.specs.Labels.{variableOf};
-ghost use Rattle.scene.specs.Answers.{valueBy, Within, PathWithin, featuresAt, featuresBy, variablesAt, variablesBy, placesAt, placesBy, ItemStands, itemsAt, itemBy, itemsBy, pointsFrom, pointsBy, pathsFrom, pathsBy};
+ghost use Rattle.scene.specs.Answers.{valueBy, Within, PathWithin, featuresAt, featuresBy, variablesAt, variablesBy, Variables, placesAt, placesBy, ItemStands, itemsAt, itemBy, itemsBy, pointsFrom, pointsBy, pathsFrom, pathsBy};
 use crate::names::is_named;
 use crate::numbers::Spot;
 use crate::numbers::Value;
@@ -323,6 +323,13 @@ pub fn next_path(s: &[u8], p: usize, role: u8) -> Path
         count: short(s, 0, at + 4),
         next: h.next,
     }
+}
+
+// Where to ask for variables from: behind the options and host features, which are passed over once and not for each name.
+pub fn first_variable(s: &[u8]) -> usize
+    ensures { λ r. ⌜ Variables (payload (now (s .entry))) r ⌝ }
+{
+    records::skip_to(s, 0, 4)
 }
 
 // The value of the variable of a name, among those from p on.

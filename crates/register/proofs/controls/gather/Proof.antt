@@ -11,7 +11,7 @@ gather-features-requires : tie.Need-gather-features-requires
 gather-features-requires c κs = c .first-label .ensures
 
 gather-variables-requires : tie.Need-gather-variables-requires
-gather-variables-requires c κs = (features-sized _ (c .before .gather-features .ensures .0), c .before .gather-features .ensures .1, variables-rising _ (c .before .before .before .before .pre), c .before .before .first-label .ensures)
+gather-variables-requires c κs = (features-sized _ (c .before .gather-features .ensures .0), c .before .gather-features .ensures .1, variables-rising _ (c .before .before .before .before .pre .0), c .before .before .first-label .ensures, c .before .before .before .before .pre .1)
 
 returns : tie.Need-returns
 returns c = all-gathered _ (c .before .before .gather-features .ensures .0) (c .gather-variables .ensures)

@@ -12,10 +12,10 @@ use Rattle.register.proofs.controls.gather_variables.Statement.{stateme
 use Rattle.register.proofs.controls.gather_variables.Tie as tie
 
 abbrev Inv-loop : tie.InvT-loop
-Inv-loop s labels features all₀ runs₀ at₀ len₀ q₀ all runs at len q = Going s all₀ all runs at len q
+Inv-loop s vars labels features all₀ runs₀ at₀ len₀ q₀ all runs at len q = Going s all₀ all runs at len q
 
 abbrev μ-loop : tie.MeasureT-loop
-μ-loop s labels features all₀ runs₀ at₀ len₀ q₀ all runs at len q = room s - q
+μ-loop s vars labels features all₀ runs₀ at₀ len₀ q₀ all runs at len q = room s - q
 
 within : (v : tie.After-next-variable Inv-loop μ-loop) → not (v .next-variable .result .some) ≡ false → Within (room (v .before .before .before .args .s .now)) (v .before .loop .q) (v .next-variable .result .at) (v .next-variable .result .len) (v .next-variable .result .next)
 within v h = v .next-variable .ensures .1 .0 (not-false _ h)
@@ -43,7 +43,7 @@ turn a =
     }
 
 loop-holds : tie.Need-loop-holds Inv-loop μ-loop
-loop-holds c = going _ _ (c .before .pre .0) (c .before .pre .2)
+loop-holds c = going _ _ (c .before .pre .0) (c .before .pre .4) (c .before .pre .2)
 
 next-variable-requires : tie.Need-next-variable-requires Inv-loop μ-loop
 next-variable-requires c κs = search needs

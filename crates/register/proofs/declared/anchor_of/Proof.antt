@@ -32,7 +32,7 @@ returns-2 c =
     let a = x .before .before .before in
     let l = payload (a .before .before .args .s .now) in
     rw
-    (← a .anchor .ensures, x .before .before .if1 .left, ← var-by l geoLon (x .value-of .result) (x .value-of .ensures), ← var-by l geoLat (y .value-of2 .result) (y .value-of2 .ensures), c .if2 .taken)
+    (← a .anchor .ensures, x .before .before .if1 .left, ← var-by l geoLon (x .value-of .result) (a .before .before .pre) (x .value-of .ensures), ← var-by l geoLat (y .value-of2 .result) (a .before .before .pre) (y .value-of2 .ensures), c .if2 .taken)
     (both (y .value-of2 .result .some) _ _)
 
 returns-3 : tie.Need-returns-3
@@ -42,7 +42,7 @@ returns-3 c =
     let x = y .before .before in
     let a = x .before .before .before in
     let l = payload (a .before .before .args .s .now) in
-    rw (← a .anchor .ensures, x .before .before .if1 .left, ← var-by l geoLon (x .value-of .result) (x .value-of .ensures), c .if2 .left)
+    rw (← a .anchor .ensures, x .before .before .if1 .left, ← var-by l geoLon (x .value-of .result) (a .before .before .pre) (x .value-of .ensures), c .if2 .left)
 
 pub anchor-of-spec : {M : Type 1} → statement M
 anchor-of-spec =

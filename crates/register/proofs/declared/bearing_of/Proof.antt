@@ -20,7 +20,7 @@ or-value-requires c κs = search needs
 returns : tie.Need-returns
 returns c =
     let v = c .before in
-    rw (← v .before .before .bearing .ensures, ← var-by (payload (v .before .before .before .before .args .s .now)) geoBearing (v .value-of .result) (v .value-of .ensures)) (c .or-value .ensures)
+    rw (← v .before .before .bearing .ensures, ← var-by (payload (v .before .before .before .before .args .s .now)) geoBearing (v .value-of .result) (v .before .before .before .before .pre) (v .value-of .ensures)) (c .or-value .ensures)
 
 pub bearing-of-spec : {M : Type 1} → statement M
 bearing-of-spec =

@@ -24,14 +24,14 @@ unfolding isMercator
 returns-2 c =
     let v = c .before .before in
     let f = v .before .before .before in
-    rw (← f .frame .ensures, v .before .before .if1 .left, ← var-by (payload (f .before .before .args .s .now)) geoFrame (v .value-of .result) (v .value-of .ensures), not-true (v .value-of .result .some) (c .if2 .taken))
+    rw (← f .frame .ensures, v .before .before .if1 .left, ← var-by (payload (f .before .before .args .s .now)) geoFrame (v .value-of .result) (f .before .before .pre) (v .value-of .ensures), not-true (v .value-of .result .some) (c .if2 .taken))
 
 returns-3 : tie.Need-returns-3
 unfolding isMercator
 returns-3 c =
     let v = c .before .before .before in
     let f = v .before .before .before in
-    rw (← f .frame .ensures, v .before .before .if1 .left, ← var-by (payload (f .before .before .args .s .now)) geoFrame (v .value-of .result) (v .value-of .ensures), not-false (v .value-of .result .some) (c .before .if2 .left))
+    rw (← f .frame .ensures, v .before .before .if1 .left, ← var-by (payload (f .before .before .args .s .now)) geoFrame (v .value-of .result) (f .before .before .pre) (v .value-of .ensures), not-false (v .value-of .result .some) (c .before .if2 .left))
 
 pub is-mercator-spec : {M : Type 1} → statement M
 is-mercator-spec =

@@ -16,13 +16,13 @@ returns : tie.Need-returns
 unfolding pxMode notZero
 returns c =
     let v = c .before .before in
-    rw (← var-by (payload (v .before .before .before .args .s .now)) geoPx (v .value-of .result) (v .value-of .ensures), not-true (v .value-of .result .some) (c .if1 .taken))
+    rw (← var-by (payload (v .before .before .before .args .s .now)) geoPx (v .value-of .result) (v .before .before .before .pre) (v .value-of .ensures), not-true (v .value-of .result .some) (c .if1 .taken))
 
 returns-2 : tie.Need-returns-2
 unfolding pxMode notZero
 returns-2 c =
     let v = c .before .before .before in
-    rw (← var-by (payload (v .before .before .before .args .s .now)) geoPx (v .value-of .result) (v .value-of .ensures), not-false (v .value-of .result .some) (c .before .if1 .left))
+    rw (← var-by (payload (v .before .before .before .args .s .now)) geoPx (v .value-of .result) (v .before .before .before .pre) (v .value-of .ensures), not-false (v .value-of .result .some) (c .before .if1 .left))
 
 pub is-px-spec : {M : Type 1} → statement M
 is-px-spec = tie.close (tie.spec slice-aggregate-value-of value-of-requires returns returns-2)

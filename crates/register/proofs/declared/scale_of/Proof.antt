@@ -20,7 +20,7 @@ or-value-requires c κs = search needs
 returns : tie.Need-returns
 returns c =
     let v = c .before in
-    rw (← v .before .before .scale .ensures, ← var-by (payload (v .before .before .before .before .args .s .now)) geoScale (v .value-of .result) (v .value-of .ensures)) (c .or-value .ensures)
+    rw (← v .before .before .scale .ensures, ← var-by (payload (v .before .before .before .before .args .s .now)) geoScale (v .value-of .result) (v .before .before .before .before .pre) (v .value-of .ensures)) (c .or-value .ensures)
 
 pub scale-of-spec : {M : Type 1} → statement M
 scale-of-spec =

@@ -16,7 +16,7 @@ use Rattle.register.proofs.outcome.register.Tie as tie
 -- what is gathered, the frame being Mercator
 module _ (c : tie.After-anchor-of) where
   abbrev sc : Scene
-  sc = sceneOf (payload (c .before .before .before .before .before .args .s .now))
+  sc = sceneOf (payload (c .before .before .before .before .before .before .args .s .now))
 
   abbrev g : Gathered
   g = c .before .gather .result
@@ -43,6 +43,9 @@ module _ (c : tie.Joined3) where
         anchor = anchor-in (a .anchor-of .result) _ (a .anchor-of .ensures) (⊎-elim (λ w. inl (w .0 .taken, sym (w .1 .ensures) ∙ not-false _ (w .2 .left))) (λ w. inr (w .left)) (c .if3 .came));
       }
 
+first-variable-requires : tie.Need-first-variable-requires
+first-variable-requires c κs = search needs
+
 is-mercator-requires : tie.Need-is-mercator-requires
 is-mercator-requires c κs = search needs
 
@@ -52,7 +55,7 @@ refuse-requires c κs = search needs
 returns : tie.Need-returns
 returns c =
     let m = c .before .before in
-    c .refuse .ensures ∙ not-mercator (sceneOf (payload (m .before .before .args .s .now))) (sym (m .is-mercator .ensures) ∙ not-true _ (c .before .if1 .taken))
+    c .refuse .ensures ∙ not-mercator (sceneOf (payload (m .before .before .before .args .s .now))) (sym (m .is-mercator .ensures) ∙ not-true _ (c .before .if1 .taken))
 
 gather-requires : tie.Need-gather-requires
 gather-requires c κs = search needs
@@ -132,6 +135,7 @@ pub register-spec : {M : Type 1} → statement M
 register-spec =
     tie.close
     (tie.spec
+    first-variable-requires
     is-mercator-requires
     refuse-requires
     returns

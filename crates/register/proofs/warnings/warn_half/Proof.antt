@@ -17,7 +17,7 @@ returns : tie.Need-returns
 unfolding halfWarnings halfAnchor
 returns c =
     let a = c .before in
-    none-written _ _ _ (rw (← a .anchor .ensures, c .if1 .taken) refl) refl (a .before .before .before .pre)
+    none-written _ _ _ (rw (← a .anchor .ensures, c .if1 .taken) refl) refl (a .before .before .before .pre .0)
 
 slice-aggregate-value-of : tie.Need-slice-aggregate-value-of
 slice-aggregate-value-of c = search needs
@@ -39,10 +39,10 @@ half y =
     let x = y .before .before in
     let a = x .before .before .before in
     let l = payload (a .before .before .before .args .s .now) in
-    half-warned _ (x .value-of .result) (y .value-of2 .result) (var-by l geoLon (x .value-of .result) (x .value-of .ensures)) (var-by l geoLat (y .value-of2 .result) (y .value-of2 .ensures)) (not-given (a .anchor .result .some) _ (sym (a .anchor .ensures)) (x .before .before .if1 .left))
+    half-warned _ (x .value-of .result) (y .value-of2 .result) (var-by l geoLon (x .value-of .result) (a .before .before .before .pre .1) (x .value-of .ensures)) (var-by l geoLat (y .value-of2 .result) (a .before .before .before .pre .1) (y .value-of2 .ensures)) (not-given (a .anchor .result .some) _ (sym (a .anchor .ensures)) (x .before .before .if1 .left))
 
 returns-2 : tie.Need-returns-2
-returns-2 c = none-written _ _ _ (rw (half (c .before .before .before), c .if2 .taken) refl) refl (c .before .before .before .before .before .before .before .before .before .before .before .pre)
+returns-2 c = none-written _ _ _ (rw (half (c .before .before .before), c .if2 .taken) refl) refl (c .before .before .before .before .before .before .before .before .before .before .before .pre .0)
 
 push-requires : tie.Need-push-requires
 push-requires c κs = search needs
@@ -53,7 +53,7 @@ same-length c = search needs
 returns-3 : tie.Need-returns-3
 returns-3 c =
     let i = c .before .before .before .before in
-    one-written _ _ _ _ (rw (half (i .before .before .before), i .if2 .left) refl) (c .before .before .push .ensures) (i .before .before .before .before .before .before .before .before .before .before .before .pre)
+    one-written _ _ _ _ (rw (half (i .before .before .before), i .if2 .left) refl) (c .before .before .push .ensures) (i .before .before .before .before .before .before .before .before .before .before .before .pre .0)
 
 pub warn-half-spec : {M : Type 1} → statement M
 warn-half-spec =

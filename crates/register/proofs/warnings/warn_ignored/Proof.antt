@@ -13,7 +13,7 @@ use Rattle.register.proofs.warnings.warn_ignored.Tie as tie
 
 returns : tie.Need-returns
 unfolding ignoredWith
-returns c = none-written _ _ _ (rw (c .if1 .taken) refl) refl (c .before .before .before .pre)
+returns c = none-written _ _ _ (rw (c .if1 .taken) refl) refl (c .before .before .before .pre .0)
 
 declares-requires : tie.Need-declares-requires
 declares-requires c κs = search needs
@@ -30,7 +30,7 @@ first : (j : tie.Joined2)
     Written (ignored (leb 2 (o .n) && anyDeclared (sceneOf (payload (o .s .now))))) (sheet (o .out .now) (o .w)) (sheet (j .if2 .out) (j .if2 .warned))
 first j =
     let n = j .before .before .before .before .args .n in
-    let h = j .before .before .before .before .pre in
+    let h = j .before .before .before .before .pre .0 in
     ⊎-elim
     (λ w. one-written _ _ _ _ (rw (le-leb 2 n (w .0 .taken), ← w .1 .ensures, w .2 .taken) refl) (sheets (w .7) (w .8) ∙ w .4 .ensures) h)
     (⊎-elim

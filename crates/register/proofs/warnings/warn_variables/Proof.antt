@@ -14,10 +14,10 @@ use Rattle.register.proofs.warnings.warn_variables.Statement.{statement
 use Rattle.register.proofs.warnings.warn_variables.Tie as tie
 
 abbrev Inv-loop : tie.InvT-loop
-Inv-loop s labels out₀ features warned₀ runs₀ at₀ len₀ q₀ i₀ out warned runs at len q i = Telling s (sheet out₀ warned₀) (sheet out warned) runs at len q i
+Inv-loop s vars labels out₀ features warned₀ runs₀ at₀ len₀ q₀ i₀ out warned runs at len q i = Telling s (sheet out₀ warned₀) (sheet out warned) runs at len q i
 
 abbrev μ-loop : tie.MeasureT-loop
-μ-loop s labels out₀ features warned₀ runs₀ at₀ len₀ q₀ i₀ out warned runs at len q i = room s - q
+μ-loop s vars labels out₀ features warned₀ runs₀ at₀ len₀ q₀ i₀ out warned runs at len q i = room s - q
 
 within : (v : tie.After-next-variable Inv-loop μ-loop) → not (v .next-variable .result .some) ≡ false → Within (room (v .before .before .before .before .args .s .now)) (v .before .loop .q) (v .next-variable .result .at) (v .next-variable .result .len) (v .next-variable .result .next)
 within v h = v .next-variable .ensures .1 .0 (not-false _ h)
@@ -44,7 +44,7 @@ turn a =
     }
 
 loop-holds : tie.Need-loop-holds Inv-loop μ-loop
-loop-holds c = telling _ _ (c .before .before .pre .1) (c .before .before .pre .3)
+loop-holds c = telling _ _ (c .before .before .pre .1) (c .before .before .pre .5) (c .before .before .pre .3)
 
 next-variable-requires : tie.Need-next-variable-requires Inv-loop μ-loop
 next-variable-requires c κs = search needs

@@ -13,7 +13,7 @@ returns : tie.Need-returns
 unfolding viewWarnings
 returns c =
     let v = c .before .before in
-    none-written _ _ _ (rw (← v .view-scale .ensures, not-true (v .view-scale .result .some) (c .if1 .taken)) refl) refl (v .before .before .before .pre)
+    none-written _ _ _ (rw (← v .view-scale .ensures, not-true (v .view-scale .result .some) (c .if1 .taken)) refl) refl (v .before .before .before .pre .0)
 
 is-px-requires : tie.Need-is-px-requires
 is-px-requires c κs = search needs
@@ -22,7 +22,7 @@ returns-2 : tie.Need-returns-2
 unfolding viewWarnings pxMode
 returns-2 c =
     let v = c .before .before .before .before in
-    none-written _ _ _ (rw (← v .view-scale .ensures, not-false (v .view-scale .result .some) (c .before .before .if1 .left), ← c .before .is-px .ensures, c .if2 .taken) refl) refl (v .before .before .before .pre)
+    none-written _ _ _ (rw (← v .view-scale .ensures, not-false (v .view-scale .result .some) (c .before .before .if1 .left), ← c .before .is-px .ensures, c .if2 .taken) refl) refl (v .before .before .before .pre .0)
 
 push-requires : tie.Need-push-requires
 push-requires c κs = search needs
@@ -35,7 +35,7 @@ unfolding viewWarnings pxMode
 returns-3 c =
     let p = c .before .before .before .before in
     let v = p .before .before .before .before in
-    one-written _ _ _ _ (rw (← v .view-scale .ensures, not-false (v .view-scale .result .some) (p .before .before .if1 .left), ← p .before .is-px .ensures, p .if2 .left) refl) (c .before .before .push .ensures) (v .before .before .before .pre)
+    one-written _ _ _ _ (rw (← v .view-scale .ensures, not-false (v .view-scale .result .some) (p .before .before .if1 .left), ← p .before .is-px .ensures, p .if2 .left) refl) (c .before .before .push .ensures) (v .before .before .before .pre .0)
 
 pub warn-view-spec : {M : Type 1} → statement M
 warn-view-spec =
