@@ -1,5 +1,6 @@
 -- The laws of these definitions that callers use.
 pub mod Names
+pub mod Index
 pub mod Points
 pub mod Shift
 pub mod Widths

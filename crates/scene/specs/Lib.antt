@@ -2,5 +2,6 @@
 pub mod Scene
 pub mod Labels
 pub mod Answers
+pub mod Index
 pub mod Samples
 pub mod Laws

@@ -1,5 +1,6 @@
 // The scene that a stream holds. A position is one of the payload; a question that starts at a position asks of the records from there on.
 mod choices;
+mod index;
 mod labels;
 mod names;
 mod numbers;
@@ -13,6 +14,8 @@ pub use choices::frame;
 pub use choices::rescale;
 pub use choices::scale;
 pub use choices::view_scale;
+pub use index::find_label;
+pub use index::index_labels;
 pub use labels::first_label;
 pub use labels::point_of_label;
 pub use labels::reference_point;
