@@ -10,6 +10,7 @@ ghost use Rattle.records.specs.Order.{part};
 ghost use Rattle.scene.specs.Scene.{sceneOf};
 ghost use Rattle.scene.specs.Labels.{variableOf};
 ghost use Rattle.scene.specs.Answers.{Labels, Variables, featuresAt, variablesAt};
+ghost use Rattle.scene.specs.Index.{Indexed};
 ghost use Rattle.scene.specs.Laws.Rising.{Rising};
 ghost use Rattle.register.specs.Register.{suffixLon, suffixLat, placed, mentioned, featureEvents, variableEvents, isLon, events};
 ghost use Rattle.register.specs.Gathered.{noControls, putOf, named, paired, gathered};
@@ -17,11 +18,12 @@ use crate::runs::common;
 use crate::runs::lat_of;
 use crate::runs::next_runs;
 use float::abs;
+use scene::find_label;
 use scene::first_label;
+use scene::index_labels;
 use scene::is_named;
 use scene::next_feature;
 use scene::next_variable;
-use scene::point_of_label;
 use scene::same_name;
 use similarity::Control;
 
@@ -100,10 +102,11 @@ pub fn is_mentioned(s: &[u8], i: usize, at: usize, n: usize) -> bool
     false
 }
 
-// The control point of a name, its label looked for from a position on, unless it resolves to nothing or one of the first i host features has it.
+// The control point of a name, its label looked for from a position on, of which ix is an index, unless it resolves to nothing or one of the first i host features has it.
 fn add_named(
     s: &[u8],
     labels: usize,
+    ix: &[u32],
     g: Gathered,
     i: usize,
     at: usize,
@@ -111,10 +114,10 @@ fn add_named(
     lon: f64,
     lat: f64,
 ) -> Gathered
-    requires { ⌜ (length (g .at) ≡ 64) × (at + n ≤ room (now s)) × Labels (payload (now s)) labels ⌝ }
+    requires { ⌜ (length (g .at) ≡ 64) × (at + n ≤ room (now s)) × Labels (payload (now s)) labels × Indexed (payload (now s)) labels (now ix) ⌝ }
     ensures { λ r. ⌜ r ≡ named (sceneOf (payload (now (s .entry)))) (part (payload (now (s .entry))) at n) i lon lat g ⌝ }
 {
-    let p = point_of_label(s, labels, at, n);
+    let p = find_label(s, labels, ix, at, n);
     if !p.some {
         return g;
     }
@@ -136,8 +139,8 @@ pub struct Featured {
     pub count: usize,
 }
 
-fn gather_features(s: &[u8], labels: usize) -> Featured
-    requires { ⌜ Labels (payload (now s)) labels ⌝ }
+fn gather_features(s: &[u8], labels: usize, ix: &[u32]) -> Featured
+    requires { ⌜ Labels (payload (now s)) labels × Indexed (payload (now s)) labels (now ix) ⌝ }
     ensures { λ r. ⌜ r .controls ≡ gathered (featureEvents (sceneOf (payload (now (s .entry)))) 0 (featuresAt (payload (now (s .entry))) 0)) noControls ⌝ }
     ensures { λ r. ⌜ r .count ≡ length (featuresAt (payload (now (s .entry))) 0) ⌝ }
 {
@@ -152,7 +155,7 @@ fn gather_features(s: &[u8], labels: usize) -> Featured
                 count: i,
             };
         }
-        g = add_named(s, labels, g, i, f.at, f.len, f.lon, f.lat);
+        g = add_named(s, labels, ix, g, i, f.at, f.len, f.lon, f.lat);
         q = f.next;
         i += 1;
     }
@@ -176,6 +179,7 @@ pub fn is_lon(s: &[u8], at: usize, n: usize) -> bool
 fn add_lon(
     s: &[u8],
     labels: usize,
+    ix: &[u32],
     g: Gathered,
     i: usize,
     p: usize,
@@ -183,19 +187,26 @@ fn add_lon(
     n: usize,
     lon: f64,
 ) -> Gathered
-    requires { ⌜ (length (g .at) ≡ 64) × (at + n + 4 ≤ room (now s)) × (part (payload (now s)) (at + n) 4 ≡ suffixLon) × Rising [] (variablesAt (payload (now s)) p) × Labels (payload (now s)) labels ⌝ }
+    requires { ⌜ (length (g .at) ≡ 64) × (at + n + 4 ≤ room (now s)) × (part (payload (now s)) (at + n) 4 ≡ suffixLon) × Rising [] (variablesAt (payload (now s)) p) × Labels (payload (now s)) labels × Indexed (payload (now s)) labels (now ix) ⌝ }
     ensures { λ r. ⌜ r ≡ paired (sceneOf (payload (now (s .entry)))) (part (payload (now (s .entry))) at n) i lon (variableOf (part (payload (now (s .entry))) at n ++ suffixLat) (variablesAt (payload (now (s .entry))) p)) g ⌝ }
 {
     let lat = lat_of(s, p, at, n);
     if !lat.some {
         return g;
     }
-    add_named(s, labels, g, i, at, n, lon, lat.value)
+    add_named(s, labels, ix, g, i, at, n, lon, lat.value)
 }
 
 // The pairs of variables, after the host features, of which there are so many.
-fn gather_variables(s: &[u8], vars: usize, labels: usize, g: Gathered, features: usize) -> Gathered
-    requires { ⌜ (length (g .at) ≡ 64) × (features ≡ length (featuresAt (payload (now s)) 0)) × Rising [] (variablesAt (payload (now s)) 0) × Labels (payload (now s)) labels × Variables (payload (now s)) vars ⌝ }
+fn gather_variables(
+    s: &[u8],
+    vars: usize,
+    labels: usize,
+    ix: &[u32],
+    g: Gathered,
+    features: usize,
+) -> Gathered
+    requires { ⌜ (length (g .at) ≡ 64) × (features ≡ length (featuresAt (payload (now s)) 0)) × Rising [] (variablesAt (payload (now s)) 0) × Labels (payload (now s)) labels × Variables (payload (now s)) vars × Indexed (payload (now s)) labels (now ix) ⌝ }
     ensures { λ r. ⌜ r ≡ gathered (variableEvents (sceneOf (payload (now (s .entry)))) 0 (variablesAt (payload (now (s .entry))) 0)) g ⌝ }
 {
     let mut all = g;
@@ -214,9 +225,38 @@ fn gather_variables(s: &[u8], vars: usize, labels: usize, g: Gathered, features:
         len = v.len;
         if is_lon(s, at, len) {
             let from = runs[len - 2];
-            all = add_lon(s, labels, all, features, from, at, len - 4, v.value);
+            all = add_lon(s, labels, ix, all, features, from, at, len - 4, v.value);
         }
         q = v.next;
+    }
+}
+
+// Whether a label is looked up at all: there is a host feature, or a variable `<L>_lon` from `vars` on.
+fn names_points(s: &[u8], vars: usize) -> bool {
+    let f = next_feature(s, 0);
+    if f.some {
+        return true;
+    }
+    let mut q = vars;
+    loop {
+        let v = next_variable(s, q);
+        if !v.some {
+            return false;
+        }
+        if is_lon(s, v.at, v.len) {
+            return true;
+        }
+        q = v.next;
+    }
+}
+
+// An index of the labels. Where none is looked up it stays as it is: it would cost a walk over all records.
+pub fn index_names(s: &[u8], vars: usize, labels: usize, ix: &mut [u32])
+    requires { ⌜ Indexed (payload (now s)) labels (now ix) ⌝ }
+    ensures { λ r. ⌜ Indexed (payload (now (s .entry))) labels (now (ix .exit)) ⌝ }
+{
+    if names_points(s, vars) {
+        index_labels(s, labels, ix);
     }
 }
 
@@ -226,7 +266,9 @@ pub fn gather(s: &[u8], vars: usize) -> Gathered
     ensures { λ r. ⌜ r ≡ gathered (events (sceneOf (payload (now (s .entry))))) noControls ⌝ }
 {
     let labels = first_label(s);
-    let f = gather_features(s, labels);
+    let mut ix = [1u32; 4096];
+    index_names(s, vars, labels, &mut ix);
+    let f = gather_features(s, labels, &ix);
     let g = f.controls;
-    gather_variables(s, vars, labels, g, f.count)
+    gather_variables(s, vars, labels, &ix, g, f.count)
 }

@@ -11,9 +11,11 @@ ghost use Rattle.records.specs.Order.{part};
 ghost use Rattle.scene.specs.Scene.{sceneOf};
 ghost use Rattle.scene.specs.Labels.{variableOf};
 ghost use Rattle.scene.specs.Answers.{Labels, Variables, featuresAt, variablesAt};
+ghost use Rattle.scene.specs.Index.{Indexed};
 ghost use Rattle.scene.specs.Laws.Rising.{Rising};
 ghost use Rattle.register.specs.Register.{suffixLon, suffixLat, resolved, mentioned, featureEvents, variableEvents, lonEvent, warningsIn, controlsOf, viewWarnings, halfWarnings, anyDeclared, ignoredWith, registerWarnings};
 ghost use Rattle.register.specs.Warned.{Sheet, pushed, allPushed, fateOf};
+use crate::controls::index_names;
 use crate::controls::is_lon;
 use crate::controls::is_mentioned;
 use crate::declared::anchor_of;
@@ -23,11 +25,11 @@ use crate::declared::scale_of;
 use crate::runs::common;
 use crate::runs::lat_of;
 use crate::runs::next_runs;
+use scene::find_label;
 use scene::first_label;
 use scene::first_variable;
 use scene::next_feature;
 use scene::next_variable;
-use scene::point_of_label;
 use scene::value_of;
 
 // How far the slice is used, in numbers, and whether everything fitted.
@@ -58,11 +60,11 @@ fn push(out: &mut [u32], w: Warned, kind: u32, index: u32) -> Warned
 }
 
 // What the name of n bytes at `at` comes to, behind the first i host features.
-fn fate(s: &[u8], labels: usize, i: usize, at: usize, n: usize) -> u8
-    requires { ⌜ (at + n ≤ room (now s)) × Labels (payload (now s)) labels ⌝ }
+fn fate(s: &[u8], labels: usize, ix: &[u32], i: usize, at: usize, n: usize) -> u8
+    requires { ⌜ (at + n ≤ room (now s)) × Labels (payload (now s)) labels × Indexed (payload (now s)) labels (now ix) ⌝ }
     ensures { λ r. ⌜ r ≡ fateOf (resolved (sceneOf (payload (now (s .entry)))) (part (payload (now (s .entry))) at n)) (mentioned (part (payload (now (s .entry))) at n) (take i (featuresAt (payload (now (s .entry))) 0))) ⌝ }
 {
-    let p = point_of_label(s, labels, at, n);
+    let p = find_label(s, labels, ix, at, n);
     if !p.some {
         return 1;
     }
@@ -79,8 +81,8 @@ pub struct Counted {
 }
 
 // Of the host features.
-fn warn_features(s: &[u8], labels: usize, out: &mut [u32], w: Warned) -> Counted
-    requires { ⌜ (room (now s) < 4294967296) × (w .used ≤ length (now out)) × Labels (payload (now s)) labels ⌝ }
+fn warn_features(s: &[u8], labels: usize, ix: &[u32], out: &mut [u32], w: Warned) -> Counted
+    requires { ⌜ (room (now s) < 4294967296) × (w .used ≤ length (now out)) × Labels (payload (now s)) labels × Indexed (payload (now s)) labels (now ix) ⌝ }
     ensures { λ r. ⌜ record { out = now (out .exit); said = r .warned } ≡ allPushed (warningsIn (featureEvents (sceneOf (payload (now (s .entry)))) 0 (featuresAt (payload (now (s .entry))) 0))) (record { out = now (out .entry); said = w }) ⌝ }
     ensures { λ r. ⌜ (r .warned .used ≤ length (now (out .exit))) × (r .count ≡ length (featuresAt (payload (now (s .entry))) 0)) ⌝ }
 {
@@ -95,7 +97,7 @@ fn warn_features(s: &[u8], labels: usize, out: &mut [u32], w: Warned) -> Counted
                 count: i,
             };
         }
-        if fate(s, labels, i, f.at, f.len) != 0 {
+        if fate(s, labels, ix, i, f.at, f.len) != 0 {
             warned = push(out, warned, 2, i as u32);
         }
         q = f.next;
@@ -107,6 +109,7 @@ fn warn_features(s: &[u8], labels: usize, out: &mut [u32], w: Warned) -> Counted
 fn warn_lon(
     s: &[u8],
     labels: usize,
+    ix: &[u32],
     out: &mut [u32],
     w: Warned,
     features: usize,
@@ -115,7 +118,7 @@ fn warn_lon(
     n: usize,
     j: u32,
 ) -> Warned
-    requires { ⌜ (w .used ≤ length (now out)) × (at + n + 4 ≤ room (now s)) × (part (payload (now s)) (at + n) 4 ≡ suffixLon) × Rising [] (variablesAt (payload (now s)) p) × (features ≡ length (featuresAt (payload (now s)) 0)) × Labels (payload (now s)) labels ⌝ }
+    requires { ⌜ (w .used ≤ length (now out)) × (at + n + 4 ≤ room (now s)) × (part (payload (now s)) (at + n) 4 ≡ suffixLon) × Rising [] (variablesAt (payload (now s)) p) × (features ≡ length (featuresAt (payload (now s)) 0)) × Labels (payload (now s)) labels × Indexed (payload (now s)) labels (now ix) ⌝ }
     ensures { λ r. ⌜ ((lon : Float) → record { out = now (out .exit); said = r } ≡ allPushed (warningsIn (lonEvent (sceneOf (payload (now (s .entry)))) j (part (payload (now (s .entry))) at n) lon (variableOf (part (payload (now (s .entry))) at n ++ suffixLat) (variablesAt (payload (now (s .entry))) p)) ∷ [])) (record { out = now (out .entry); said = w })) ⌝ }
     ensures { λ r. ⌜ r .used ≤ length (now (out .exit)) ⌝ }
 {
@@ -123,7 +126,7 @@ fn warn_lon(
     if !lat.some {
         return push(out, w, 2, j);
     }
-    let k = fate(s, labels, features, at, n);
+    let k = fate(s, labels, ix, features, at, n);
     if k == 0 {
         return w;
     }
@@ -138,11 +141,12 @@ fn warn_variables(
     s: &[u8],
     vars: usize,
     labels: usize,
+    ix: &[u32],
     out: &mut [u32],
     w: Warned,
     features: usize,
 ) -> Warned
-    requires { ⌜ (room (now s) < 4294967296) × (w .used ≤ length (now out)) × (features ≡ length (featuresAt (payload (now s)) 0)) × Rising [] (variablesAt (payload (now s)) 0) × Labels (payload (now s)) labels × Variables (payload (now s)) vars ⌝ }
+    requires { ⌜ (room (now s) < 4294967296) × (w .used ≤ length (now out)) × (features ≡ length (featuresAt (payload (now s)) 0)) × Rising [] (variablesAt (payload (now s)) 0) × Labels (payload (now s)) labels × Variables (payload (now s)) vars × Indexed (payload (now s)) labels (now ix) ⌝ }
     ensures { λ r. ⌜ record { out = now (out .exit); said = r } ≡ allPushed (warningsIn (variableEvents (sceneOf (payload (now (s .entry)))) 0 (variablesAt (payload (now (s .entry))) 0))) (record { out = now (out .entry); said = w }) ⌝ }
     ensures { λ r. ⌜ r .used ≤ length (now (out .exit)) ⌝ }
 {
@@ -166,6 +170,7 @@ fn warn_variables(
             warned = warn_lon(
                 s,
                 labels,
+                ix,
                 out,
                 warned,
                 features,
@@ -261,9 +266,11 @@ pub fn write_warnings(s: &[u8], out: &mut [u32], n: u32) -> Warned
     let vars = first_variable(s);
     let view = warn_view(s, vars, out, none);
     let labels = first_label(s);
-    let f = warn_features(s, labels, out, view);
+    let mut ix = [1u32; 4096];
+    index_names(s, vars, labels, &mut ix);
+    let f = warn_features(s, labels, &ix, out, view);
     let featured = f.warned;
-    let all = warn_variables(s, vars, labels, out, featured, f.count);
+    let all = warn_variables(s, vars, labels, &ix, out, featured, f.count);
     let half = warn_half(s, vars, out, all);
     warn_ignored(s, vars, out, half, n)
 }

@@ -1,4 +1,6 @@
 use borrow.Author.Needs.{needs}
+use mathlib.Core.Path.{refl, sym}
+use Rattle.scene.specs.Laws.Index.{nothing-known}
 use Rattle.scene.specs.Laws.Rising.{variables-rising}
 use Rattle.register.proofs.Gathering.{features-sized, all-gathered}
 use Rattle.register.proofs.controls.gather.Statement.{statement}
@@ -7,14 +9,26 @@ use Rattle.register.proofs.controls.gather.Tie as tie
 first-label-requires : tie.Need-first-label-requires
 first-label-requires c κs = search needs
 
+slice-aggregate-index-names : tie.Need-slice-aggregate-index-names
+slice-aggregate-index-names c = refl
+
+index-names-requires : tie.Need-index-names-requires
+index-names-requires c κs = nothing-known _ (c .before .first-label .result)
+
+slice-aggregate-gather-features : tie.Need-slice-aggregate-gather-features
+slice-aggregate-gather-features c = sym (c .before .before .index-names .ensures .size)
+
 gather-features-requires : tie.Need-gather-features-requires
-gather-features-requires c κs = c .first-label .ensures
+gather-features-requires c κs = (c .before .before .before .before .first-label .ensures, c .before .before .index-names .ensures)
+
+slice-aggregate-gather-variables : tie.Need-slice-aggregate-gather-variables
+slice-aggregate-gather-variables c = sym (c .before .before .before .before .before .index-names .ensures .size)
 
 gather-variables-requires : tie.Need-gather-variables-requires
-gather-variables-requires c κs = (features-sized _ (c .before .gather-features .ensures .0), c .before .gather-features .ensures .1, variables-rising _ (c .before .before .before .before .pre .0), c .before .before .first-label .ensures, c .before .before .before .before .pre .1)
+gather-variables-requires c κs = (features-sized _ (c .before .before .gather-features .ensures .0), c .before .before .gather-features .ensures .1, variables-rising _ (c .before .before .before .before .before .before .before .before .before .pre .0), c .before .before .before .before .before .before .before .first-label .ensures, c .before .before .before .before .before .before .before .before .before .pre .1, c .before .before .before .before .before .index-names .ensures)
 
 returns : tie.Need-returns
-returns c = all-gathered _ (c .before .before .gather-features .ensures .0) (c .gather-variables .ensures)
+returns c = all-gathered _ (c .before .before .before .gather-features .ensures .0) (c .gather-variables .ensures)
 
 pub gather-spec : {M : Type 1} → statement M
-gather-spec = tie.close (tie.spec first-label-requires gather-features-requires gather-variables-requires returns)
+gather-spec = tie.close (tie.spec first-label-requires slice-aggregate-index-names index-names-requires slice-aggregate-gather-features gather-features-requires slice-aggregate-gather-variables gather-variables-requires returns)

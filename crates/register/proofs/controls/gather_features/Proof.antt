@@ -8,10 +8,10 @@ use Rattle.register.proofs.controls.gather_features.Statement.{statemen
 use Rattle.register.proofs.controls.gather_features.Tie as tie
 
 abbrev Inv-loop : tie.InvT-loop
-Inv-loop s labels g₀ q₀ i₀ g q i = Done (payload s) g q i
+Inv-loop s labels ix g₀ q₀ i₀ g q i = Done (payload s) g q i
 
 abbrev μ-loop : tie.MeasureT-loop
-μ-loop s labels g₀ q₀ i₀ g q i = room s - q
+μ-loop s labels ix g₀ q₀ i₀ g q i = room s - q
 
 no-controls-requires : tie.Need-no-controls-requires Inv-loop μ-loop
 no-controls-requires c κs = search needs
@@ -26,7 +26,7 @@ returns : tie.Need-returns Inv-loop μ-loop
 returns c = all-done (c .before .before .before .loop .inv) (c .before .before .next-feature .result) (c .before .before .next-feature .ensures .0) (c .if1 .taken)
 
 add-named-requires : tie.Need-add-named-requires Inv-loop μ-loop
-add-named-requires c κs = (c .before .before .before .loop .inv .sized, c .before .before .next-feature .ensures .1 (not-false _ (c .if1 .left)) .name, c .before .before .before .before .before .before .pre)
+add-named-requires c κs = (c .before .before .before .loop .inv .sized, c .before .before .next-feature .ensures .1 (not-false _ (c .if1 .left)) .name, c .before .before .before .before .before .before .before .pre .0, c .before .before .before .before .before .before .before .pre .1)
 
 add-i : tie.Need-add-i Inv-loop μ-loop
 add-i c = omega (arith, c .before .before .before .next-feature .ensures .1 (not-false _ (c .before .if1 .left)), c .before .before .before .before .loop .inv .short)

@@ -12,18 +12,18 @@ use Rattle.register.proofs.controls.gather_variables.Statement.{stateme
 use Rattle.register.proofs.controls.gather_variables.Tie as tie
 
 abbrev Inv-loop : tie.InvT-loop
-Inv-loop s vars labels features all₀ runs₀ at₀ len₀ q₀ all runs at len q = Going s all₀ all runs at len q
+Inv-loop s vars labels ix features all₀ runs₀ at₀ len₀ q₀ all runs at len q = Going s all₀ all runs at len q
 
 abbrev μ-loop : tie.MeasureT-loop
-μ-loop s vars labels features all₀ runs₀ at₀ len₀ q₀ all runs at len q = room s - q
+μ-loop s vars labels ix features all₀ runs₀ at₀ len₀ q₀ all runs at len q = room s - q
 
-within : (v : tie.After-next-variable Inv-loop μ-loop) → not (v .next-variable .result .some) ≡ false → Within (room (v .before .before .before .args .s .now)) (v .before .loop .q) (v .next-variable .result .at) (v .next-variable .result .len) (v .next-variable .result .next)
+within : (v : tie.After-next-variable Inv-loop μ-loop) → not (v .next-variable .result .some) ≡ false → Within (room (v .before .before .before .before .args .s .now)) (v .before .loop .q) (v .next-variable .result .at) (v .next-variable .result .len) (v .next-variable .result .next)
 within v h = v .next-variable .ensures .1 .0 (not-false _ h)
 
 -- a turn, up to whether the variable is `<L>_lon`
 turn : (a : tie.After-is-lon Inv-loop μ-loop)
     → let v = a .before .before .before .before .before in
-    let o = v .before .before .before in
+    let o = v .before .before .before .before in
     let at = v .before .loop in
     Turn (o .args .s .now) (at .runs) (at .at) (at .len) (at .q) (v .next-variable .result) (a .before .next-runs .result) (a .is-lon .result)
 turn a =
@@ -43,7 +43,7 @@ turn a =
     }
 
 loop-holds : tie.Need-loop-holds Inv-loop μ-loop
-loop-holds c = going _ _ (c .before .pre .0) (c .before .pre .4) (c .before .pre .2)
+loop-holds c = going _ _ (c .before .before .pre .0) (c .before .before .pre .4) (c .before .before .pre .2)
 
 next-variable-requires : tie.Need-next-variable-requires Inv-loop μ-loop
 next-variable-requires c κs = search needs
@@ -76,13 +76,13 @@ add-lon-requires : tie.Need-add-lon-requires Inv-loop μ-loop
 add-lon-requires c κs =
     let t = turn (c .before) in
     let h = c .if2 .taken in
-    (c .before .before .before .before .before .before .before .loop .inv .sized, omega (arith, long t h, t .within .name), suffix t h, run t h, c .before .before .before .before .before .before .before .before .before .pre .3)
+    (c .before .before .before .before .before .before .before .loop .inv .sized, omega (arith, long t h, t .within .name), suffix t h, run t h, c .before .before .before .before .before .before .before .before .before .before .pre .3, c .before .before .before .before .before .before .before .before .before .before .pre .5)
 
 loop-less : tie.Need-loop-less Inv-loop μ-loop
 loop-less c = omega (arith, turn (c .before .before) .within)
 
 loop-again : tie.Need-loop-again Inv-loop μ-loop
-loop-again c = on-lon (c .before .before .before .before .before .before .before .before .loop .inv) (turn (c .before .before)) (c .before .if2 .taken) (c .before .before .before .before .before .before .before .before .before .before .args .features) (c .before .before .before .before .before .before .before .before .before .before .pre .1) (c .add-lon .ensures)
+loop-again c = on-lon (c .before .before .before .before .before .before .before .before .loop .inv) (turn (c .before .before)) (c .before .if2 .taken) (c .before .before .before .before .before .before .before .before .before .before .before .args .features) (c .before .before .before .before .before .before .before .before .before .before .before .pre .1) (c .add-lon .ensures)
 
 loop-less-2 : tie.Need-loop-less-2 Inv-loop μ-loop
 loop-less-2 c = omega (arith, turn (c .before) .within)

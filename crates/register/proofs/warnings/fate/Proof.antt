@@ -10,14 +10,14 @@ use Rattle.register.proofs.warnings.fate.Statement.{statement}
 use Rattle.register.proofs.warnings.fate.Tie as tie
 
 -- the point, among all places and items
-found : (c : tie.After-point-of-label) → spotBy (c .point-of-label .result) ≡ pointOfLabel (part (payload (c .before .before .args .s .now)) (c .before .before .args .at) (c .before .before .args .n)) (placesAt (payload (c .before .before .args .s .now)) 0) (itemsAt (payload (c .before .before .args .s .now)) 0)
-found c = all-labels _ (c .before .before .args .labels) (part (payload (c .before .before .args .s .now)) (c .before .before .args .at) (c .before .before .args .n)) (c .before .before .pre .1) (c .point-of-label .ensures)
+found : (c : tie.After-find-label) → spotBy (c .find-label .result) ≡ pointOfLabel (part (payload (c .before .before .before .args .s .now)) (c .before .before .before .args .at) (c .before .before .before .args .n)) (placesAt (payload (c .before .before .before .args .s .now)) 0) (itemsAt (payload (c .before .before .before .args .s .now)) 0)
+found c = all-labels _ (c .before .before .before .args .labels) (part (payload (c .before .before .before .args .s .now)) (c .before .before .before .args .at) (c .before .before .before .args .n)) (c .before .before .before .pre .1) (c .find-label .ensures)
 
-point-of-label-requires : tie.Need-point-of-label-requires
-point-of-label-requires c κs = search needs
+find-label-requires : tie.Need-find-label-requires
+find-label-requires c κs = (c .before .before .pre .0, c .before .before .pre .2)
 
 returns : tie.Need-returns
-returns c = fate-1 _ _ _ (c .before .before .point-of-label .result) (found (c .before .before)) (c .if1 .taken)
+returns c = fate-1 _ _ _ (c .before .before .find-label .result) (found (c .before .before)) (c .if1 .taken)
 
 is-mentioned-requires : tie.Need-is-mentioned-requires
 is-mentioned-requires c κs = search needs
@@ -25,13 +25,13 @@ is-mentioned-requires c κs = search needs
 returns-2 : tie.Need-returns-2
 returns-2 c =
     let p = c .before .before .before .before in
-    fate-2 _ _ _ (p .point-of-label .result) (found p) (c .before .before .if1 .left) (c .before .is-mentioned .ensures) (c .if2 .taken)
+    fate-2 _ _ _ (p .find-label .result) (found p) (c .before .before .if1 .left) (c .before .is-mentioned .ensures) (c .if2 .taken)
 
 returns-3 : tie.Need-returns-3
 returns-3 c =
     let p = c .before .before .before .before in
-    fate-0 _ _ _ (p .point-of-label .result) (found p) (c .before .before .if1 .left) (c .before .is-mentioned .ensures) (c .if2 .left)
+    fate-0 _ _ _ (p .find-label .result) (found p) (c .before .before .if1 .left) (c .before .is-mentioned .ensures) (c .if2 .left)
 
 pub fate-spec : {M : Type 1} → statement M
 fate-spec =
-    tie.close (tie.spec point-of-label-requires returns is-mentioned-requires returns-2 returns-3)
+    tie.close (tie.spec find-label-requires returns is-mentioned-requires returns-2 returns-3)

@@ -13,16 +13,16 @@ use Rattle.register.proofs.warnings.warn_features.Statement.{statement}
 use Rattle.register.proofs.warnings.warn_features.Tie as tie
 
 abbrev Inv-loop : tie.InvT-loop
-Inv-loop s labels out₀ warned₀ q₀ i₀ out warned q i = Told (payload s) (sheet out₀ warned₀) (sheet out warned) q i
+Inv-loop s labels ix out₀ warned₀ q₀ i₀ out warned q i = Told (payload s) (sheet out₀ warned₀) (sheet out warned) q i
 
 abbrev μ-loop : tie.MeasureT-loop
-μ-loop s labels out₀ warned₀ q₀ i₀ out warned q i = room s - q
+μ-loop s labels ix out₀ warned₀ q₀ i₀ out warned q i = room s - q
 
-within : (v : tie.After-next-feature Inv-loop μ-loop) → not (v .next-feature .result .some) ≡ false → Within (room (v .before .before .before .before .args .s .now)) (v .before .loop .q) (v .next-feature .result .at) (v .next-feature .result .len) (v .next-feature .result .next)
+within : (v : tie.After-next-feature Inv-loop μ-loop) → not (v .next-feature .result .some) ≡ false → Within (room (v .before .before .before .before .before .args .s .now)) (v .before .loop .q) (v .next-feature .result .at) (v .next-feature .result .len) (v .next-feature .result .next)
 within v h = v .next-feature .ensures .1 (not-false _ h)
 
 loop-holds : tie.Need-loop-holds Inv-loop μ-loop
-loop-holds c = none-told _ _ (c .before .before .pre .1)
+loop-holds c = none-told _ _ (c .before .before .before .pre .1)
 
 next-feature-requires : tie.Need-next-feature-requires Inv-loop μ-loop
 next-feature-requires c κs = search needs
@@ -34,10 +34,10 @@ returns : tie.Need-returns Inv-loop μ-loop
 returns c = all-told (c .before .before .before .loop .inv) (c .before .before .next-feature .result) (c .before .before .next-feature .ensures .0) (c .if1 .taken)
 
 fate-requires : tie.Need-fate-requires Inv-loop μ-loop
-fate-requires c κs = (within (c .before .before) (c .if1 .left) .name, c .before .before .before .before .before .before .pre .2)
+fate-requires c κs = (within (c .before .before) (c .if1 .left) .name, c .before .before .before .before .before .before .before .pre .2, c .before .before .before .before .before .before .before .pre .3)
 
 cast-push : tie.Need-cast-push Inv-loop μ-loop
-cast-push c = let v = c .before .before .before .before .before in omega (arith, within v (c .before .before .before .if1 .left), v .before .loop .inv .short, v .before .before .before .before .pre .0)
+cast-push c = let v = c .before .before .before .before .before in omega (arith, within v (c .before .before .before .if1 .left), v .before .loop .inv .short, v .before .before .before .before .before .pre .0)
 
 push-requires : tie.Need-push-requires Inv-loop μ-loop
 push-requires c κs = c .before .before .before .before .before .before .loop .inv .fits

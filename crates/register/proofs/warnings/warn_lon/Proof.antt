@@ -15,7 +15,7 @@ same-length c = search needs
 returns : tie.Need-returns
 returns c =
     let a = c .before .before .before .before .before .before in
-    each-one _ _ _ _ (λ lon. lon-alone _ _ _ lon (a .lat-of .result) (a .lat-of .ensures) (c .before .before .before .before .if1 .taken)) (c .before .before .push .ensures) (a .before .before .before .pre .0)
+    each-one _ _ _ _ (λ lon. lon-alone _ _ _ lon (a .lat-of .result) (a .lat-of .ensures) (c .before .before .before .before .if1 .taken)) (c .before .before .push .ensures) (a .before .before .before .before .pre .0)
 
 fate-requires : tie.Need-fate-requires
 fate-requires c κs = search needs
@@ -23,7 +23,7 @@ fate-requires c κs = search needs
 returns-2 : tie.Need-returns-2
 returns-2 c =
     let a = c .before .before .before .before in
-    each-none _ _ (λ lon. lon-control _ _ _ lon (a .lat-of .result) (a .lat-of .ensures) (c .before .before .if1 .left) (c .before .fate .ensures) (a .before .before .before .pre .4) (c .if2 .taken)) (a .before .before .before .pre .0)
+    each-none _ _ (λ lon. lon-control _ _ _ lon (a .lat-of .result) (a .lat-of .ensures) (c .before .before .if1 .left) (c .before .fate .ensures) (a .before .before .before .before .pre .4) (c .if2 .taken)) (a .before .before .before .before .pre .0)
 
 push-requires-2 : tie.Need-push-requires-2
 push-requires-2 c κs = search needs
@@ -35,7 +35,7 @@ returns-3 : tie.Need-returns-3
 returns-3 c =
     let f = c .before .before .before .before .before .before in
     let a = f .before .before .before in
-    each-one _ _ _ _ (λ lon. lon-lost _ _ _ lon (a .lat-of .result) (a .lat-of .ensures) (f .before .if1 .left) (f .fate .ensures) (a .before .before .before .pre .4) (c .before .before .before .before .if3 .taken)) (c .before .before .push2 .ensures) (a .before .before .before .pre .0)
+    each-one _ _ _ _ (λ lon. lon-lost _ _ _ lon (a .lat-of .result) (a .lat-of .ensures) (f .before .if1 .left) (f .fate .ensures) (a .before .before .before .before .pre .4) (c .before .before .before .before .if3 .taken)) (c .before .before .push2 .ensures) (a .before .before .before .before .pre .0)
 
 push-requires-3 : tie.Need-push-requires-3
 push-requires-3 c κs = search needs
@@ -47,7 +47,7 @@ returns-4 : tie.Need-returns-4
 returns-4 c =
     let f = c .before .before .before .before .before .before in
     let a = f .before .before .before in
-    each-one _ _ _ _ (λ lon. lon-again _ _ _ lon (a .lat-of .result) (a .lat-of .ensures) (f .before .if1 .left) (f .fate .ensures) (a .before .before .before .pre .4) (c .before .before .before .before .before .if2 .left) (c .before .before .before .before .if3 .left)) (c .before .before .push3 .ensures) (a .before .before .before .pre .0)
+    each-one _ _ _ _ (λ lon. lon-again _ _ _ lon (a .lat-of .result) (a .lat-of .ensures) (f .before .if1 .left) (f .fate .ensures) (a .before .before .before .before .pre .4) (c .before .before .before .before .before .if2 .left) (c .before .before .before .before .if3 .left)) (c .before .before .push3 .ensures) (a .before .before .before .before .pre .0)
 
 pub warn-lon-spec : {M : Type 1} → statement M
 warn-lon-spec =

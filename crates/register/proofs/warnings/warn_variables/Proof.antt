@@ -14,19 +14,19 @@ use Rattle.register.proofs.warnings.warn_variables.Statement.{statement
 use Rattle.register.proofs.warnings.warn_variables.Tie as tie
 
 abbrev Inv-loop : tie.InvT-loop
-Inv-loop s vars labels out₀ features warned₀ runs₀ at₀ len₀ q₀ i₀ out warned runs at len q i = Telling s (sheet out₀ warned₀) (sheet out warned) runs at len q i
+Inv-loop s vars labels ix out₀ features warned₀ runs₀ at₀ len₀ q₀ i₀ out warned runs at len q i = Telling s (sheet out₀ warned₀) (sheet out warned) runs at len q i
 
 abbrev μ-loop : tie.MeasureT-loop
-μ-loop s vars labels out₀ features warned₀ runs₀ at₀ len₀ q₀ i₀ out warned runs at len q i = room s - q
+μ-loop s vars labels ix out₀ features warned₀ runs₀ at₀ len₀ q₀ i₀ out warned runs at len q i = room s - q
 
-within : (v : tie.After-next-variable Inv-loop μ-loop) → not (v .next-variable .result .some) ≡ false → Within (room (v .before .before .before .before .args .s .now)) (v .before .loop .q) (v .next-variable .result .at) (v .next-variable .result .len) (v .next-variable .result .next)
+within : (v : tie.After-next-variable Inv-loop μ-loop) → not (v .next-variable .result .some) ≡ false → Within (room (v .before .before .before .before .before .args .s .now)) (v .before .loop .q) (v .next-variable .result .at) (v .next-variable .result .len) (v .next-variable .result .next)
 within v h = v .next-variable .ensures .1 .0 (not-false _ h)
 
 -- a turn, up to whether the variable is `<L>_lon`
 turn : (a : tie.After-is-lon Inv-loop μ-loop)
     → let v = a .before .before .before .before .before in
     let at = v .before .loop in
-    Turn (v .before .before .before .before .args .s .now) (at .runs) (at .at) (at .len) (at .q) (v .next-variable .result) (a .before .next-runs .result) (a .is-lon .result)
+    Turn (v .before .before .before .before .before .args .s .now) (at .runs) (at .at) (at .len) (at .q) (v .next-variable .result) (a .before .next-runs .result) (a .is-lon .result)
 turn a =
     let v = a .before .before .before .before .before in
     let h = a .before .before .before .if1 .left in
@@ -44,7 +44,7 @@ turn a =
     }
 
 loop-holds : tie.Need-loop-holds Inv-loop μ-loop
-loop-holds c = telling _ _ (c .before .before .pre .1) (c .before .before .pre .5) (c .before .before .pre .3)
+loop-holds c = telling _ _ (c .before .before .before .pre .1) (c .before .before .before .pre .5) (c .before .before .before .pre .3)
 
 next-variable-requires : tie.Need-next-variable-requires Inv-loop μ-loop
 next-variable-requires c κs = search needs
@@ -77,14 +77,14 @@ sub-warn-lon : tie.Need-sub-warn-lon Inv-loop μ-loop
 sub-warn-lon c = long (turn (c .before .before)) (c .before .if2 .taken)
 
 cast-warn-lon : tie.Need-cast-warn-lon Inv-loop μ-loop
-cast-warn-lon c = let l = c .before .before .before .before .before .before .before .before in omega (arith, turn (c .before .before) .within, l .loop .inv .short, l .before .before .before .pre .0)
+cast-warn-lon c = let l = c .before .before .before .before .before .before .before .before in omega (arith, turn (c .before .before) .within, l .loop .inv .short, l .before .before .before .before .pre .0)
 
 warn-lon-requires : tie.Need-warn-lon-requires Inv-loop μ-loop
 warn-lon-requires c κs =
     let t = turn (c .before .before) in
     let h = c .before .if2 .taken in
     let l = c .before .before .before .before .before .before .before .before in
-    (l .loop .inv .fits, omega (arith, long t h, t .within .name), suffix t h, run t h, l .before .before .before .pre .2, l .before .before .before .pre .4)
+    (l .loop .inv .fits, omega (arith, long t h, t .within .name), suffix t h, run t h, l .before .before .before .before .pre .2, l .before .before .before .before .pre .4, l .before .before .before .before .pre .6)
 
 add-i : tie.Need-add-i Inv-loop μ-loop
 add-i c = omega (arith, turn (c .before) .within, c .before .before .before .before .before .before .before .loop .inv .short)

@@ -1,5 +1,10 @@
 use borrow.Author.Needs.{needs}
+use mathlib.Core.Path.{refl, sym, ap, _∙_}
+use lib.ListN.{length}
+use Rattle.scene.specs.Laws.Index.{nothing-known}
 use Rattle.scene.specs.Laws.Rising.{variables-rising}
+use Rattle.register.specs.Warned.{Sheet}
+use Rattle.register.proofs.Pushing.{all-kept}
 use Rattle.register.proofs.Telling.{all-warned}
 use Rattle.register.proofs.warnings.write_warnings.Statement.{statement}
 use Rattle.register.proofs.warnings.write_warnings.Tie as tie
@@ -13,44 +18,35 @@ warn-view-requires c κs = search needs
 first-label-requires : tie.Need-first-label-requires
 first-label-requires c κs = search needs
 
+slice-aggregate-index-names : tie.Need-slice-aggregate-index-names
+slice-aggregate-index-names c = refl
+
+index-names-requires : tie.Need-index-names-requires
+index-names-requires c κs = nothing-known _ (c .before .first-label .result)
+
+slice-aggregate-warn-features : tie.Need-slice-aggregate-warn-features
+slice-aggregate-warn-features c = sym (c .before .before .index-names .ensures .size)
+
 warn-features-requires : tie.Need-warn-features-requires
-warn-features-requires c κs = search needs
+warn-features-requires c κs = (c .before .before .before .before .before .before .before .before .before .before .before .before .before .pre .0, c .before .before .before .before .before .before .before .before .warn-view .ensures .1, c .before .before .before .before .before .first-label .ensures, c .before .before .before .index-names .ensures)
+
+slice-aggregate-warn-variables : tie.Need-slice-aggregate-warn-variables
+slice-aggregate-warn-variables c = sym (c .before .before .before .before .before .before .before .before .index-names .ensures .size)
 
 warn-variables-requires : tie.Need-warn-variables-requires
-warn-variables-requires c κs =
-    let f = c .before .before .before .before in
-    let w = f .before .before .before .before .before in
-    let o = w .before .before .before .before .before in
-    (o .pre .0, f .warn-features .ensures .1 .0, f .warn-features .ensures .1 .1, variables-rising _ (o .pre .1), f .before .before .first-label .ensures, w .before .before .first-variable .ensures)
+warn-variables-requires c κs = (c .before .before .before .before .before .before .before .before .before .before .before .before .before .before .before .before .before .before .before .pre .0, c .before .before .before .before .before .warn-features .ensures .1 .0, c .before .before .before .before .before .warn-features .ensures .1 .1, variables-rising _ (c .before .before .before .before .before .before .before .before .before .before .before .before .before .before .before .before .before .before .before .pre .1), c .before .before .before .before .before .before .before .before .before .before .before .first-label .ensures, c .before .before .before .before .before .before .before .before .before .before .before .before .before .before .before .before .first-variable .ensures, c .before .before .before .before .before .before .before .before .before .index-names .ensures)
 
 warn-half-requires : tie.Need-warn-half-requires
-warn-half-requires c κs = search needs
+warn-half-requires c κs = (c .before .before .before .warn-variables .ensures .1, c .before .before .before .before .before .before .before .before .before .before .before .before .before .before .before .before .before .before .before .before .first-variable .ensures)
 
 warn-ignored-requires : tie.Need-warn-ignored-requires
-warn-ignored-requires c κs = search needs
-
-same-length : tie.Need-same-length
-same-length c = search needs
+warn-ignored-requires c κs = (c .before .before .before .warn-half .ensures .1, c .before .before .before .before .before .before .before .before .before .before .before .before .before .before .before .before .before .before .before .before .before .before .before .before .first-variable .ensures)
 
 returns : tie.Need-returns
-returns c =
-    let i = c .before .before in
-    let h = i .before .before .before .before in
-    let v = h .before .before .before .before in
-    let f = v .before .before .before .before .before in
-    let w = f .before .before .before .before .before in
-    all-warned _ _ (w .before .before .before .before .before .pre .2) (w .warn-view .ensures .0) (f .warn-features .ensures .0) (v .warn-variables .ensures .0) (h .warn-half .ensures .0) (i .warn-ignored .ensures .0)
+returns c = all-warned _ _ (c .before .before .before .before .before .before .before .before .before .before .before .before .before .before .before .before .before .before .before .before .before .before .before .before .before .before .before .before .before .before .pre .2) (c .before .before .before .before .before .before .before .before .before .before .before .before .before .before .before .before .before .before .before .before .before .before .before .before .before .warn-view .ensures .0) (c .before .before .before .before .before .before .before .before .before .before .before .before .before .before .before .before .warn-features .ensures .0) (c .before .before .before .before .before .before .before .before .before .before .warn-variables .ensures .0) (c .before .before .before .before .before .before .warn-half .ensures .0) (c .before .before .warn-ignored .ensures .0)
+
+same-length : tie.Need-same-length
+same-length c = ap (λ (t : Sheet). length (t .out)) (returns c) ∙ all-kept _ _
 
 pub write-warnings-spec : {M : Type 1} → statement M
-write-warnings-spec =
-    tie.close
-    (tie.spec
-    first-variable-requires
-    warn-view-requires
-    first-label-requires
-    warn-features-requires
-    warn-variables-requires
-    warn-half-requires
-    warn-ignored-requires
-    same-length
-    returns)
+write-warnings-spec = tie.close (tie.spec first-variable-requires warn-view-requires first-label-requires slice-aggregate-index-names index-names-requires slice-aggregate-warn-features warn-features-requires slice-aggregate-warn-variables warn-variables-requires warn-half-requires warn-ignored-requires same-length returns)
