@@ -1,5 +1,5 @@
 -- What an answer of `find` says: of the records that a question asks for, each read by f, and of where the one that was found lies.
-use mathlib.Core.Path.{_≡_, refl, sym, subst}
+use mathlib.Core.Path.{_≡_, refl, sym, subst, _∙_}
 use mathlib.Core.Logic.{⊎-elim}
 use mathlib.Core.Bool.{true, false, not}
 use mathlib.Core.List.{List, [], _∷_, map}
@@ -9,16 +9,17 @@ use native.Mathlib.Omega.{arith}
 use lib.ListN.{drop, getD}
 use lib.Dec.{T}
 use lib.Seq.{getD-drop}
-use borrow.Author.Tests.{not-true, not-false}
+use borrow.Author.Tests.{eq-eqb, not-true, not-false}
 use Rattle.stream.specs.Numbers.{u16At}
 use Rattle.stream.specs.Laws.Numbers.{u16-drop}
 use Rattle.stream.specs.Payload.{payload, room}
 use Rattle.stream.specs.Laws.Payload.{payload-length}
 use Rattle.records.specs.declared.search.Hit.{Hit}
 use Rattle.records.specs.Records.{choiceWidth}
-use Rattle.records.specs.Search.{recordsAt}
+use Rattle.records.specs.Search.{keyOf, turnOf, recordsAt}
+use Rattle.records.specs.Walk.{tagOf}
 use Rattle.records.specs.Hits.{Standing, hitsOf}
-use Rattle.records.specs.Laws.Search.{standing-less, standing-fits, choice-within, NameFound, PointsFound, PathFound}
+use Rattle.records.specs.Laws.Search.{search-got, standing-less, standing-fits, choice-within, NameFound, PointsFound, PathFound}
 use Rattle.scene.specs.Scene.{none, some, first}
 
 -- an answer that says of itself that there is none
@@ -55,6 +56,11 @@ module _ (s : List ℕ) (p t k : ℕ) (h : Hit) (a : Answer s p t k h) where
     none-first = rw (a .0, not-true (h .some) n) refl
 
 module _ {s : List ℕ} {p t k : ℕ} {h : Hit} (o : One s p t k h) where
+  -- it is the first from its own position on, too
+  pub found-again : recordsAt (payload s) (h .at) t k ≡ drop (h .at) (payload s) ∷ recordsAt (payload s) (h .next) t k
+  unfolding turnOf
+  found-again = let r = o .stands in search-got (payload s) (h .at) t k (r .got) ∙ rw (eq-eqb (tagOf (r .is)) t (r .tag), eq-eqb (keyOf (r .is)) k (r .key), r .ends) refl
+
   module _ {A : Type 0} (f : List ℕ → A) {x : A} (e : f (drop (h .at) (payload s)) ≡ x) where
     pub one-listed : map f (recordsAt (payload s) p t k) ≡ x ∷ map f (recordsAt (payload s) (h .next) t k)
     one-listed = rw (o .all, ← e) refl

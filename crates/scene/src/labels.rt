@@ -5,10 +5,10 @@ ghost use Prim.Native.Nat.{_+_, _*_, _≤_};
 ghost use Rattle.stream.specs.Payload.{payload, room};
 ghost use Rattle.records.specs.Order.{part};
 ghost use Rattle.scene.specs.Scene.{Maybe, some, none, pointsAt};
-ghost use Rattle.scene.specs.Labels.{meanPoint, firstStart, meanOrStart, referencePoint, greater, consider, considerAt, itemKey, bestPlace, bestItem, pointOfLabel};
+ghost use Rattle.scene.specs.Labels.{meanPoint, firstStart, meanOrStart, referencePoint, greater, consider, considerAt, itemKey, considerPlace, considerItem, bestPlace, bestItem, pointOfLabel};
 ghost use Rattle.scene.specs.Answers.{Labels, pointBy, spotBy, keyBy, bestBy, pointsFrom, pathsFrom, placesAt, itemsAt, itemBy};
-use crate::names::is_labelled;
-use crate::names::same_name;
+use crate::names::bears;
+use crate::names::is_called;
 use crate::numbers::Point;
 use crate::numbers::Spot;
 use crate::numbers::point_at;
@@ -18,6 +18,7 @@ use crate::sections::next_item;
 use crate::sections::next_path;
 use crate::sections::next_place;
 use crate::sections::points_of;
+use records::find;
 use records::wide16;
 
 // Where in the source a label is defined. Of equal ones the first stays.
@@ -138,7 +139,24 @@ fn consider_point(b: Best, key: Key, x: f64, y: f64) -> Best
     }
 }
 
-// The best of the places from p on, the name having n bytes at `at`.
+// The first place from q on, as the i-th.
+fn consider_place(s: &[u8], b: Best, q: usize, i: usize) -> Best
+    ensures { λ r. ⌜ bestBy r ≡ considerPlace (bestBy b) i (placesAt (payload (now (s .entry))) q) ⌝ }
+{
+    let c = next_place(s, q);
+    if !c.some {
+        return b;
+    }
+    let key = Key {
+        top: !c.nested,
+        line: c.line,
+        col: c.col,
+        order: i,
+    };
+    consider_point(b, key, c.x, c.y)
+}
+
+// The best of the places from p on, the name having n bytes at `at`. Only those that carry it are read whole.
 fn best_place(s: &[u8], p: usize, at: usize, n: usize) -> Best
     requires { ⌜ at + n ≤ room (now s) ⌝ }
     ensures { λ r. ⌜ bestBy r ≡ bestPlace (part (payload (now (s .entry))) at n) 0 (placesAt (payload (now (s .entry))) p) none ⌝ }
@@ -157,26 +175,20 @@ fn best_place(s: &[u8], p: usize, at: usize, n: usize) -> Best
     let mut q = p;
     let mut i = 0usize;
     loop {
-        let c = next_place(s, q);
-        if !c.some {
+        let h = find(s, q, 5, 0);
+        if !h.some {
             return b;
         }
-        if same_name(s, c.at, c.len, at, n) {
-            let key = Key {
-                top: !c.nested,
-                line: c.line,
-                col: c.col,
-                order: i,
-            };
-            b = consider_point(b, key, c.x, c.y);
+        if is_called(s, h.at + 1, at, n) {
+            b = consider_place(s, b, h.at, i);
         }
-        q = c.next;
+        q = h.next;
         i += 1;
     }
 }
 
 // An item of the label: its reference point, if it has one.
-fn consider_item(s: &[u8], b: Best, it: Item, i: usize) -> Best
+fn consider_reference(s: &[u8], b: Best, it: Item, i: usize) -> Best
     ensures { λ r. ⌜ bestBy r ≡ considerAt (bestBy b) (itemKey (itemBy (payload (now (s .entry))) it) i) (referencePoint (itemBy (payload (now (s .entry))) it)) ⌝ }
 {
     let spot = reference_point(s, it);
@@ -192,6 +204,17 @@ fn consider_item(s: &[u8], b: Best, it: Item, i: usize) -> Best
     consider_point(b, key, spot.x, spot.y)
 }
 
+// The first item from q on, as the i-th.
+fn consider_item(s: &[u8], b: Best, q: usize, i: usize) -> Best
+    ensures { λ r. ⌜ bestBy r ≡ considerItem (bestBy b) i (itemsAt (payload (now (s .entry))) q) ⌝ }
+{
+    let it = next_item(s, q);
+    if !it.some {
+        return b;
+    }
+    consider_reference(s, b, it, i)
+}
+
 // The best of these and of the items from p on.
 fn best_item(s: &[u8], p: usize, at: usize, n: usize, best: Best) -> Best
     requires { ⌜ at + n ≤ room (now s) ⌝ }
@@ -201,14 +224,14 @@ fn best_item(s: &[u8], p: usize, at: usize, n: usize, best: Best) -> Best
     let mut q = p;
     let mut i = 0usize;
     loop {
-        let it = next_item(s, q);
-        if !it.some {
+        let h = find(s, q, 6, 0);
+        if !h.some {
             return b;
         }
-        if is_labelled(s, it.label, it.len, at, n) {
-            b = consider_item(s, b, it, i);
+        if bears(s, h.at + 3, at, n) {
+            b = consider_item(s, b, h.at, i);
         }
-        q = it.next;
+        q = h.next;
         i += 1;
     }
 }

@@ -1,14 +1,15 @@
 use borrow.Author.Needs.{needs}
-use borrow.Author.Tests.{not-false}
 use mathlib.Core.Path.{_≡_, refl, sym, ap, _∙_}
 use mathlib.Core.Logic.{⊎-elim, inl, inr}
-use mathlib.Core.Bool.{false, not}
-use Prim.Native.Nat.{_-_, _≤_}
+use Prim.Native.Nat.{_+_, _-_, _≤_}
 use native.Mathlib.Omega.{arith}
+use lib.ListN.{getD}
 use Rattle.stream.specs.Payload.{payload, room}
 use Rattle.records.specs.Order.{part}
 use Rattle.scene.specs.Labels.{bestItem}
-use Rattle.scene.specs.Answers.{Within, itemsAt, bestBy}
+use Rattle.scene.specs.Answers.{itemsAt, bestBy}
+use Rattle.scene.proofs.Found.{One, one-found}
+use Rattle.scene.proofs.Items.{label-ends}
 use Rattle.scene.proofs.Folds.{no-item, next-item}
 use Rattle.scene.proofs.labels.best_item.Statement.{statement}
 use Rattle.scene.proofs.labels.best_item.Tie as tie
@@ -21,40 +22,47 @@ Inv-loop s p at n b₀ q₀ i₀ b q i =
 abbrev μ-loop : tie.MeasureT-loop
 μ-loop s p at n b₀ q₀ i₀ b q i = room s - q
 
-within : (v : tie.After-next-item Inv-loop μ-loop) → not (v .next-item .result .some) ≡ false → Within (room (v .before .before .before .args .s .now)) (v .before .loop .q) (v .next-item .result .label) (v .next-item .result .len) (v .next-item .result .next)
-within v h = v .next-item .ensures .1 (not-false _ h)
+one : (w : tie.Else1 Inv-loop μ-loop) → let v = w .before .before in One (v .before .before .before .args .s .now) (v .before .loop .q) 6 0 (v .find .result)
+one w = let v = w .before .before in one-found _ (v .before .loop .q) _ _ _ (v .find .ensures) (w .if1 .left)
+
+-- its label lies within
+ends : (w : tie.Else1 Inv-loop μ-loop) → let v = w .before .before in let s = v .before .before .before .args .s .now in v .find .result .at + 3 + 1 + getD (payload s) (v .find .result .at + 3) 0 ≤ room s
+ends w = omega (arith, label-ends (one w) refl)
 
 loop-holds : tie.Need-loop-holds Inv-loop μ-loop
 loop-holds c = (omega arith, refl)
 
-next-item-requires : tie.Need-next-item-requires Inv-loop μ-loop
-next-item-requires c κs = search needs
+find-requires : tie.Need-find-requires Inv-loop μ-loop
+find-requires c κs = search needs
 
 returns : tie.Need-returns Inv-loop μ-loop
 returns c =
     let v = c .before .before in
     let a = v .before in
-    no-item _ _ (a .loop .q) (a .loop .i) _ (v .next-item .result) (v .next-item .ensures .0) (c .if1 .taken) ∙ sym (a .loop .inv .1)
+    no-item _ _ (a .loop .q) (a .loop .i) _ (v .find .result) (v .find .ensures) (c .if1 .taken) ∙ sym (a .loop .inv .1)
 
-is-labelled-requires : tie.Need-is-labelled-requires Inv-loop μ-loop
-is-labelled-requires c κs = (within (c .before .before) (c .if1 .left) .name, c .before .before .before .before .before .pre)
+add-bears : tie.Need-add-bears Inv-loop μ-loop
+add-bears c = omega (arith, ends (c .before))
+
+bears-requires : tie.Need-bears-requires Inv-loop μ-loop
+bears-requires c κs = (ends (c .before), c .before .before .before .before .before .before .pre)
 
 consider-item-requires : tie.Need-consider-item-requires Inv-loop μ-loop
 consider-item-requires c κs = search needs
 
 add-i : tie.Need-add-i Inv-loop μ-loop
-add-i c = omega (arith, within (c .before .before .before .before) (c .before .before .if1 .left), c .before .before .before .before .before .loop .inv .0)
+add-i c = omega (arith, one (c .before .before .before), c .before .before .before .before .before .before .loop .inv .0)
 
 loop-less : tie.Need-loop-less Inv-loop μ-loop
-loop-less c = omega (arith, within (c .before .before .before .before) (c .before .before .if1 .left))
+loop-less c = omega (arith, one (c .before .before .before))
 
 loop-again : tie.Need-loop-again Inv-loop μ-loop
 loop-again c =
-    let v = c .before .before .before .before in
+    let v = c .before .before .before .before .before in
     let a = v .before in (
-      omega (arith, within v (c .before .before .if1 .left), a .loop .inv .0),
+      omega (arith, one (c .before .before .before), a .loop .inv .0),
       a .loop .inv .1
-          ∙ next-item _ _ (a .loop .q) (a .loop .i) _ (v .next-item .result) (v .next-item .ensures .0) (c .before .before .if1 .left) (c .before .is-labelled .ensures)
+          ∙ next-item _ _ (a .loop .q) (a .loop .i) _ (v .find .result) (one (c .before .before .before)) (c .before .bears .ensures)
           (⊎-elim (λ w. inl (w .0 .taken, ap bestBy (w .2) ∙ w .1 .ensures)) (λ w. inr (w .0 .left, ap bestBy (w .1))) (c .if2 .came)),
     )
 
@@ -65,9 +73,10 @@ best-item-spec =
     Inv-loop
     μ-loop
     loop-holds
-    next-item-requires
+    find-requires
     returns
-    is-labelled-requires
+    add-bears
+    bears-requires
     consider-item-requires
     add-i
     loop-less

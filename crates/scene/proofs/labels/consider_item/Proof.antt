@@ -1,21 +1,26 @@
 use borrow.Author.Needs.{needs}
-use Rattle.scene.specs.Answers.{itemBy}
-use Rattle.scene.proofs.Folds.{no-point, with-point}
+use Rattle.stream.specs.Payload.{payload}
+use Rattle.scene.proofs.Folds.{no-first-item, first-item}
 use Rattle.scene.proofs.labels.consider_item.Statement.{statement}
 use Rattle.scene.proofs.labels.consider_item.Tie as tie
 
-reference-point-requires : tie.Need-reference-point-requires
-reference-point-requires c κs = search needs
+next-item-requires : tie.Need-next-item-requires
+next-item-requires c κs = search needs
 
 returns : tie.Need-returns
-returns c = no-point _ _ (c .before .before .reference-point .result) (c .before .before .reference-point .ensures) (c .if1 .taken)
+returns c =
+    let v = c .before .before in
+    let o = v .before .before .args in
+    no-first-item (payload (o .s .now)) (o .q) (o .i) _ (v .next-item .result) (v .next-item .ensures .0) (c .if1 .taken)
 
-consider-point-requires : tie.Need-consider-point-requires
-consider-point-requires c κs = search needs
+consider-reference-requires : tie.Need-consider-reference-requires
+consider-reference-requires c κs = search needs
 
 returns-2 : tie.Need-returns-2
-unfolding itemBy
-returns-2 c = with-point _ _ (c .before .before .before .before .reference-point .result) (c .before .before .before .before .reference-point .ensures) (c .before .before .if1 .left) (c .consider-point .ensures)
+returns-2 c =
+    let v = c .before .before .before in
+    let o = v .before .before .args in
+    first-item (payload (o .s .now)) (o .q) (o .i) _ (v .next-item .result) (v .next-item .ensures .0) (c .before .if1 .left) (c .consider-reference .ensures)
 
 pub consider-item-spec : {M : Type 1} → statement M
-consider-item-spec = tie.close (tie.spec reference-point-requires returns consider-point-requires returns-2)
+consider-item-spec = tie.close (tie.spec next-item-requires returns consider-reference-requires returns-2)

@@ -1,0 +1,30 @@
+use borrow.Author.Needs.{needs}
+use mathlib.Core.Path.{_≡_, _∙_}
+use native.Mathlib.Omega.{arith}
+use lib.ListN.{getD}
+use Rattle.stream.specs.Payload.{payload, rest}
+use Rattle.stream.specs.Laws.Payload.{rest-length}
+use Rattle.scene.proofs.names.bears.Statement.{statement}
+use Rattle.scene.proofs.names.bears.Tie as tie
+
+length-is : (w : tie.After-wide) → let o = w .before .before .before .args in w .wide .result ≡ getD (payload (o .s .now)) (o .q) 0
+unfolding rest
+length-is w = w .wide .ensures .0 ∙ w .before .byte .ensures
+
+add-is-labelled : tie.Need-add-is-labelled
+add-is-labelled c = search needs
+
+byte-requires : tie.Need-byte-requires
+byte-requires c κs = (omega arith, omega (arith, rest-length (c .before .args .s .now) 0))
+
+wide-requires : tie.Need-wide-requires
+wide-requires c κs = search needs
+
+is-labelled-requires : tie.Need-is-labelled-requires
+is-labelled-requires c κs = (omega (arith, length-is c), c .before .before .before .pre .1)
+
+returns : tie.Need-returns
+returns c = rw (← length-is (c .before)) (c .is-labelled .ensures)
+
+pub bears-spec : {M : Type 1} → statement M
+bears-spec = tie.close (tie.spec add-is-labelled byte-requires wide-requires is-labelled-requires returns)
