@@ -46,7 +46,7 @@ pub fn is_named(s: &[u8], p: usize, n: usize, name: &[u8]) -> bool
 }
 
 // Whether an item whose label has n bytes at p, none where n is 0, carries the label of m bytes at q.
-fn is_labelled(s: &[u8], p: usize, n: usize, q: usize, m: usize) -> bool
+pub fn is_labelled(s: &[u8], p: usize, n: usize, q: usize, m: usize) -> bool
     requires { ⌜ (p + n ≤ room (now s)) × (q + m ≤ room (now s)) ⌝ }
     ensures { λ r. ⌜ r ≡ carries (labelBy (payload (now (s .entry))) p n) (part (payload (now (s .entry))) q m) ⌝ }
 {
