@@ -265,7 +265,7 @@ pub fn gather(s: &[u8], vars: usize) -> Gathered
     requires { ⌜ (laidOut (payload (now s)) ≡ true) × Variables (payload (now s)) vars ⌝ }
     ensures { λ r. ⌜ r ≡ gathered (events (sceneOf (payload (now (s .entry))))) noControls ⌝ }
 {
-    let labels = first_label(s);
+    let labels = first_label(s, vars);
     let mut ix = [1u32; 4096];
     index_names(s, vars, labels, &mut ix);
     let f = gather_features(s, labels, &ix);

@@ -265,7 +265,7 @@ pub fn write_warnings(s: &[u8], out: &mut [u32], n: u32) -> Warned
     let none = Warned { ok: true, used: 0 };
     let vars = first_variable(s);
     let view = warn_view(s, vars, out, none);
-    let labels = first_label(s);
+    let labels = first_label(s, vars);
     let mut ix = [1u32; 4096];
     index_names(s, vars, labels, &mut ix);
     let f = warn_features(s, labels, &ix, out, view);

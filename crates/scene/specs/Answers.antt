@@ -136,9 +136,10 @@ pub record Labels (l : List ℕ) (p : ℕ) : Type 0 where
   pub places : placesAt l 0 ≡ placesAt l p
   pub items : itemsAt l 0 ≡ itemsAt l p
 
--- all variables do
+-- all variables do, and these
 pub record Variables (l : List ℕ) (p : ℕ) : Type 0 where
   pub all : variablesAt l 0 ≡ variablesAt l p
+  pub labels : Labels l p
 
 -- ---- keys
 abbrev pub keyBy : code-key.Key → Key

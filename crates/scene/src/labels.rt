@@ -249,9 +249,10 @@ pub fn point_of_label(s: &[u8], p: usize, at: usize, n: usize) -> Spot
     }
 }
 
-// Where to ask for labels from: behind all that carries none, which is passed over once and not for each name.
-pub fn first_label(s: &[u8]) -> usize
+// Where to ask for labels from, which all stand from p on: behind all that carries none, which is passed over once and not for each name.
+pub fn first_label(s: &[u8], p: usize) -> usize
+    requires { ⌜ Labels (payload (now s)) p ⌝ }
     ensures { λ r. ⌜ Labels (payload (now (s .entry))) r ⌝ }
 {
-    records::skip_to(s, 0, 5)
+    records::skip_to(s, p, 5)
 }

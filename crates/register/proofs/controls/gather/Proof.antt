@@ -7,7 +7,7 @@ use Rattle.register.proofs.controls.gather.Statement.{statement}
 use Rattle.register.proofs.controls.gather.Tie as tie
 
 first-label-requires : tie.Need-first-label-requires
-first-label-requires c κs = search needs
+first-label-requires c κs = c .before .pre .1 .labels
 
 slice-aggregate-index-names : tie.Need-slice-aggregate-index-names
 slice-aggregate-index-names c = refl

@@ -16,7 +16,7 @@ warn-view-requires : tie.Need-warn-view-requires
 warn-view-requires c κs = search needs
 
 first-label-requires : tie.Need-first-label-requires
-first-label-requires c κs = search needs
+first-label-requires c κs = c .before .before .before .before .first-variable .ensures .labels
 
 slice-aggregate-index-names : tie.Need-slice-aggregate-index-names
 slice-aggregate-index-names c = refl
