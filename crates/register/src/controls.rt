@@ -19,9 +19,9 @@ use crate::runs::lat_of;
 use crate::runs::next_runs;
 use float::abs;
 use scene::find_label;
-use scene::first_label;
 use scene::index_labels;
 use scene::is_named;
+use scene::first_label;
 use scene::next_feature;
 use scene::next_variable;
 use scene::same_name;
@@ -102,6 +102,20 @@ pub fn is_mentioned(s: &[u8], i: usize, at: usize, n: usize) -> bool
     false
 }
 
+// Before a name is looked up, so many having been before it. An index of the labels is made for the second: it costs a walk over all records, as one name alone does.
+pub fn ready(s: &[u8], labels: usize, ix: &mut [u32], seen: usize) -> usize
+    requires { ⌜ Indexed (payload (now s)) labels (now ix) ⌝ }
+    ensures { λ r. ⌜ Indexed (payload (now (s .entry))) labels (now (ix .exit)) ⌝ }
+{
+    if seen > 1 {
+        return seen;
+    }
+    if seen == 1 {
+        index_labels(s, labels, ix);
+    }
+    seen + 1
+}
+
 // The control point of a name, its label looked for from a position on, of which ix is an index, unless it resolves to nothing or one of the first i host features has it.
 fn add_named(
     s: &[u8],
@@ -139,10 +153,10 @@ pub struct Featured {
     pub count: usize,
 }
 
-fn gather_features(s: &[u8], labels: usize, ix: &[u32]) -> Featured
+fn gather_features(s: &[u8], labels: usize, ix: &mut [u32]) -> Featured
     requires { ⌜ Labels (payload (now s)) labels × Indexed (payload (now s)) labels (now ix) ⌝ }
     ensures { λ r. ⌜ r .controls ≡ gathered (featureEvents (sceneOf (payload (now (s .entry)))) 0 (featuresAt (payload (now (s .entry))) 0)) noControls ⌝ }
-    ensures { λ r. ⌜ r .count ≡ length (featuresAt (payload (now (s .entry))) 0) ⌝ }
+    ensures { λ r. ⌜ (r .count ≡ length (featuresAt (payload (now (s .entry))) 0)) × Indexed (payload (now (s .entry))) labels (now (ix .exit)) ⌝ }
 {
     let mut g = no_controls();
     let mut q = 0usize;
@@ -155,6 +169,7 @@ fn gather_features(s: &[u8], labels: usize, ix: &[u32]) -> Featured
                 count: i,
             };
         }
+        ready(s, labels, ix, i);
         g = add_named(s, labels, ix, g, i, f.at, f.len, f.lon, f.lat);
         q = f.next;
         i += 1;
@@ -202,7 +217,7 @@ fn gather_variables(
     s: &[u8],
     vars: usize,
     labels: usize,
-    ix: &[u32],
+    ix: &mut [u32],
     g: Gathered,
     features: usize,
 ) -> Gathered
@@ -214,6 +229,7 @@ fn gather_variables(
     let mut at = 0usize;
     let mut len = 0usize;
     let mut q = vars;
+    let mut seen = features;
     loop {
         let v = next_variable(s, q);
         if !v.some {
@@ -225,38 +241,10 @@ fn gather_variables(
         len = v.len;
         if is_lon(s, at, len) {
             let from = runs[len - 2];
+            seen = ready(s, labels, ix, seen);
             all = add_lon(s, labels, ix, all, features, from, at, len - 4, v.value);
         }
         q = v.next;
-    }
-}
-
-// Whether a label is looked up at all: there is a host feature, or a variable `<L>_lon` from `vars` on.
-fn names_points(s: &[u8], vars: usize) -> bool {
-    let f = next_feature(s, 0);
-    if f.some {
-        return true;
-    }
-    let mut q = vars;
-    loop {
-        let v = next_variable(s, q);
-        if !v.some {
-            return false;
-        }
-        if is_lon(s, v.at, v.len) {
-            return true;
-        }
-        q = v.next;
-    }
-}
-
-// An index of the labels. Where none is looked up it stays as it is: it would cost a walk over all records.
-pub fn index_names(s: &[u8], vars: usize, labels: usize, ix: &mut [u32])
-    requires { ⌜ Indexed (payload (now s)) labels (now ix) ⌝ }
-    ensures { λ r. ⌜ Indexed (payload (now (s .entry))) labels (now (ix .exit)) ⌝ }
-{
-    if names_points(s, vars) {
-        index_labels(s, labels, ix);
     }
 }
 
@@ -267,8 +255,7 @@ pub fn gather(s: &[u8], vars: usize) -> Gathered
 {
     let labels = first_label(s, vars);
     let mut ix = [1u32; 4096];
-    index_names(s, vars, labels, &mut ix);
-    let f = gather_features(s, labels, &ix);
+    let f = gather_features(s, labels, &mut ix);
     let g = f.controls;
-    gather_variables(s, vars, labels, &ix, g, f.count)
+    gather_variables(s, vars, labels, &mut ix, g, f.count)
 }

@@ -15,9 +15,9 @@ ghost use Rattle.scene.specs.Index.{Indexed};
 ghost use Rattle.scene.specs.Laws.Rising.{Rising};
 ghost use Rattle.register.specs.Register.{suffixLon, suffixLat, resolved, mentioned, featureEvents, variableEvents, lonEvent, warningsIn, controlsOf, viewWarnings, halfWarnings, anyDeclared, ignoredWith, registerWarnings};
 ghost use Rattle.register.specs.Warned.{Sheet, pushed, allPushed, fateOf};
-use crate::controls::index_names;
 use crate::controls::is_lon;
 use crate::controls::is_mentioned;
+use crate::controls::ready;
 use crate::declared::anchor_of;
 use crate::declared::bearing_of;
 use crate::declared::is_px;
@@ -26,8 +26,8 @@ use crate::runs::common;
 use crate::runs::lat_of;
 use crate::runs::next_runs;
 use scene::find_label;
-use scene::first_label;
 use scene::first_variable;
+use scene::first_label;
 use scene::next_feature;
 use scene::next_variable;
 use scene::value_of;
@@ -81,10 +81,10 @@ pub struct Counted {
 }
 
 // Of the host features.
-fn warn_features(s: &[u8], labels: usize, ix: &[u32], out: &mut [u32], w: Warned) -> Counted
+fn warn_features(s: &[u8], labels: usize, ix: &mut [u32], out: &mut [u32], w: Warned) -> Counted
     requires { ⌜ (room (now s) < 4294967296) × (w .used ≤ length (now out)) × Labels (payload (now s)) labels × Indexed (payload (now s)) labels (now ix) ⌝ }
     ensures { λ r. ⌜ record { out = now (out .exit); said = r .warned } ≡ allPushed (warningsIn (featureEvents (sceneOf (payload (now (s .entry)))) 0 (featuresAt (payload (now (s .entry))) 0))) (record { out = now (out .entry); said = w }) ⌝ }
-    ensures { λ r. ⌜ (r .warned .used ≤ length (now (out .exit))) × (r .count ≡ length (featuresAt (payload (now (s .entry))) 0)) ⌝ }
+    ensures { λ r. ⌜ (r .warned .used ≤ length (now (out .exit))) × (r .count ≡ length (featuresAt (payload (now (s .entry))) 0)) × Indexed (payload (now (s .entry))) labels (now (ix .exit)) ⌝ }
 {
     let mut warned = w;
     let mut q = 0usize;
@@ -97,6 +97,7 @@ fn warn_features(s: &[u8], labels: usize, ix: &[u32], out: &mut [u32], w: Warned
                 count: i,
             };
         }
+        ready(s, labels, ix, i);
         if fate(s, labels, ix, i, f.at, f.len) != 0 {
             warned = push(out, warned, 2, i as u32);
         }
@@ -141,7 +142,7 @@ fn warn_variables(
     s: &[u8],
     vars: usize,
     labels: usize,
-    ix: &[u32],
+    ix: &mut [u32],
     out: &mut [u32],
     w: Warned,
     features: usize,
@@ -156,6 +157,7 @@ fn warn_variables(
     let mut len = 0usize;
     let mut q = vars;
     let mut i = 0usize;
+    let mut seen = features;
     loop {
         let v = next_variable(s, q);
         if !v.some {
@@ -167,6 +169,7 @@ fn warn_variables(
         len = v.len;
         if is_lon(s, at, len) {
             let from = runs[len - 2];
+            seen = ready(s, labels, ix, seen);
             warned = warn_lon(
                 s,
                 labels,
@@ -267,10 +270,9 @@ pub fn write_warnings(s: &[u8], out: &mut [u32], n: u32) -> Warned
     let view = warn_view(s, vars, out, none);
     let labels = first_label(s, vars);
     let mut ix = [1u32; 4096];
-    index_names(s, vars, labels, &mut ix);
-    let f = warn_features(s, labels, &ix, out, view);
+    let f = warn_features(s, labels, &mut ix, out, view);
     let featured = f.warned;
-    let all = warn_variables(s, vars, labels, &ix, out, featured, f.count);
+    let all = warn_variables(s, vars, labels, &mut ix, out, featured, f.count);
     let half = warn_half(s, vars, out, all);
     warn_ignored(s, vars, out, half, n)
 }

@@ -1,4 +1,3 @@
-use borrow.Author.Needs.{needs}
 use mathlib.Core.Path.{refl, sym}
 use Rattle.scene.specs.Laws.Index.{nothing-known}
 use Rattle.scene.specs.Laws.Rising.{variables-rising}
@@ -9,26 +8,20 @@ use Rattle.register.proofs.controls.gather.Tie as tie
 first-label-requires : tie.Need-first-label-requires
 first-label-requires c κs = c .before .pre .1 .labels
 
-slice-aggregate-index-names : tie.Need-slice-aggregate-index-names
-slice-aggregate-index-names c = refl
-
-index-names-requires : tie.Need-index-names-requires
-index-names-requires c κs = nothing-known _ (c .before .first-label .result)
-
 slice-aggregate-gather-features : tie.Need-slice-aggregate-gather-features
-slice-aggregate-gather-features c = sym (c .before .before .index-names .ensures .size)
+slice-aggregate-gather-features c = refl
 
 gather-features-requires : tie.Need-gather-features-requires
-gather-features-requires c κs = (c .before .before .before .before .first-label .ensures, c .before .before .index-names .ensures)
+gather-features-requires c κs = (c .before .first-label .ensures, nothing-known _ (c .before .first-label .result))
 
 slice-aggregate-gather-variables : tie.Need-slice-aggregate-gather-variables
-slice-aggregate-gather-variables c = sym (c .before .before .before .before .before .index-names .ensures .size)
+slice-aggregate-gather-variables c = sym (c .before .before .before .gather-features .ensures .1 .1 .size)
 
 gather-variables-requires : tie.Need-gather-variables-requires
-gather-variables-requires c κs = (features-sized _ (c .before .before .gather-features .ensures .0), c .before .before .gather-features .ensures .1, variables-rising _ (c .before .before .before .before .before .before .before .before .before .pre .0), c .before .before .before .before .before .before .before .first-label .ensures, c .before .before .before .before .before .before .before .before .before .pre .1, c .before .before .before .before .before .index-names .ensures)
+gather-variables-requires c κs = (features-sized _ (c .before .before .before .gather-features .ensures .0), c .before .before .before .gather-features .ensures .1 .0, variables-rising _ (c .before .before .before .before .before .before .before .pre .0), c .before .before .before .before .before .first-label .ensures, c .before .before .before .before .before .before .before .pre .1, c .before .before .before .gather-features .ensures .1 .1)
 
 returns : tie.Need-returns
-returns c = all-gathered _ (c .before .before .before .gather-features .ensures .0) (c .gather-variables .ensures)
+returns c = all-gathered _ (c .before .before .before .before .before .gather-features .ensures .0) (c .before .gather-variables .ensures)
 
 pub gather-spec : {M : Type 1} → statement M
-gather-spec = tie.close (tie.spec first-label-requires slice-aggregate-index-names index-names-requires slice-aggregate-gather-features gather-features-requires slice-aggregate-gather-variables gather-variables-requires returns)
+gather-spec = tie.close (tie.spec first-label-requires slice-aggregate-gather-features gather-features-requires slice-aggregate-gather-variables gather-variables-requires returns)

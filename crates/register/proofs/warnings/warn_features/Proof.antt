@@ -1,72 +1,69 @@
 use borrow.Author.Needs.{needs}
 use borrow.Author.Tests.{not-false}
-use mathlib.Core.Path.{_≡_, _∙_}
+use mathlib.Core.Path.{_≡_, sym, _∙_}
 use mathlib.Core.Logic.{⊎-elim, inl, inr}
 use mathlib.Core.Bool.{false, not}
 use Prim.Native.Nat.{_-_}
 use native.Mathlib.Omega.{arith}
 use Rattle.stream.specs.Payload.{payload, room}
 use Rattle.scene.specs.Answers.{Within}
+use Rattle.scene.specs.Index.{Indexed}
 use Rattle.register.proofs.Pushing.{sheet, sheets}
 use Rattle.register.proofs.Telling.{Told, none-told, all-told, one-told}
 use Rattle.register.proofs.warnings.warn_features.Statement.{statement}
 use Rattle.register.proofs.warnings.warn_features.Tie as tie
 
 abbrev Inv-loop : tie.InvT-loop
-Inv-loop s labels ix out₀ warned₀ q₀ i₀ out warned q i = Told (payload s) (sheet out₀ warned₀) (sheet out warned) q i
+Inv-loop s labels ix₀ out₀ warned₀ q₀ i₀ ix out warned q i = Told (payload s) (sheet out₀ warned₀) (sheet out warned) q i × Indexed (payload s) labels ix
 
 abbrev μ-loop : tie.MeasureT-loop
-μ-loop s labels ix out₀ warned₀ q₀ i₀ out warned q i = room s - q
+μ-loop s labels ix₀ out₀ warned₀ q₀ i₀ ix out warned q i = room s - q
 
-within : (v : tie.After-next-feature Inv-loop μ-loop) → not (v .next-feature .result .some) ≡ false → Within (room (v .before .before .before .before .before .args .s .now)) (v .before .loop .q) (v .next-feature .result .at) (v .next-feature .result .len) (v .next-feature .result .next)
-within v h = v .next-feature .ensures .1 (not-false _ h)
+within : (c : tie.After-next-feature Inv-loop μ-loop) → not (c .next-feature .result .some) ≡ false → Within (room (c .before .before .before .before .before .args .s .now)) (c .before .loop .q) (c .next-feature .result .at) (c .next-feature .result .len) (c .next-feature .result .next)
+within c h = c .next-feature .ensures .1 (not-false _ h)
 
 loop-holds : tie.Need-loop-holds Inv-loop μ-loop
-loop-holds c = none-told _ _ (c .before .before .before .pre .1)
+loop-holds c = (none-told _ _ (c .before .before .before .pre .1), c .before .before .before .pre .3)
 
 next-feature-requires : tie.Need-next-feature-requires Inv-loop μ-loop
 next-feature-requires c κs = search needs
 
 same-length : tie.Need-same-length Inv-loop μ-loop
-same-length c = c .before .before .before .loop .inv .kept
+same-length c = c .before .before .before .loop .inv .1 .size ∙ sym (c .before .before .before .before .before .before .before .pre .3 .size)
+
+same-length-2 : tie.Need-same-length-2 Inv-loop μ-loop
+same-length-2 c = c .before .before .before .loop .inv .0 .kept
 
 returns : tie.Need-returns Inv-loop μ-loop
-returns c = all-told (c .before .before .before .loop .inv) (c .before .before .next-feature .result) (c .before .before .next-feature .ensures .0) (c .if1 .taken)
+returns c =
+    let t = all-told (c .before .before .before .loop .inv .0) (c .before .before .next-feature .result) (c .before .before .next-feature .ensures .0) (c .if1 .taken) in
+    (t .0, (t .1 .0, t .1 .1, c .before .before .before .loop .inv .1))
+
+ready-requires : tie.Need-ready-requires Inv-loop μ-loop
+ready-requires c κs = c .before .before .before .before .loop .inv .1
 
 fate-requires : tie.Need-fate-requires Inv-loop μ-loop
-fate-requires c κs = (within (c .before .before) (c .if1 .left) .name, c .before .before .before .before .before .before .before .pre .2, c .before .before .before .before .before .before .before .pre .3)
+fate-requires c κs = (within (c .before .before .before .before .before .before .before) (c .before .before .before .before .before .if1 .left) .name, c .before .before .before .before .before .before .before .before .before .before .before .before .pre .2, c .before .before .before .ready .ensures)
 
 cast-push : tie.Need-cast-push Inv-loop μ-loop
-cast-push c = let v = c .before .before .before .before .before in omega (arith, within v (c .before .before .before .if1 .left), v .before .loop .inv .short, v .before .before .before .before .before .pre .0)
+cast-push c = omega (arith, within (c .before .before .before .before .before .before .before .before .before .before) (c .before .before .before .before .before .before .before .before .if1 .left), c .before .before .before .before .before .before .before .before .before .before .before .loop .inv .0 .short, c .before .before .before .before .before .before .before .before .before .before .before .before .before .before .before .pre .0)
 
 push-requires : tie.Need-push-requires Inv-loop μ-loop
-push-requires c κs = c .before .before .before .before .before .before .loop .inv .fits
+push-requires c κs = c .before .before .before .before .before .before .before .before .before .before .before .loop .inv .0 .fits
 
 add-i : tie.Need-add-i Inv-loop μ-loop
-add-i c = omega (arith, within (c .before .before .before .before) (c .before .before .if1 .left), c .before .before .before .before .before .loop .inv .short)
+add-i c = omega (arith, within (c .before .before .before .before .before .before .before .before .before) (c .before .before .before .before .before .before .before .if1 .left), c .before .before .before .before .before .before .before .before .before .before .loop .inv .0 .short)
 
 loop-less : tie.Need-loop-less Inv-loop μ-loop
-loop-less c = omega (arith, within (c .before .before .before .before) (c .before .before .if1 .left))
+loop-less c = omega (arith, within (c .before .before .before .before .before .before .before .before .before) (c .before .before .before .before .before .before .before .if1 .left))
 
 loop-again : tie.Need-loop-again Inv-loop μ-loop
 loop-again c =
-    let v = c .before .before .before .before in
-    one-told (v .before .loop .inv) (v .next-feature .result) (v .next-feature .ensures .0) (c .before .before .if1 .left) (within v (c .before .before .if1 .left) .more) (c .before .fate .ensures)
-    (⊎-elim (λ w. inl (w .0 .taken, sheets (w .5) (w .6) ∙ w .2 .ensures)) (λ w. inr (w .0 .left, sheets (w .1) (w .2))) (c .if2 .came))
+    let v = c .before .before .before .before .before .before .before .before .before in (
+      one-told (c .before .before .before .before .before .before .before .before .before .before .loop .inv .0) (v .next-feature .result) (v .next-feature .ensures .0) (c .before .before .before .before .before .before .before .if1 .left) (within v (c .before .before .before .before .before .before .before .if1 .left) .more) (c .before .fate .ensures)
+          (⊎-elim (λ w. inl (w .0 .taken, sheets (w .5) (w .6) ∙ w .2 .ensures)) (λ w. inr (w .0 .left, sheets (w .1) (w .2))) (c .if2 .came)),
+      c .before .before .before .before .before .ready .ensures,
+    )
 
 pub warn-features-spec : {M : Type 1} → statement M
-warn-features-spec =
-    tie.close
-    (tie.spec
-    Inv-loop
-    μ-loop
-    loop-holds
-    next-feature-requires
-    same-length
-    returns
-    fate-requires
-    cast-push
-    push-requires
-    add-i
-    loop-less
-    loop-again)
+warn-features-spec = tie.close (tie.spec Inv-loop μ-loop loop-holds next-feature-requires same-length same-length-2 returns ready-requires fate-requires cast-push push-requires add-i loop-less loop-again)
