@@ -15,7 +15,8 @@ use crate::records::values_width;
 use crate::records::wide;
 use crate::records::wide16;
 use stream::Float64;
-use stream::float;
+use stream::float_of;
+use stream::long;
 
 // Whether a float is finite and, for a canvas measure, within the limit.
 fn is_fine(canvas: bool, x: Float64) -> bool
@@ -38,7 +39,7 @@ fn all_fine(part: &[u8], off: usize, canvas: bool, p: usize, n: usize) -> bool
     ensures { λ r. ⌜ r ≡ fines (rest (now (part .entry)) off) canvas p n ⌝ }
 {
     for i in 0..n {
-        if !is_fine(canvas, float(part, off, p + 8 * i)) {
+        if !is_fine(canvas, float_of(long(part, off, p + 8 * i))) {
             return false;
         }
     }

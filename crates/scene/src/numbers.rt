@@ -32,7 +32,7 @@ pub fn number(s: &[u8], p: usize) -> f64
     requires { ⌜ p + 8 ≤ room (now s) ⌝ }
     ensures { λ r. ⌜ r ≡ numberAt (payload (now (s .entry))) p ⌝ }
 {
-    match stream::float(s, 0, p) {
+    match stream::float_of(stream::long(s, 0, p)) {
         Float64::Finite(v) => v,
         Float64::NotFinite => 0.0,
     }

@@ -9,6 +9,8 @@ ghost use Rattle.stream.specs.Payload.{room, placeOf, rest, partFrom, St
 
 mod numbers;
 
+pub use numbers::float_of;
+
 // The bytes of a block, and how many of them come before its check.
 const BLOCK: usize = 512;
 
@@ -138,7 +140,8 @@ pub fn word(part: &[u8], off: usize, i: usize) -> u32
     numbers::join32(short(part, off, i), short(part, off, i + 2))
 }
 
-fn long(part: &[u8], off: usize, i: usize) -> u64
+// A caller that wants a float's value soon takes its bits from here and `float_of` itself: a number comes back in a register, an enum in memory.
+pub fn long(part: &[u8], off: usize, i: usize) -> u64
     requires { ⌜ (off ≤ room (now part)) × (i + 8 ≤ length (rest (now part) off)) ⌝ }
     ensures { λ r. ⌜ r ≡ u64At (rest (now (part .entry)) off) i ⌝ }
 {

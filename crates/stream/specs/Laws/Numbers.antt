@@ -1,5 +1,5 @@
--- Numbers in what is left of a list, how large they are in a list of bytes, and that a float that was read is finite.
-use mathlib.Core.Path.{_≡_}
+-- Numbers in what is left of a list, how large they are in a list of bytes, and floats that were read.
+use mathlib.Core.Path.{_≡_, ap, _∙_}
 use mathlib.Core.Bool.{true}
 use mathlib.Core.List.{List}
 use Prim.Native.Nat.{ℕ, _+_, _<_}
@@ -10,6 +10,7 @@ use lib.Seq.{getD-drop}
 use lib.Ieee.{Float, nan, inf, fin, binary64, ofBits}
 use lib.Ieee.Scale.{finite}
 use Rattle.stream.specs.Numbers.{u16At, u32At, u64At, floatOf, floatAt}
+use Rattle.stream.specs.declared.Float64.{Float64}
 use Rattle.stream.specs.declared.Float64.the-variants.{Finite}
 
 -- ---- behind the first k
@@ -58,3 +59,8 @@ of-finite (fin s m n) {x} e = let k : x ≡ fin s m n = cc in rw k
 pub float-finite : (l : List ℕ) (i : ℕ) {x : Float} → floatAt l i ≡ Finite x → finite x ≡ true
 unfolding floatAt
 float-finite l i e = of-finite (ofBits binary64 (u64At l i)) e
+
+-- a float, by its bits
+pub float-read : (l : List ℕ) (p : ℕ) {b : ℕ} {f : Float64} → b ≡ u64At l p → f ≡ floatOf (ofBits binary64 b) → f ≡ floatAt l p
+unfolding floatAt
+float-read l p e g = g ∙ ap (λ (n : ℕ). floatOf (ofBits binary64 n)) e

@@ -4,6 +4,7 @@ use mathlib.Core.Bool.{true}
 use Prim.Native.Nat.{_-_, _≤_}
 use native.Mathlib.Omega.{arith}
 use Rattle.stream.specs.Payload.{rest}
+use Rattle.stream.specs.Laws.Numbers.{float-read}
 use Rattle.stream.specs.Laws.Payload.{rest-length}
 use Rattle.records.specs.Records.{allTo}
 use Rattle.records.specs.Floats.{fine, fines}
@@ -21,20 +22,23 @@ loop-holds : tie.Need-loop-holds Inv-loop μ-loop
 unfolding allTo
 loop-holds c = search needs
 
-mul-float : tie.Need-mul-float Inv-loop μ-loop
-mul-float c = omega (arith, rest-length (c .before .before .before .args .part .now) (c .before .before .before .args .off))
+mul-long : tie.Need-mul-long Inv-loop μ-loop
+mul-long c = omega (arith, rest-length (c .before .before .before .args .part .now) (c .before .before .before .args .off))
 
-add-float : tie.Need-add-float Inv-loop μ-loop
-add-float c = omega (arith, rest-length (c .before .before .before .args .part .now) (c .before .before .before .args .off))
+add-long : tie.Need-add-long Inv-loop μ-loop
+add-long c = omega (arith, rest-length (c .before .before .before .args .part .now) (c .before .before .before .args .off))
 
-float-requires : tie.Need-float-requires Inv-loop μ-loop
-float-requires c κs = search needs
+long-requires : tie.Need-long-requires Inv-loop μ-loop
+long-requires c κs = search needs
+
+float-of-requires : tie.Need-float-of-requires Inv-loop μ-loop
+float-of-requires c κs = search needs
 
 is-fine-requires : tie.Need-is-fine-requires Inv-loop μ-loop
 is-fine-requires c κs = search needs
 
 returns : tie.Need-returns Inv-loop μ-loop
-returns c = sym (allTo-fails _ _ (c .before .before .before .before .loop .i) (c .before .before .before .loop-test .taken) (ap (fine (c .before .before .before .before .before .before .args .canvas)) (sym (c .before .before .float .ensures)) ∙ was-false (c .before .is-fine .ensures) (c .if1 .taken)))
+returns c = sym (allTo-fails _ _ (c .before .before .before .before .before .loop .i) (c .before .before .before .before .loop-test .taken) (ap (fine (c .before .before .before .before .before .before .before .args .canvas)) (sym (float-read _ _ (c .before .before .before .long .ensures) (c .before .before .float-of .ensures))) ∙ was-false (c .before .is-fine .ensures) (c .if1 .taken)))
 
 add-i : tie.Need-add-i Inv-loop μ-loop
 add-i c = search needs
@@ -43,7 +47,7 @@ loop-less : tie.Need-loop-less Inv-loop μ-loop
 loop-less c = search needs
 
 loop-again : tie.Need-loop-again Inv-loop μ-loop
-loop-again c = (omega arith, allTo-more _ _ (c .before .before .before .before .loop .inv .1) (ap (fine (c .before .before .before .before .before .before .args .canvas)) (sym (c .before .before .float .ensures)) ∙ was-true (c .before .is-fine .ensures) (c .if1 .left)))
+loop-again c = (omega arith, allTo-more _ _ (c .before .before .before .before .before .loop .inv .1) (ap (fine (c .before .before .before .before .before .before .before .args .canvas)) (sym (float-read _ _ (c .before .before .before .long .ensures) (c .before .before .float-of .ensures))) ∙ was-true (c .before .is-fine .ensures) (c .if1 .left)))
 
 returns-2 : tie.Need-returns-2 Inv-loop μ-loop
 returns-2 c =
@@ -57,9 +61,10 @@ all-fine-spec =
     Inv-loop
     μ-loop
     loop-holds
-    mul-float
-    add-float
-    float-requires
+    mul-long
+    add-long
+    long-requires
+    float-of-requires
     is-fine-requires
     returns
     add-i

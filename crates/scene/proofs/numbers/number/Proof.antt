@@ -1,12 +1,16 @@
 use borrow.Author.Needs.{needs}
 use native.Mathlib.Omega.{arith}
+use Rattle.stream.specs.Laws.Numbers.{float-read}
 use Rattle.stream.specs.Laws.Payload.{rest-length}
 use Rattle.scene.proofs.Values.{number-finite, number-other}
 use Rattle.scene.proofs.numbers.number.Statement.{statement}
 use Rattle.scene.proofs.numbers.number.Tie as tie
 
-float-requires : tie.Need-float-requires
-float-requires c κs = (omega arith, omega (arith, rest-length (c .before .args .s .now) 0))
+long-requires : tie.Need-long-requires
+long-requires c κs = (omega arith, omega (arith, rest-length (c .before .args .s .now) 0))
+
+float-of-requires : tie.Need-float-of-requires
+float-of-requires c κs = search needs
 
 enum-known-v : tie.Need-enum-known-v
 enum-known-v c = search needs
@@ -17,14 +21,14 @@ enum-told c = search needs
 returns : tie.Need-returns
 returns c =
     let at = c .before .before .before in
-    let o = at .before .before in
-    number-finite (o .args .s .now) (o .args .p) (at .float .ensures) (c .before .v .given .1)
+    let o = at .before .before .before in
+    number-finite (o .args .s .now) (o .args .p) (float-read _ _ (at .before .long .ensures) (at .float-of .ensures)) (c .before .v .given .1)
 
 returns-2 : tie.Need-returns-2
 returns-2 c =
     let at = c .before .before in
-    let o = at .before .before in
-    number-other (o .args .s .now) (o .args .p) (at .float .ensures) (c .enum-told .given .1)
+    let o = at .before .before .before in
+    number-other (o .args .s .now) (o .args .p) (float-read _ _ (at .before .long .ensures) (at .float-of .ensures)) (c .enum-told .given .1)
 
 pub number-spec : {M : Type 1} → statement M
-number-spec = tie.close (tie.spec float-requires enum-known-v enum-told returns returns-2)
+number-spec = tie.close (tie.spec long-requires float-of-requires enum-known-v enum-told returns returns-2)
