@@ -2,7 +2,7 @@
 use mathlib.Core.Path.{_≡_}
 use mathlib.Core.Bool.{cond}
 use mathlib.Core.List.{List, [], _∷_}
-use Prim.Native.Nat.{ℕ, _+_}
+use Prim.Native.Nat.{ℕ, _+_, _≤_, _<_}
 use lib.ListN.{drop}
 use Rattle.records.specs.declared.records.Record.{Record}
 use Rattle.records.specs.declared.records.Step.the-variants.{Got}
@@ -23,3 +23,7 @@ pub record Standing (l : List ℕ) (t k at next : ℕ) : Type 0 where
 -- the first record that was asked for, and those from the next position on
 unfoldable pub hitsOf : List ℕ → ℕ → ℕ → Hit → List (List ℕ)
 hitsOf l t k h = cond (h .some) (drop (h .at) l ∷ recordsAt l (h .next) t k) []
+
+-- records of greater tags, up to items, stand from q on, if from p on
+abbrev pub Later : List ℕ → ℕ → ℕ → ℕ → Type 0
+Later l tag p q = (t k : ℕ) → tag < t → t ≤ 6 → recordsAt l p t k ≡ recordsAt l q t k

@@ -17,4 +17,5 @@ pub use refusals::refusal;
 pub use search::Hit;
 pub use search::find;
 pub use search::record_at;
+pub use search::seek;
 pub use search::skip_to;

@@ -8,7 +8,7 @@ ghost use Rattle.stream.specs.Payload.{payload};
 ghost use Rattle.records.specs.Records.{recordOf};
 ghost use Rattle.records.specs.Walk.{tagOf};
 ghost use Rattle.records.specs.Search.{keyOf, past, turnOf, recordsAt};
-ghost use Rattle.records.specs.Hits.{Standing, hitsOf};
+ghost use Rattle.records.specs.Hits.{Standing, hitsOf, Later};
 use crate::records::Record;
 use crate::records::Step;
 use crate::records::next_record;
@@ -130,6 +130,16 @@ pub fn find(s: &[u8], p: usize, tag: u8, key: u8) -> Hit
     ensures { λ r. ⌜ recordsAt (payload (now (s .entry))) p tag key ≡ hitsOf (payload (now (s .entry))) tag key r ⌝ }
     ensures { λ r. ⌜ (r .some ≡ true → Standing (payload (now (s .entry))) tag key (r .at) (r .next)) ⌝ }
     ensures { λ r. ⌜ p ≤ r .at ⌝ }
+{
+    seek(s, p, tag, key)
+}
+
+// The same, and that up to where it ends no record has a greater tag.
+pub fn seek(s: &[u8], p: usize, tag: u8, key: u8) -> Hit
+    ensures { λ r. ⌜ recordsAt (payload (now (s .entry))) p tag key ≡ hitsOf (payload (now (s .entry))) tag key r ⌝ }
+    ensures { λ r. ⌜ (r .some ≡ true → Standing (payload (now (s .entry))) tag key (r .at) (r .next)) ⌝ }
+    ensures { λ r. ⌜ p ≤ r .at ⌝ }
+    ensures { λ r. ⌜ Later (payload (now (s .entry))) tag p (r .at) ⌝ }
 {
     let mut q = p;
     loop {

@@ -18,8 +18,8 @@ use Rattle.records.specs.declared.search.Hit.{Hit}
 use Rattle.records.specs.Records.{choiceWidth}
 use Rattle.records.specs.Search.{keyOf, turnOf, recordsAt}
 use Rattle.records.specs.Walk.{tagOf}
-use Rattle.records.specs.Hits.{Standing, hitsOf}
-use Rattle.records.specs.Laws.Search.{search-got, standing-less, standing-fits, choice-within, NameFound, PointsFound, PathFound}
+use Rattle.records.specs.Hits.{Standing, hitsOf, Later}
+use Rattle.records.specs.Laws.Search.{search-got, passed-over, standing-less, standing-fits, choice-within, NameFound, PointsFound, PathFound}
 use Rattle.scene.specs.Scene.{none, some, first}
 
 -- an answer that says of itself that there is none
@@ -29,6 +29,13 @@ nothing e = absurd (subst T (sym e) tt)
 -- what `find` ensures
 abbrev pub Answer : List ℕ → ℕ → ℕ → ℕ → Hit → Type 0
 Answer s p t k h = (recordsAt (payload s) p t k ≡ hitsOf (payload s) t k h) × ((h .some ≡ true → Standing (payload s) t k (h .at) (h .next)) × (p ≤ h .at))
+
+-- and `seek`
+abbrev pub Sought : List ℕ → ℕ → ℕ → ℕ → Hit → Type 0
+Sought s p t k h = (recordsAt (payload s) p t k ≡ hitsOf (payload s) t k h) × ((h .some ≡ true → Standing (payload s) t k (h .at) (h .next)) × ((p ≤ h .at) × Later (payload s) t p (h .at)))
+
+pub answer : (s : List ℕ) (p t k : ℕ) (h : Hit) → Sought s p t k h → Answer s p t k h
+answer s p t k h a = (a .0, (a .1 .0, a .1 .1 .0))
 
 -- a record of tag t and key k was found from p on
 pub record One (s : List ℕ) (p t k : ℕ) (h : Hit) : Type 0 where
@@ -60,6 +67,10 @@ module _ {s : List ℕ} {p t k : ℕ} {h : Hit} (o : One s p t k h) where
   pub found-again : recordsAt (payload s) (h .at) t k ≡ drop (h .at) (payload s) ∷ recordsAt (payload s) (h .next) t k
   unfolding turnOf
   found-again = let r = o .stands in search-got (payload s) (h .at) t k (r .got) ∙ rw (eq-eqb (tagOf (r .is)) t (r .tag), eq-eqb (keyOf (r .is)) k (r .key), r .ends) refl
+
+  -- records of greater tags stand behind it
+  pub beyond : Later (payload s) t p (h .at) → Later (payload s) t p (h .next)
+  beyond a u j m n = let r = o .stands in a u j m n ∙ rw (r .ends) (passed-over (payload s) (h .at) u j (r .got) (omega (arith, r .tag)) n)
 
   module _ {A : Type 0} (f : List ℕ → A) {x : A} (e : f (drop (h .at) (payload s)) ≡ x) where
     pub one-listed : map f (recordsAt (payload s) p t k) ≡ x ∷ map f (recordsAt (payload s) (h .next) t k)

@@ -19,6 +19,7 @@ use crate::sections::next_path;
 use crate::sections::next_place;
 use crate::sections::points_of;
 use records::find;
+use records::seek;
 use records::wide16;
 
 // Where in the source a label is defined. Of equal ones the first stays.
@@ -34,6 +35,12 @@ pub struct Best {
     pub key: Key,
     pub x: f64,
     pub y: f64,
+}
+
+// The best of the places, and where the items are asked for: behind the places.
+pub struct Placed {
+    pub best: Best,
+    pub end: usize,
 }
 
 // The mean of points, each sum from 0 in their order.
@@ -157,9 +164,10 @@ fn consider_place(s: &[u8], b: Best, q: usize, i: usize) -> Best
 }
 
 // The best of the places from p on, the name having n bytes at `at`. Only those that carry it are read whole.
-fn best_place(s: &[u8], p: usize, at: usize, n: usize) -> Best
+fn best_place(s: &[u8], p: usize, at: usize, n: usize) -> Placed
     requires { ⌜ at + n ≤ room (now s) ⌝ }
-    ensures { λ r. ⌜ bestBy r ≡ bestPlace (part (payload (now (s .entry))) at n) 0 (placesAt (payload (now (s .entry))) p) none ⌝ }
+    ensures { λ r. ⌜ bestBy (r .best) ≡ bestPlace (part (payload (now (s .entry))) at n) 0 (placesAt (payload (now (s .entry))) p) none ⌝ }
+    ensures { λ r. ⌜ itemsAt (payload (now (s .entry))) p ≡ itemsAt (payload (now (s .entry))) (r .end) ⌝ }
 {
     let mut b = Best {
         some: false,
@@ -175,9 +183,9 @@ fn best_place(s: &[u8], p: usize, at: usize, n: usize) -> Best
     let mut q = p;
     let mut i = 0usize;
     loop {
-        let h = find(s, q, 5, 0);
+        let h = seek(s, q, 5, 0);
         if !h.some {
-            return b;
+            return Placed { best: b, end: h.at };
         }
         if is_called(s, h.at + 1, at, n) {
             b = consider_place(s, b, h.at, i);
@@ -241,7 +249,9 @@ pub fn point_of_label(s: &[u8], p: usize, at: usize, n: usize) -> Spot
     requires { ⌜ at + n ≤ room (now s) ⌝ }
     ensures { λ r. ⌜ spotBy r ≡ pointOfLabel (part (payload (now (s .entry))) at n) (placesAt (payload (now (s .entry))) p) (itemsAt (payload (now (s .entry))) p) ⌝ }
 {
-    let b = best_item(s, p, at, n, best_place(s, p, at, n));
+    let placed = best_place(s, p, at, n);
+    let places = placed.best;
+    let b = best_item(s, placed.end, at, n, places);
     Spot {
         some: b.some,
         x: b.x,

@@ -8,12 +8,13 @@ use native.Mathlib.Omega.{arith}
 use lib.ListN.{length, getD, drop, length-drop}
 use lib.Seq.{getD-drop}
 use lib.Dec.{eqb, ltb}
-use borrow.Author.Tests.{eq-eqb, eqb-true, ne-eqb, le-ltb}
+use borrow.Author.Tests.{eq-eqb, eqb-true, ne-eqb, lt-ltb, le-ltb, ltb-false}
 use Rattle.stream.specs.Numbers.{u16At}
 use Rattle.records.specs.declared.records.Record.{Record}
 use Rattle.records.specs.declared.records.Record.the-variants.{Rescale, Choice, Feature, Variable, Place, Item, Points, Path}
 use Rattle.records.specs.declared.records.Step.{Step}
 use Rattle.records.specs.declared.records.Step.the-variants.{Got, End, Bad}
+use Rattle.records.specs.declared.search.Turn.{Turn}
 use Rattle.records.specs.declared.search.Turn.the-variants.{Here, On, Past}
 use Rattle.records.specs.Records.{pick, allZero, endOf, choiceWidth, valuesWidth, byTag, recordOf}
 use Rattle.records.specs.Walk.{more, entries, tagOf}
@@ -74,6 +75,20 @@ passes t key r h k =
     over : (b : Bool) → ltb t 6 ≡ b → pickTurn (cond b (ltb t (tagOf r)) (ltb 6 t && ltb (tagOf r) 7)) Past On ≡ On
     over true e = rw (le-ltb t (tagOf r) (omega arith)) refl
     over false e = rw (le-ltb 6 t k) refl
+
+-- what is passed over in a search has no greater tag
+goes-on : (a b : Bool) → pickTurn a Here (pickTurn b Past On) ≡ On → b ≡ false
+goes-on true b h = let z : _≡_ {A = ℕ} 0 1 = cc in absurd (omega arith)
+goes-on false true h = let z : _≡_ {A = ℕ} 0 1 = cc in absurd (omega arith)
+goes-on false false h = refl
+
+pub not-greater : (t key : ℕ) (r : Record) → turnOf t key r ≡ On → t < 6 → tagOf r ≤ t
+unfolding turnOf past
+not-greater t key r h k = ltb-false t (tagOf r) (rw (lt-ltb t 6 k) at (goes-on (eqb (tagOf r) t && eqb (keyOf r) key) (past t (tagOf r)) h))
+
+module _ (l : List ℕ) (p t key : ℕ) {r : Record} {k : ℕ} where
+  pub passed-over : recordOf (drop p l) ≡ Got r k → tagOf r < t → t ≤ 6 → recordsAt l p t key ≡ recordsAt l (p + k) t key
+  passed-over e h m = search-got l p t key e ∙ ap (λ (x : Turn). sought x (drop p l) (recordsAt l (p + k) t key)) (passes t key r h m)
 
 -- ---- what a record of each tag tells, by its bytes b, its key k, its position and the next one
 pub record ChoiceFound (b : List ℕ) (k at next : ℕ) : Type 0 where

@@ -1,16 +1,15 @@
 use borrow.Author.Needs.{needs}
-use mathlib.Core.Path.{_≡_, refl, sym, ap, _∙_}
+use mathlib.Core.Path.{_≡_, refl, sym, _∙_}
 use mathlib.Core.List.{List}
 use Prim.Native.Nat.{ℕ, _+_, _-_, _≤_}
 use native.Mathlib.Omega.{arith}
 use lib.ListN.{drop}
 use Rattle.stream.specs.Payload.{payload, room}
 use Rattle.records.specs.declared.records.Step.the-variants.{Got}
-use Rattle.records.specs.declared.search.Turn.{Turn}
 use Rattle.records.specs.Records.{recordOf}
-use Rattle.records.specs.Search.{sought, recordsAt}
+use Rattle.records.specs.Search.{recordsAt}
 use Rattle.records.specs.Laws.Walk.{got-room}
-use Rattle.records.specs.Laws.Search.{search-got, passes}
+use Rattle.records.specs.Laws.Search.{passed-over}
 use Rattle.records.proofs.search.skip_to.Statement.{statement}
 use Rattle.records.proofs.search.skip_to.Tie as tie
 
@@ -40,8 +39,7 @@ module _ (w : tie.Else2 Inv-loop μ-loop) where
   onward : (t k : ℕ) → at .before .before .args .tag ≤ t → t ≤ 6 → recordsAt (payload s) (at .before .before .args .p) t k ≡ recordsAt (payload s) (at .loop .q + size) t k
   onward t k h m =
       at .loop .inv t k h m
-      ∙ search-got (payload s) (at .loop .q) t k got
-      ∙ ap (λ (x : Turn). sought x (drop (at .loop .q) (payload s)) (recordsAt (payload s) (at .loop .q + size) t k)) (passes t k (w .before .before .before .r .given .0 .0) (omega (arith, w .before .tag-of .ensures, w .if2 .left)) m)
+      ∙ passed-over (payload s) (at .loop .q) t k got (omega (arith, w .before .tag-of .ensures, w .if2 .left)) m
 
 loop-holds : tie.Need-loop-holds Inv-loop μ-loop
 loop-holds c = λ t k h m. refl

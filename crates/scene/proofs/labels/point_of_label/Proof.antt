@@ -1,4 +1,6 @@
 use borrow.Author.Needs.{needs}
+use Rattle.stream.specs.Payload.{payload}
+use Rattle.scene.specs.Answers.{itemsAt}
 use Rattle.scene.proofs.Folds.{best-point}
 use Rattle.scene.proofs.labels.point_of_label.Statement.{statement}
 use Rattle.scene.proofs.labels.point_of_label.Tie as tie
@@ -10,7 +12,10 @@ best-item-requires : tie.Need-best-item-requires
 best-item-requires c κs = search needs
 
 returns : tie.Need-returns
-returns c = best-point (c .best-item .result) _ _ _ (c .before .best-place .ensures) (c .best-item .ensures)
+returns c =
+    let b = c .before .before in
+    let o = b .before .before .args in
+    best-point (c .best-item .result) _ _ (itemsAt (payload (o .s .now)) (o .p)) (b .best-place .ensures .0) (rw (b .best-place .ensures .1) (c .best-item .ensures))
 
 pub point-of-label-spec : {M : Type 1} → statement M
 point-of-label-spec = tie.close (tie.spec best-place-requires best-item-requires returns)
