@@ -319,32 +319,59 @@ pub fn two_refusals(set: &mut Set) {
 }
 
 pub fn labels(set: &mut Set) {
+    labels_after(set, "", Doc::mercator());
+    // A name that resolves to nothing in front: later ones are not looked up as the first one is.
+    labels_after(set, "second-", Doc::mercator().feature("none", 0.0, 0.0));
+    // Three names of one hash, as the index of labels has it, and one, two or three labels of it.
+    let names = |d: Doc| {
+        d.feature("none", 0.0, 0.0)
+            .feature("Ba", 7.0, 46.0)
+            .feature("CB", 7.1, 46.0)
+            .feature("D#", 7.0, 46.1)
+    };
+    let mark = sharp(4.0, 3.0, 1.0, 1.0);
+    let places = [("Ba", [1.0, 0.0]), ("CB", [5.0, 0.0]), ("D#", [1.0, 6.0])];
+    for chosen in 1..8u8 {
+        let some = (0..3).filter(|k| chosen >> k & 1 == 1).map(|k| places[k]);
+        let mut doc = names(Doc::mercator());
+        let mut items = Doc::mercator();
+        for (label, [x, y]) in some {
+            doc = doc.place(label, [x, y]);
+            items = items.item(dot(x, y).label(label));
+        }
+        set.doc(format!("labels-of-one-hash-{chosen}"), &doc.item(mark.clone()));
+        set.doc(format!("labels-of-one-hash-{chosen}-items"), &names(items));
+    }
+}
+
+fn labels_after(set: &mut Set, before: &str, front: Doc) {
     // One control point: where its label is found moves the drawing.
-    let base = || Doc::mercator().feature("L", 7.0, 46.0);
+    let base = || front.clone().feature("L", 7.0, 46.0);
+    let mut put = |name: &dyn std::fmt::Display, doc: &Doc| set.doc(format!("{before}{name}"), doc);
     let mark = sharp(4.0, 3.0, 1.0, 1.0);
     let item = |x: f64| dot(x, 0.0).label("L");
-    set.doc("label-equal-key-place-and-item", &base().place("L", [1.0, 0.0]).item(item(2.0)));
+    put(&"label-equal-key-place-and-item", &base().place("L", [1.0, 0.0]).item(item(2.0)));
     let spans = base().place_at("L", [1.0, 0.0], 0, 5, 6).item(item(2.0).span(5, 6));
-    set.doc("label-equal-key-and-span", &spans);
+    put(&"label-equal-key-and-span", &spans);
     let later = base().place("L", [1.0, 0.0]).item(mark.clone()).item(item(2.0));
-    set.doc("label-item-of-higher-order", &later);
+    put(&"label-item-of-higher-order", &later);
     let earlier = base().place("X", [0.0, 0.0]).place("L", [1.0, 0.0]).item(item(2.0));
-    set.doc("label-place-of-higher-order", &earlier);
-    set.doc(
-        "label-two-places",
+    put(&"label-place-of-higher-order", &earlier);
+    put(
+        &"label-two-places",
         &base().place("L", [1.0, 0.0]).place("L", [2.0, 0.0]).item(mark.clone()),
     );
-    set.doc("label-two-items", &base().item(item(1.0)).item(item(2.0)));
+    put(&"label-two-items", &base().item(item(1.0)).item(item(2.0)));
     let nested = base().place_at("L", [1.0, 0.0], 1, 90, 1).place("L", [2.0, 0.0]);
-    set.doc("label-nested-line-90-top-level-line-0", &nested.item(mark.clone()));
+    put(&"label-nested-line-90-top-level-line-0", &nested.item(mark.clone()));
     let nested = base().place_at("L", [2.0, 0.0], 0, 0, 0).place_at("L", [1.0, 0.0], 1, 90, 1);
-    set.doc("label-top-level-first", &nested.item(mark.clone()));
+    put(&"label-top-level-first", &nested.item(mark.clone()));
     let nested = base().item(item(1.0).flags(NESTED).span(90, 1)).item(item(2.0));
-    set.doc("label-nested-item", &nested);
+    put(&"label-nested-item", &nested);
     let nested = base().place("L", [1.0, 0.0]).item(item(2.0).flags(NESTED).span(3, 3));
-    set.doc("label-nested-item-top-level-place", &nested);
+    put(&"label-nested-item-top-level-place", &nested);
     let both = base().place_at("L", [1.0, 0.0], 1, 4, 4).item(item(2.0).flags(NESTED).span(4, 5));
-    set.doc("label-both-nested", &both);
+    put(&"label-both-nested", &both);
     for (name, a, b) in [
         ("line", (5, 9), (6, 1)),
         ("line-falls", (6, 1), (5, 9)),
@@ -354,55 +381,46 @@ pub fn labels(set: &mut Set) {
         ("column-without-line", (0, 0), (0, 1)),
     ] {
         let doc = base().place_at("L", [1.0, 0.0], 0, a.0, a.1).item(item(2.0).span(b.0, b.1));
-        set.doc(format!("label-by-{name}"), &doc);
+        put(&format!("label-by-{name}"), &doc);
         let doc = base().place_at("L", [1.0, 0.0], 0, a.0, a.1);
         let doc = doc.place_at("L", [2.0, 0.0], 0, b.0, b.1).item(mark.clone());
-        set.doc(format!("label-places-by-{name}"), &doc);
+        put(&format!("label-places-by-{name}"), &doc);
     }
     let three = base().place_at("L", [1.0, 0.0], 0, 2, 2).place_at("L", [2.0, 0.0], 0, 3, 1);
-    set.doc(
-        "label-best-in-the-middle",
-        &three.place_at("L", [3.0, 0.0], 0, 1, 9).item(mark.clone()),
-    );
-    set.doc(
-        "label-of-no-point",
+    put(&"label-best-in-the-middle", &three.place_at("L", [3.0, 0.0], 0, 1, 9).item(mark.clone()));
+    put(
+        &"label-of-no-point",
         &base().place("L", [1.0, 0.0]).item(Item::new(BOX).label("L").span(9, 9)),
     );
-    set.doc("label-hidden-item", &base().item(item(3.0).flags(HIDDEN)).item(mark.clone()));
-    set.doc(
-        "label-block",
+    put(&"label-hidden-item", &base().item(item(3.0).flags(HIDDEN)).item(mark.clone()));
+    put(
+        &"label-block",
         &base().item(Item::new(BLOCK_KIND).at(3.0, 1.0).label("L")).item(mark.clone()),
     );
     let pts = [[1.0, 2.0], [4.0, 8.0], [0.1, 0.2]];
-    set.doc("label-at-before-points", &base().item(line(&pts).at(9.0, 9.0).label("L")));
-    set.doc("label-by-mean-of-points", &base().item(line(&pts).label("L")));
-    set.doc(
-        "label-by-fill-points-only",
-        &base().item(Item::new(LINE).fill_points(&pts).label("L")),
-    );
+    put(&"label-at-before-points", &base().item(line(&pts).at(9.0, 9.0).label("L")));
+    put(&"label-by-mean-of-points", &base().item(line(&pts).label("L")));
+    put(&"label-by-fill-points-only", &base().item(Item::new(LINE).fill_points(&pts).label("L")));
     let both = line(&pts).part(polyline(0, false, &SQUARE)).label("L");
-    set.doc("label-points-before-path", &base().item(both));
+    put(&"label-points-before-path", &base().item(both));
     let empty = line(&[]).part(curve(0, false, [5.0, 6.0], &[ARCH])).label("L");
-    set.doc("label-empty-points-then-path-start", &base().item(empty));
-    set.doc("label-empty-points", &base().item(line(&[]).label("L")));
+    put(&"label-empty-points-then-path-start", &base().item(empty));
+    put(&"label-empty-points", &base().item(line(&[]).label("L")));
     let start = Item::new(SPLINE).part(curve(0, false, [5.0, 6.0], &[ARCH])).label("L");
-    set.doc("label-by-path-start", &base().item(start.clone().part(polyline(0, false, &pts))));
+    put(&"label-by-path-start", &base().item(start.clone().part(polyline(0, false, &pts))));
     let first = path(Item::new(SPLINE), false, &[[7.0, 1.0], [8.0, 2.0]]).label("L");
-    set.doc("label-by-first-point-of-path", &base().item(first));
+    put(&"label-by-first-point-of-path", &base().item(first));
     let void = path(Item::new(SPLINE), false, &[]).part(polyline(0, false, &pts)).label("L");
-    set.doc("label-first-path-empty", &base().item(void));
+    put(&"label-first-path-empty", &base().item(void));
     let outline = Item::new(SPLINE).part(polyline(1, false, &pts)).label("L");
-    set.doc("label-by-fill-path-only", &base().item(outline));
-    set.doc("label-other-case", &base().place("l", [1.0, 0.0]));
-    set.doc("label-longer", &base().place("LL", [1.0, 0.0]));
+    put(&"label-by-fill-path-only", &base().item(outline));
+    put(&"label-other-case", &base().place("l", [1.0, 0.0]));
+    put(&"label-longer", &base().place("LL", [1.0, 0.0]));
     let long = "k".repeat(31);
-    set.doc(
-        "label-of-31",
-        &Doc::mercator().control(&long, [1.0, 0.0], 7.0, 46.0).item(mark.clone()),
-    );
+    put(&"label-of-31", &front.clone().control(&long, [1.0, 0.0], 7.0, 46.0).item(mark.clone()));
     let almost = format!("{}j", "k".repeat(30));
-    let doc = Doc::mercator().feature(&long, 7.0, 46.0).place(&almost, [1.0, 0.0]);
-    set.doc("label-differs-in-the-last-byte", &doc.item(mark));
+    let doc = front.clone().feature(&long, 7.0, 46.0).place(&almost, [1.0, 0.0]);
+    put(&"label-differs-in-the-last-byte", &doc.item(mark));
 }
 
 pub fn registration_warnings(set: &mut Set) {
