@@ -1,4 +1,4 @@
--- The fit as passes over the control points: each round sums them, then adds up their moments. What the code holds between two points, and the law that the passes are `fitOf`.
+-- The fit as passes over the control points: each round sums them, then adds up their moments. What the code holds between two points; `passes-fit` says that the passes are `fitOf`.
 use mathlib.Core.Bool.{Bool, true, false}
 use mathlib.Core.List.{List, [], _∷_}
 use Prim.Native.Nat.{ℕ}
