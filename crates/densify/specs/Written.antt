@@ -7,11 +7,14 @@ use lib.ListN.{length, take, drop, getD}
 use lib.Dec.{leb}
 use lib.Ieee.{Float, nan}
 use Rattle.similarity.specs.declared.projection.Projection.{Projection}
-use Rattle.similarity.specs.Projection.{geoBy, stretchedOf}
+use Rattle.elementary.specs.Stages.{atanFirst, atanSecond, atanThird}
+use Rattle.similarity.specs.Projection.{geoBy, stretchedOf, latitudeOf}
 use Rattle.scene.specs.declared.sections.Path.{Path}
 use Rattle.scene.specs.Scene.{Point, DrawnPath}
 use Rattle.scene.specs.Answers.{formBy}
 use Rattle.densify.specs.declared.writing.Done.{Done}
+use Rattle.densify.specs.declared.placing.Stage.{Stage}
+use Rattle.densify.specs.declared.placing.Stage.the-variants.{First, Second, Last}
 use Rattle.densify.specs.Densify.{Made, Block, samePoint}
 
 -- ---- arrays of the code as points
@@ -83,6 +86,11 @@ placing t m = record { points = map (placedBy t) (m .points); after = m .after; 
 -- ---- the same in stages, each for all points of a line
 unfoldable pub stretchedBy : Projection → Point → Point
 stretchedBy t p = let g = stretchedOf t (p .x) (p .y) in record { x = g .lon; y = g .lat }
+
+unfoldable pub stageOf : Stage → Float → Float
+stageOf First v = atanFirst v
+stageOf Second v = atanSecond v
+stageOf Last v = latitudeOf (atanThird v)
 
 -- x as it is
 abbrev pub onY : (Float → Float) → Point → Point

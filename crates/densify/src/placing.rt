@@ -4,15 +4,20 @@ ghost use mathlib.Core.Path.{_≡_};
 ghost use mathlib.Core.Bool.{true};
 ghost use Prim.Native.Nat.{_≤_};
 ghost use lib.ListN.{length};
-ghost use Rattle.elementary.specs.Stages.{atanFirst, atanSecond, atanThird};
-ghost use Rattle.similarity.specs.Projection.{latitudeOf};
-ghost use Rattle.densify.specs.Written.{pointWith, placedBy, stretchedBy, onY, inPlace};
+ghost use Rattle.densify.specs.Written.{pointWith, placedBy, stretchedBy, stageOf, onY, inPlace};
 use elementary::atan_first;
 use elementary::atan_second;
 use float::same;
 use similarity::Projection;
 use similarity::latitude;
 use similarity::stretch;
+
+// The stages of a latitude: two halvings of the exponential's arc tangent, and the rest.
+pub enum Stage {
+    First,
+    Second,
+    Last,
+}
 
 fn same_point(ax: f64, ay: f64, bx: f64, by: f64) -> bool
     ensures { λ r. ⌜ (r ≡ true → pointWith ax ay ≡ pointWith bx by) ⌝ }
@@ -49,64 +54,31 @@ fn stretch_points(t: Projection, out: &mut [f64], from: usize, to: usize)
     }
 }
 
-// The first stage of the exponential's arc tangent, and the second.
-fn halve_points(out: &mut [f64], from: usize, to: usize)
-    requires { ⌜ (from ≤ to) × (to ≤ length (now out)) ⌝ }
-    ensures { λ _. ⌜ now (out .exit) ≡ inPlace (onY atanFirst) (now (out .entry)) from to ⌝ }
+fn stage_of(k: Stage, v: f64) -> f64
+    ensures { λ r. ⌜ r ≡ stageOf k v ⌝ }
 {
-    if to - from < 2 {
-        return;
-    }
-    let mut last = out[from + 1];
-    let mut made = atan_first(last);
-    let mut i = from;
-    while to - i >= 2 {
-        let v = out[i + 1];
-        if !same(v, last) {
-            made = atan_first(v);
-        }
-        last = v;
-        out[i + 1] = made;
-        i += 2;
+    match k {
+        Stage::First => atan_first(v),
+        Stage::Second => atan_second(v),
+        Stage::Last => latitude(v),
     }
 }
 
-fn halve_again(out: &mut [f64], from: usize, to: usize)
+// One stage of the latitude of each point.
+fn stage_points(k: Stage, out: &mut [f64], from: usize, to: usize)
     requires { ⌜ (from ≤ to) × (to ≤ length (now out)) ⌝ }
-    ensures { λ _. ⌜ now (out .exit) ≡ inPlace (onY atanSecond) (now (out .entry)) from to ⌝ }
+    ensures { λ _. ⌜ now (out .exit) ≡ inPlace (onY (stageOf k)) (now (out .entry)) from to ⌝ }
 {
     if to - from < 2 {
         return;
     }
     let mut last = out[from + 1];
-    let mut made = atan_second(last);
+    let mut made = stage_of(k, last);
     let mut i = from;
     while to - i >= 2 {
         let v = out[i + 1];
         if !same(v, last) {
-            made = atan_second(v);
-        }
-        last = v;
-        out[i + 1] = made;
-        i += 2;
-    }
-}
-
-// The third stage, and the latitude of it.
-fn give_latitudes(out: &mut [f64], from: usize, to: usize)
-    requires { ⌜ (from ≤ to) × (to ≤ length (now out)) ⌝ }
-    ensures { λ _. ⌜ now (out .exit) ≡ inPlace (onY (λ w. latitudeOf (atanThird w))) (now (out .entry)) from to ⌝ }
-{
-    if to - from < 2 {
-        return;
-    }
-    let mut last = out[from + 1];
-    let mut made = latitude(last);
-    let mut i = from;
-    while to - i >= 2 {
-        let v = out[i + 1];
-        if !same(v, last) {
-            made = latitude(v);
+            made = stage_of(k, v);
         }
         last = v;
         out[i + 1] = made;
@@ -120,7 +92,7 @@ pub fn place_points(t: Projection, out: &mut [f64], from: usize, to: usize)
     ensures { λ _. ⌜ now (out .exit) ≡ inPlace (placedBy t) (now (out .entry)) from to ⌝ }
 {
     stretch_points(t, out, from, to);
-    halve_points(out, from, to);
-    halve_again(out, from, to);
-    give_latitudes(out, from, to);
+    stage_points(Stage::First, out, from, to);
+    stage_points(Stage::Second, out, from, to);
+    stage_points(Stage::Last, out, from, to);
 }

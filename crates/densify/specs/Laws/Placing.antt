@@ -17,7 +17,8 @@ use Rattle.similarity.specs.Projection.{geoBy, stretchedOf, latitudeOf}
 use Rattle.similarity.specs.Laws.Project.{geo-staged}
 use Rattle.densify.specs.declared.writing.Done.{Done}
 use Rattle.densify.specs.Densify.{Made}
-use Rattle.densify.specs.Written.{flats, pointOf, pointsOf, pointsIn, put, Written, placedBy, placing, stretchedBy, onY, inPlace}
+use Rattle.densify.specs.Written.{flats, pointOf, pointsOf, pointsIn, put, Written, placedBy, placing, stretchedBy, stageOf, onY, inPlace}
+use Rattle.densify.specs.declared.placing.Stage.the-variants.{First, Second, Last}
 use Rattle.densify.specs.Laws.Writing.{flats-length, put-before, put-none, put-next, written-short, written-all, written-room}
 
 -- ---- points that stand in a slice
@@ -163,12 +164,12 @@ pub stretched-is : (t : Projection) {g : LonLat} (p : Point) → g ≡ stretched
 unfolding stretchedBy
 stretched-is t p e = rw e
 
-placed-staged : (t : Projection) (p : Point) → onY (λ w. latitudeOf (atanThird w)) (onY atanSecond (onY atanFirst (stretchedBy t p))) ≡ placedBy t p
-unfolding placedBy stretchedBy
+placed-staged : (t : Projection) (p : Point) → onY (stageOf Last) (onY (stageOf Second) (onY (stageOf First) (stretchedBy t p))) ≡ placedBy t p
+unfolding placedBy stretchedBy stageOf
 placed-staged t p = rw geo-staged
 
 pub four-passes : (t : Projection) (w : List Float) (from to : ℕ) → from ≤ to → to ≤ length w → {a b c d : List Float} → a ≡ inPlace (stretchedBy t) w from to
-    → b ≡ inPlace (onY atanFirst) a from to → c ≡ inPlace (onY atanSecond) b from to → d ≡ inPlace (onY (λ w. latitudeOf (atanThird w))) c from to
+    → b ≡ inPlace (onY (stageOf First)) a from to → c ≡ inPlace (onY (stageOf Second)) b from to → d ≡ inPlace (onY (stageOf Last)) c from to
     → d ≡ inPlace (placedBy t) w from to
 four-passes t w from to h k ea eb ec ed = rw (ed, ec, eb, ea, pass-then w from to h k, pass-then w from to h k, pass-then w from to h k) (λ i. inPlace (λ p. placed-staged t p i) w from to)
 

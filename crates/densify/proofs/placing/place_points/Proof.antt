@@ -6,14 +6,14 @@ use Rattle.densify.proofs.placing.place_points.Tie as tie
 stretch-points-requires : tie.Need-stretch-points-requires
 stretch-points-requires c κs = search needs
 
-halve-points-requires : tie.Need-halve-points-requires
-halve-points-requires c κs = search needs
+stage-points-requires : tie.Need-stage-points-requires
+stage-points-requires c κs = search needs
 
-halve-again-requires : tie.Need-halve-again-requires
-halve-again-requires c κs = search needs
+stage-points-requires-2 : tie.Need-stage-points-requires-2
+stage-points-requires-2 c κs = search needs
 
-give-latitudes-requires : tie.Need-give-latitudes-requires
-give-latitudes-requires c κs = search needs
+stage-points-requires-3 : tie.Need-stage-points-requires-3
+stage-points-requires-3 c κs = search needs
 
 same-length : tie.Need-same-length
 same-length c = search needs
@@ -24,15 +24,15 @@ returns c =
     let second = third .before .before .before .before in
     let first = second .before .before .before .before in
     let s = first .before .before .before in
-    four-passes _ _ _ _ (s .pre .0) (s .pre .1) (first .stretch-points .ensures) (second .halve-points .ensures) (third .halve-again .ensures) (c .before .before .give-latitudes .ensures)
+    four-passes _ _ _ _ (s .pre .0) (s .pre .1) (first .stretch-points .ensures) (second .stage-points .ensures) (third .stage-points2 .ensures) (c .before .before .stage-points3 .ensures)
 
 pub place-points-spec : {M : Type 1} → statement M
 place-points-spec =
     tie.close
     (tie.spec
     stretch-points-requires
-    halve-points-requires
-    halve-again-requires
-    give-latitudes-requires
+    stage-points-requires
+    stage-points-requires-2
+    stage-points-requires-3
     same-length
     returns)

@@ -6,17 +6,16 @@ use lib.ListN.{getD}
 use lib.Ieee.{nan}
 use borrow.Author.Needs.{needs}
 use borrow.Author.Tests.{not-false}
-use Rattle.elementary.specs.Stages.{atanFirst}
-use Rattle.densify.specs.Written.{onY}
+use Rattle.densify.specs.Written.{stageOf, onY}
 use Rattle.densify.specs.Laws.Placing.{Passed, pass-start, pass-end, pass-none, pass-turn-y}
-use Rattle.densify.proofs.placing.halve_points.Statement.{statement}
-use Rattle.densify.proofs.placing.halve_points.Tie as tie
+use Rattle.densify.proofs.placing.stage_points.Statement.{statement}
+use Rattle.densify.proofs.placing.stage_points.Tie as tie
 
 abbrev Inv-loop : tie.InvT-loop
-Inv-loop out₀ from to last₀ made₀ i₀ out last made i = Passed (onY atanFirst) out₀ from to out i × (made ≡ atanFirst last)
+Inv-loop k out₀ from to last₀ made₀ i₀ out last made i = Passed (onY (stageOf k)) out₀ from to out i × (made ≡ stageOf k last)
 
 abbrev μ-loop : tie.MeasureT-loop
-μ-loop out₀ from to last₀ made₀ i₀ out last made i = to - i
+μ-loop k out₀ from to last₀ made₀ i₀ out last made i = to - i
 
 sub-if1 : tie.Need-sub-if1 Inv-loop μ-loop
 sub-if1 c = omega arith
@@ -33,11 +32,11 @@ mul-last c = search needs
 slice-read-last : tie.Need-slice-read-last Inv-loop μ-loop
 slice-read-last c = omega arith
 
-atan-first-requires : tie.Need-atan-first-requires Inv-loop μ-loop
-atan-first-requires c κs = search needs
+stage-of-requires : tie.Need-stage-of-requires Inv-loop μ-loop
+stage-of-requires c κs = search needs
 
 loop-holds : tie.Need-loop-holds Inv-loop μ-loop
-loop-holds c = (pass-start _ _ _ _ (c .before .before .before .before .pre .0) (c .before .before .before .before .pre .1), c .atan-first .ensures)
+loop-holds c = (pass-start _ _ _ _ (c .before .before .before .before .pre .0) (c .before .before .before .before .pre .1), c .stage-of .ensures)
 
 sub-loop : tie.Need-sub-loop Inv-loop μ-loop
 sub-loop c = omega arith
@@ -54,8 +53,8 @@ slice-read-v c = omega arith
 same-requires : tie.Need-same-requires Inv-loop μ-loop
 same-requires c κs = search needs
 
-atan-first-requires-2 : tie.Need-atan-first-requires-2 Inv-loop μ-loop
-atan-first-requires-2 c κs = search needs
+stage-of-requires-2 : tie.Need-stage-of-requires-2 Inv-loop μ-loop
+stage-of-requires-2 c κs = search needs
 
 add-out : tie.Need-add-out Inv-loop μ-loop
 add-out c = omega arith
@@ -73,10 +72,10 @@ loop-less : tie.Need-loop-less Inv-loop μ-loop
 loop-less c = omega arith
 
 -- worked out, or as it was
-made-is : (c : tie.Joined2 Inv-loop μ-loop) → c .if2 .made ≡ atanFirst (getD (c .before .before .before .before .loop .out) (c .before .before .before .before .loop .i + 1) nan)
+made-is : (c : tie.Joined2 Inv-loop μ-loop) → let s = c .before .before .before .before .before .before .before .before .before .args in c .if2 .made ≡ stageOf (s .k) (getD (c .before .before .before .before .loop .out) (c .before .before .before .before .loop .i + 1) nan)
 made-is c =
     ⊎-elim (λ k. k .2 ∙ k .1 .ensures)
-    (λ k. k .1 ∙ c .before .before .before .before .loop .inv .1 ∙ ap atanFirst (sym (c .before .same .ensures (not-false _ (k .0 .left)))))
+    (λ k. k .1 ∙ c .before .before .before .before .loop .inv .1 ∙ ap (stageOf _) (sym (c .before .same .ensures (not-false _ (k .0 .left)))))
     (c .if2 .came)
 
 loop-again : tie.Need-loop-again Inv-loop μ-loop
@@ -88,8 +87,8 @@ same-length c = c .before .loop .inv .0 .kept
 returns-2 : tie.Need-returns-2 Inv-loop μ-loop
 returns-2 c = pass-end (c .before .loop .inv .0) (omega arith)
 
-pub halve-points-spec : {M : Type 1} → statement M
-halve-points-spec =
+pub stage-points-spec : {M : Type 1} → statement M
+stage-points-spec =
     tie.close
     (tie.spec
     Inv-loop
@@ -99,14 +98,14 @@ halve-points-spec =
     add-last
     mul-last
     slice-read-last
-    atan-first-requires
+    stage-of-requires
     loop-holds
     sub-loop
     add-v
     mul-v
     slice-read-v
     same-requires
-    atan-first-requires-2
+    stage-of-requires-2
     add-out
     mul-out
     slice-write-out
