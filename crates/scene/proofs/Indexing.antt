@@ -8,14 +8,15 @@ use native.Mathlib.Nat.{eq-or-lt-of-le}
 use native.Mathlib.Numerals.{add-one}
 use native.Mathlib.Omega.{arith}
 use lib.ListN.{length, getD, set, drop, length-set, drop-of-length-le}
-use lib.Seq.{drop-cons, getD-drop, getD-set-same, getD-set-other}
+use lib.Seq.{drop-cons, getD-drop, getD-set-same, getD-set-other, ext-getD}
 use lib.Dec.{eqb, ltb}
 use borrow.Author.Tests.{eq-eqb, ne-eqb, eqb-true, eqb-false, lt-ltb, le-ltb, not-true, not-false}
-use Rattle.stream.specs.Payload.{payload}
+use Rattle.stream.specs.Payload.{payload, room, Straight}
 use Rattle.records.specs.declared.search.Hit.{Hit}
 use Rattle.records.specs.Order.{part}
 use Rattle.records.specs.Search.{turnOf, recordsAt}
 use Rattle.records.specs.Hits.{Standing}
+use Rattle.records.specs.Laws.Names.{part-length, part-at, name-length, name-at}
 use Rattle.records.specs.Laws.Records.{stands}
 use Rattle.records.specs.Laws.Search.{search-got, standing-less, standing-fits}
 use Rattle.scene.specs.declared.sections.Item.{Item}
@@ -27,6 +28,13 @@ use Rattle.scene.specs.Index.{slotFrom, slotOf, Held, nobody, place, ite
 use Rattle.scene.specs.Laws.Shift.{part-drop}
 use Rattle.scene.specs.Laws.Index.{slot-less, held-nobody, held-place, held-item}
 use Rattle.scene.proofs.Found.{One, one-listed}
+
+-- ---- bytes that stand side by side are a name of the payload
+pub straight-part : {s : List ℕ} {at n q : ℕ} → at + n ≤ room s → Straight s 0 at n q → part s q n ≡ part (payload s) at n
+straight-part {s} {at} {n} {q} h so =
+    let e = part-length s q n (so .fits) in
+    let in-name : (i : ℕ) → i < length (part s q n) → i < n = λ i k. omega (arith, e) in
+    ext-getD 0 _ _ (e ∙ sym (name-length s at n h)) (λ i k. part-at s q n i (in-name i k) ∙ name-at s at n (in-name i k) (so .same i (in-name i k)))
 
 -- ---- the slot of a name, byte after byte
 module _ (name : List ℕ) {n : ℕ} (len : length name ≡ n) (h i : ℕ) where

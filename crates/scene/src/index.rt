@@ -19,8 +19,8 @@ use records::find;
 use records::wide;
 use stream::byte;
 
-// The slot of the n bytes at `at`.
-fn slot_of(s: &[u8], at: usize, n: usize) -> usize
+// The slot of the n bytes at `at`, a check between them or not.
+fn apart_slot(s: &[u8], at: usize, n: usize) -> usize
     requires { ⌜ at + n ≤ room (now s) ⌝ }
     ensures { λ r. ⌜ r ≡ slotOf (part (payload (now (s .entry))) at n) ⌝ }
 {
@@ -31,6 +31,32 @@ fn slot_of(s: &[u8], at: usize, n: usize) -> usize
         i += 1;
     }
     h
+}
+
+// The same of n bytes of the stream itself.
+fn run_slot(s: &[u8], at: usize, n: usize) -> usize
+    requires { ⌜ at + n ≤ length (now s) ⌝ }
+    ensures { λ r. ⌜ r ≡ slotOf (part (now (s .entry)) at n) ⌝ }
+{
+    let mut h = 0usize;
+    let mut i = 0usize;
+    while i < n {
+        h = (h * 31 + wide(s[at + i])) % 4096;
+        i += 1;
+    }
+    h
+}
+
+// A label seldom has a check between its bytes: it is read where it stands.
+fn slot_of(s: &[u8], at: usize, n: usize) -> usize
+    requires { ⌜ at + n ≤ room (now s) ⌝ }
+    ensures { λ r. ⌜ r ≡ slotOf (part (payload (now (s .entry))) at n) ⌝ }
+{
+    let run = stream::run_at(s, 0, at, n);
+    if run.some {
+        return run_slot(s, run.at, n);
+    }
+    apart_slot(s, at, n)
 }
 
 // What a slot that holds v says once a record at q has it too.

@@ -1,56 +1,26 @@
 use borrow.Author.Needs.{needs}
-use mathlib.Core.Path.{_≡_, refl, sym, _∙_}
-use Prim.Native.Nat.{_-_, _≤_, _<_}
+use mathlib.Core.Path.{_∙_, ap}
 use native.Mathlib.Omega.{arith}
-use lib.ListN.{drop}
-use Rattle.stream.specs.Payload.{payload}
 use Rattle.stream.specs.Laws.Payload.{rest-length}
-use Rattle.records.specs.Order.{part}
-use Rattle.records.specs.Laws.Names.{name-length, name-at}
-use Rattle.scene.specs.Index.{slotFrom, slotOf}
-use Rattle.scene.proofs.Indexing.{slot-ends, slot-step}
+use Rattle.scene.specs.Index.{slotOf}
+use Rattle.scene.proofs.Indexing.{straight-part}
 use Rattle.scene.proofs.index.slot_of.Statement.{statement}
 use Rattle.scene.proofs.index.slot_of.Tie as tie
 
-abbrev Inv-loop : tie.InvT-loop
-Inv-loop s at n h₀ i₀ h i = (i ≤ n) × (h < 4096) × (slotOf (part (payload s) at n) ≡ slotFrom h (drop i (part (payload s) at n)))
+run-at-requires : tie.Need-run-at-requires
+run-at-requires c κs = (omega arith, omega (arith, rest-length (c .before .args .s .now) 0))
 
-abbrev μ-loop : tie.MeasureT-loop
-μ-loop s at n h₀ i₀ h i = n - i
+run-slot-requires : tie.Need-run-slot-requires
+run-slot-requires c κs = c .before .run-at .ensures (c .if1 .taken) .fits
 
-loop-holds : tie.Need-loop-holds Inv-loop μ-loop
-loop-holds c = (omega arith, omega arith, refl)
+returns : tie.Need-returns
+returns c = c .run-slot .ensures ∙ ap slotOf (straight-part (c .before .before .before .before .pre) (c .before .before .run-at .ensures (c .before .if1 .taken)))
 
-mul-h : tie.Need-mul-h Inv-loop μ-loop
-mul-h c = omega arith
+apart-slot-requires : tie.Need-apart-slot-requires
+apart-slot-requires c κs = search needs
 
-add-byte : tie.Need-add-byte Inv-loop μ-loop
-add-byte c = search needs
-
-byte-requires : tie.Need-byte-requires Inv-loop μ-loop
-byte-requires c κs = (omega arith, omega (arith, rest-length (c .before .before .before .args .s .now) 0))
-
-wide-requires : tie.Need-wide-requires Inv-loop μ-loop
-wide-requires c κs = search needs
-
-add-h : tie.Need-add-h Inv-loop μ-loop
-add-h c = omega arith
-
-add-i : tie.Need-add-i Inv-loop μ-loop
-add-i c = search needs
-
-loop-less : tie.Need-loop-less Inv-loop μ-loop
-loop-less c = search needs
-
-loop-again : tie.Need-loop-again Inv-loop μ-loop
-loop-again c = (
-  omega arith,
-  omega arith,
-  c .before .before .before .loop .inv .2 ∙ slot-step _ (name-length _ _ _ (c .before .before .before .before .before .pre)) _ (c .before .before .before .loop .i) (c .before .before .loop-test .taken) (c .wide .ensures .0 ∙ name-at _ _ _ (c .before .before .loop-test .taken) (c .before .byte .ensures)),
-)
-
-returns : tie.Need-returns Inv-loop μ-loop
-returns c = sym (c .before .loop .inv .2 ∙ slot-ends _ (name-length _ _ _ (c .before .before .before .pre)) _ (c .before .loop .i) (c .loop-test .left))
+returns-2 : tie.Need-returns-2
+returns-2 c = search needs
 
 pub slot-of-spec : {M : Type 1} → statement M
-slot-of-spec = tie.close (tie.spec Inv-loop μ-loop loop-holds mul-h add-byte byte-requires wide-requires add-h add-i loop-less loop-again returns)
+slot-of-spec = tie.close (tie.spec run-at-requires run-slot-requires returns apart-slot-requires returns-2)
