@@ -1,7 +1,7 @@
 -- An answer, by what the code reads of the record that was found.
 use mathlib.Core.Path.{_≡_, refl, sym}
-use mathlib.Core.Bool.{true, false}
-use mathlib.Core.List.{List, _∷_}
+use mathlib.Core.Bool.{true, false, not}
+use mathlib.Core.List.{List, [], _∷_}
 use Prim.Native.Nat.{ℕ, suc, _+_, _-_, _*_, _≤_}
 use native.Mathlib.Nat.{add-assoc}
 use native.Mathlib.Omega.{arith}
@@ -9,15 +9,17 @@ use lib.ListN.{getD}
 use lib.Seq.{getD-drop}
 use lib.Dec.{eqb}
 use lib.Ieee.{Float}
+use borrow.Author.Tests.{not-true, not-false}
 use Rattle.stream.specs.Numbers.{u16At, u32At}
 use Rattle.stream.specs.Laws.Numbers.{u16-drop, u32-drop}
 use Rattle.stream.specs.Payload.{payload, room}
 use Rattle.records.specs.declared.search.Hit.{Hit}
 use Rattle.records.specs.Order.{part}
 use Rattle.records.specs.Laws.Search.{standing-tells}
+use Rattle.scene.specs.declared.sections.FeatureName.{FeatureName}
 use Rattle.scene.specs.declared.sections.Path.{Path}
 use Rattle.scene.specs.Scene.{numberAt, pointAt, pointsAt, featureAt, variableAt, placeAt, formAt, pathAt}
-use Rattle.scene.specs.Answers.{Within, PathWithin, featuresAt, variablesAt, placesAt, pointsFrom, pointsBy, pathsFrom, pathsBy}
+use Rattle.scene.specs.Answers.{Within, PathWithin, featuresAt, featuresBy, featureBy, variablesAt, placesAt, pointsFrom, pointsBy, pathsFrom, pathsBy}
 use Rattle.scene.specs.Laws.Shift.{part-drop, number-drop, point-drop, points-drop, cubics-drop}
 use Rattle.scene.proofs.Found.{nothing, One, Named, one-listed, one-first, points-end, cubics-end, polyline-ends}
 
@@ -31,10 +33,12 @@ module _ {s : List ℕ} {p t more n : ℕ} {h : Hit} (f : Named s p t h more n) 
   lies m e = record { name = omega arith; more = omega arith; fits = omega arith }
 
 module _ {s : List ℕ} {p n : ℕ} {h : Hit} where
-  pub feature-found : (f : Named s p 3 h 18 n) {x y : Float} → x ≡ numberAt (payload s) (h .at + 2 + n) → y ≡ numberAt (payload s) (h .at + 10 + n)
-      → (featuresAt (payload s) p ≡ record { name = part (payload s) (h .at + 2) n; lon = x; lat = y } ∷ featuresAt (payload s) (h .next)) × Lies f
+  pub feature-found : Named s p 3 h 18 n
+      → (featuresAt (payload s) p ≡ featuresBy (payload s) (featureBy (payload s) (record { some = true; at = h .at + 2; len = n; next = h .next }))) × (true ≡ true → Within (room s) p (h .at + 2) (n + 16) (h .next))
   unfolding featureAt
-  feature-found f a b = (one-listed (f .one) featureAt (rw (a, b, f .is) (simp (getD-drop, part-drop, number-drop, add-assoc))), lies f (omega arith))
+  feature-found f =
+      let j : h .at + 2 + n + 8 ≡ h .at + 10 + n = omega arith in
+      (one-listed (f .one) featureAt (rw (j, f .is) (simp (getD-drop, part-drop, number-drop, add-assoc))), λ _. record { name = omega arith; more = omega arith; fits = omega arith })
 
   pub variable-found : (f : Named s p 4 h 10 n) {x : Float} → x ≡ numberAt (payload s) (h .at + 2 + n)
       → (variablesAt (payload s) p ≡ record { name = part (payload s) (h .at + 2) n; value = x } ∷ variablesAt (payload s) (h .next)) × Lies f
@@ -50,6 +54,15 @@ module _ {s : List ℕ} {p n : ℕ} {h : Hit} where
   place-found f a b c d e =
       let j : h .at + 10 + n ≡ h .at + 2 + n + 8 = omega arith in
       (one-listed (f .one) placeAt (rw (a, b, j, c, d, e, f .is) (simp (getD-drop, part-drop, number-drop, u32-drop, add-assoc))), lies f (omega arith))
+
+-- ---- a feature, by its name and the floats behind it
+module _ (s : List ℕ) (p : ℕ) (f : FeatureName) (e : featuresAt (payload s) p ≡ featuresBy (payload s) (featureBy (payload s) f)) where
+  pub feature-none : not (f .some) ≡ true → featuresAt (payload s) p ≡ []
+  feature-none n = rw (e, not-true (f .some) n) refl
+
+  pub feature-read : not (f .some) ≡ false → {x y : Float} → x ≡ numberAt (payload s) (f .at + f .len) → y ≡ numberAt (payload s) (f .at + f .len + 8)
+      → featuresAt (payload s) p ≡ record { name = part (payload s) (f .at) (f .len); lon = x; lat = y } ∷ featuresAt (payload s) (f .next)
+  feature-read n a b = rw (e, not-false (f .some) n, a, b) refl
 
 -- ---- points and paths
 -- what `next_path` ensures of a path that was found

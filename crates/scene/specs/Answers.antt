@@ -17,12 +17,13 @@ use Rattle.scene.specs.declared.numbers.Point as code-point
 use Rattle.scene.specs.declared.numbers.Spot.{Spot}
 use Rattle.scene.specs.declared.numbers.Value.{Value}
 use Rattle.scene.specs.declared.sections.Feature.{Feature}
+use Rattle.scene.specs.declared.sections.FeatureName.{FeatureName}
 use Rattle.scene.specs.declared.sections.Item.{Item}
 use Rattle.scene.specs.declared.sections.Path.{Path}
 use Rattle.scene.specs.declared.sections.Place.{Place}
 use Rattle.scene.specs.declared.sections.Points.{Points}
 use Rattle.scene.specs.declared.sections.Variable.{Variable}
-use Rattle.scene.specs.Scene.{Maybe, given, first, Point, pointAt, pointsAt, cubicsAt, NamedFeature, featureAt, NamedValue, variableAt, NamedPlace, placeAt, Form, curve, polyline, DrawnPath, pathAt, DrawnItem, itemAt}
+use Rattle.scene.specs.Scene.{Maybe, given, first, numberAt, Point, pointAt, pointsAt, cubicsAt, NamedFeature, featureAt, NamedValue, variableAt, NamedPlace, placeAt, Form, curve, polyline, DrawnPath, pathAt, DrawnItem, itemAt}
 use Rattle.scene.specs.Labels.{Key, Best}
 
 -- ---- numbers and points
@@ -61,6 +62,10 @@ pathsFrom l p role = map pathAt (recordsAt l p 8 role)
 -- ---- the same lists by an answer: its own entry, then those from where the next is asked for
 abbrev pub featuresBy : List ℕ → Feature → List NamedFeature
 featuresBy l r = cond (r .some) (record { name = part l (r .at) (r .len); lon = r .lon; lat = r .lat } ∷ featuresAt l (r .next)) []
+
+-- a feature by its name: its floats are those behind the name
+abbrev pub featureBy : List ℕ → FeatureName → Feature
+featureBy l r = record { some = r .some; at = r .at; len = r .len; lon = numberAt l (r .at + r .len); lat = numberAt l (r .at + r .len + 8); next = r .next }
 
 abbrev pub variablesBy : List ℕ → Variable → List NamedValue
 variablesBy l r = cond (r .some) (record { name = part l (r .at) (r .len); value = r .value } ∷ variablesAt l (r .next)) []

@@ -6,7 +6,7 @@ ghost use Rattle.stream.specs.Payload.{payload, room};
 ghost use lib.ListN.{drop};
 ghost use Rattle.scene.specs.Scene.{itemAt};
 ghost use Rattle.scene.specs.Labels.{variableOf};
-ghost use Rattle.scene.specs.Answers.{valueBy, Within, PathWithin, featuresAt, featuresBy, variablesAt, variablesBy, Variables, placesAt, placesBy, ItemStands, itemsAt, itemBy, itemsBy, pointsFrom, pointsBy, pathsFrom, pathsBy};
+ghost use Rattle.scene.specs.Answers.{valueBy, Within, PathWithin, featuresAt, featuresBy, featureBy, variablesAt, variablesBy, Variables, placesAt, placesBy, ItemStands, itemsAt, itemBy, itemsBy, pointsFrom, pointsBy, pathsFrom, pathsBy};
 use crate::names::is_named;
 use crate::numbers::Spot;
 use crate::numbers::Value;
@@ -29,6 +29,13 @@ pub struct Feature {
     pub len: usize,
     pub lon: f64,
     pub lat: f64,
+    pub next: usize,
+}
+
+pub struct FeatureName {
+    pub some: bool,
+    pub at: usize,
+    pub len: usize,
     pub next: usize,
 }
 
@@ -96,31 +103,53 @@ pub struct Path {
     pub next: usize,
 }
 
+// The name of the first host feature from p on, for callers that need no more of it; its two floats follow the name.
+pub fn next_name(s: &[u8], p: usize) -> FeatureName
+    ensures { λ r. ⌜ featuresAt (payload (now (s .entry))) p ≡ featuresBy (payload (now (s .entry))) (featureBy (payload (now (s .entry))) r) ⌝ }
+    ensures { λ r. ⌜ (r .some ≡ true → Within (room (now (s .entry))) p (r .at) (r .len + 16) (r .next)) ⌝ }
+{
+    let h = find(s, p, 3, 0);
+    if !h.some {
+        return FeatureName {
+            some: false,
+            at: 0,
+            len: 0,
+            next: h.next,
+        };
+    }
+    let at = h.at;
+    FeatureName {
+        some: true,
+        at: at + 2,
+        len: wide(byte(s, 0, at + 1)),
+        next: h.next,
+    }
+}
+
 // The first host feature from p on.
 pub fn next_feature(s: &[u8], p: usize) -> Feature
     ensures { λ r. ⌜ featuresAt (payload (now (s .entry))) p ≡ featuresBy (payload (now (s .entry))) r ⌝ }
     ensures { λ r. ⌜ (r .some ≡ true → Within (room (now (s .entry))) p (r .at) (r .len) (r .next)) ⌝ }
 {
-    let h = find(s, p, 3, 0);
-    if !h.some {
+    let f = next_name(s, p);
+    if !f.some {
         return Feature {
             some: false,
             at: 0,
             len: 0,
             lon: 0.0,
             lat: 0.0,
-            next: h.next,
+            next: f.next,
         };
     }
-    let at = h.at;
-    let n = wide(byte(s, 0, at + 1));
+    let end = f.at + f.len;
     Feature {
         some: true,
-        at: at + 2,
-        len: n,
-        lon: number(s, at + 2 + n),
-        lat: number(s, at + 10 + n),
-        next: h.next,
+        at: f.at,
+        len: f.len,
+        lon: number(s, end),
+        lat: number(s, end + 8),
+        next: f.next,
     }
 }
 

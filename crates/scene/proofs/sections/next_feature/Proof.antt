@@ -1,79 +1,40 @@
 use borrow.Author.Needs.{needs}
-use mathlib.Core.Path.{_∙_}
-use Prim.Native.Nat.{_+_, _≤_}
+use borrow.Author.Tests.{not-false}
+use Prim.Native.Nat.{_+_}
 use native.Mathlib.Omega.{arith}
-use Rattle.stream.specs.Payload.{room, rest}
-use Rattle.stream.specs.Laws.Payload.{rest-length}
-use Rattle.records.specs.Laws.Search.{standing-tells}
-use Rattle.scene.specs.Scene.{featureAt}
-use Rattle.scene.proofs.Found.{nothing, One, one-found, none-listed, name-begins, Named, named}
-use Rattle.scene.proofs.Reading.{feature-found}
+use Rattle.stream.specs.Payload.{room}
+use Rattle.scene.specs.Answers.{Within}
+use Rattle.scene.proofs.Found.{nothing}
+use Rattle.scene.proofs.Reading.{feature-none, feature-read}
 use Rattle.scene.proofs.sections.next_feature.Statement.{statement}
 use Rattle.scene.proofs.sections.next_feature.Tie as tie
 
-one : (w : tie.Else1) → One (w .before .before .before .before .args .s .now) (w .before .before .before .before .args .p) 3 0 (w .before .before .find .result)
-one w = one-found _ (w .before .before .before .before .args .p) _ _ _ (w .before .before .find .ensures) (w .if1 .left)
+within : (c : tie.Else1) → Within (room (c .before .before .before .before .args .s .now)) (c .before .before .before .before .args .p) (c .before .before .next-name .result .at) (c .before .before .next-name .result .len + 16) (c .before .before .next-name .result .next)
+within c = c .before .before .next-name .ensures .1 (not-false _ (c .if1 .left))
 
-begins : (w : tie.Else1) → w .before .before .find .result .at + 18 + 1 ≤ room (w .before .before .before .before .args .s .now)
-begins w = name-begins (one w) (standing-tells (one w .stands))
-
-ends : (w : tie.After-wide) → Named (w .before .before .before .before .before .before .args .s .now) (w .before .before .before .before .before .before .args .p) 3 (w .before .before .before .before .find .result) 18 (w .wide .result)
-unfolding rest
-ends w = named (one (w .before .before)) (standing-tells (one (w .before .before) .stands)) (w .wide .ensures .0 ∙ w .before .byte .ensures)
-
-find-requires : tie.Need-find-requires
-find-requires c κs = search needs
+next-name-requires : tie.Need-next-name-requires
+next-name-requires c κs = search needs
 
 returns : tie.Need-returns
-returns c = (none-listed _ (c .before .before .before .before .args .p) _ _ _ (c .before .before .find .ensures) featureAt (c .if1 .taken), nothing)
+returns c = (feature-none _ (c .before .before .before .before .args .p) (c .before .before .next-name .result) (c .before .before .next-name .ensures .0) (c .if1 .taken), nothing)
 
-add-byte : tie.Need-add-byte
-add-byte c = omega (arith, begins c)
-
-byte-requires : tie.Need-byte-requires
-byte-requires c κs = (omega arith, omega (arith, begins c, rest-length (c .before .before .before .before .args .s .now) 0))
-
-wide-requires : tie.Need-wide-requires
-wide-requires c κs = search needs
-
-add-t8 : tie.Need-add-t8
-add-t8 c = omega (arith, ends c)
-
-add-number : tie.Need-add-number
-add-number c = omega (arith, ends c)
-
-add-number-2 : tie.Need-add-number-2
-add-number-2 c = omega (arith, ends c)
+add-end : tie.Need-add-end
+add-end c = omega (arith, within (c .before))
 
 number-requires : tie.Need-number-requires
-number-requires c κs = omega (arith, ends c)
+number-requires c κs = omega (arith, within (c .before))
 
-add-number-3 : tie.Need-add-number-3
-add-number-3 c = omega (arith, ends (c .before))
-
-add-number-4 : tie.Need-add-number-4
-add-number-4 c = omega (arith, ends (c .before))
+add-number : tie.Need-add-number
+add-number c = omega (arith, within (c .before .before))
 
 number-requires-2 : tie.Need-number-requires-2
-number-requires-2 c κs = omega (arith, ends (c .before))
+number-requires-2 c κs = omega (arith, within (c .before .before))
 
 returns-2 : tie.Need-returns-2
-returns-2 c = feature-found (ends (c .before .before)) (c .before .number .ensures) (c .number2 .ensures)
+returns-2 c =
+    let e = c .before .before .before in
+    let w = within e in
+    (feature-read _ (e .before .before .before .before .args .p) (e .before .before .next-name .result) (e .before .before .next-name .ensures .0) (e .if1 .left) (c .before .number .ensures) (c .number2 .ensures), λ _. record { name = omega (arith, w); more = w .more; fits = w .fits })
 
 pub next-feature-spec : {M : Type 1} → statement M
-next-feature-spec =
-    tie.close
-    (tie.spec
-    find-requires
-    returns
-    add-byte
-    byte-requires
-    wide-requires
-    add-t8
-    add-number
-    add-number-2
-    number-requires
-    add-number-3
-    add-number-4
-    number-requires-2
-    returns-2)
+next-feature-spec = tie.close (tie.spec next-name-requires returns add-end number-requires add-number number-requires-2 returns-2)
