@@ -23,6 +23,7 @@ use scene::first_label;
 use scene::index_labels;
 use scene::is_named;
 use scene::next_feature;
+use scene::next_name;
 use scene::next_variable;
 use scene::same_name;
 use similarity::Control;
@@ -89,7 +90,7 @@ pub fn is_mentioned(s: &[u8], i: usize, at: usize, n: usize) -> bool
     let mut q = 0usize;
     let mut k = 0usize;
     while k < i {
-        let f = next_feature(s, q);
+        let f = next_name(s, q);
         if !f.some {
             return false;
         }

@@ -28,7 +28,7 @@ use crate::runs::next_runs;
 use scene::find_label;
 use scene::first_label;
 use scene::first_variable;
-use scene::next_feature;
+use scene::next_name;
 use scene::next_variable;
 use scene::value_of;
 
@@ -90,7 +90,7 @@ fn warn_features(s: &[u8], labels: usize, ix: &mut [u32], out: &mut [u32], w: Wa
     let mut q = 0usize;
     let mut i = 0usize;
     loop {
-        let f = next_feature(s, q);
+        let f = next_name(s, q);
         if !f.some {
             return Counted {
                 warned: warned,

@@ -7,7 +7,7 @@ use native.Mathlib.Omega.{arith}
 use lib.ListN.{take}
 use Rattle.stream.specs.Payload.{payload}
 use Rattle.records.specs.Order.{part}
-use Rattle.scene.specs.Answers.{featuresAt}
+use Rattle.scene.specs.Answers.{featuresAt, featureBy}
 use Rattle.register.specs.Register.{mentioned}
 use Rattle.register.proofs.Gathering.{mentioned-none, mentioned-end, mentioned-here, mentioned-later}
 use Rattle.register.proofs.controls.is_mentioned.Statement.{statement}
@@ -23,23 +23,23 @@ abbrev μ-loop : tie.MeasureT-loop
 loop-holds : tie.Need-loop-holds Inv-loop μ-loop
 loop-holds c = rw sub-zero refl
 
-next-feature-requires : tie.Need-next-feature-requires Inv-loop μ-loop
-next-feature-requires c κs = search needs
+next-name-requires : tie.Need-next-name-requires Inv-loop μ-loop
+next-name-requires c κs = search needs
 
 returns : tie.Need-returns Inv-loop μ-loop
 returns c =
     let a = c .before .before .before .before in
-    sym (a .loop .inv ∙ mentioned-end _ _ (a .loop .q) (c .before .before .before .before .before .before .args .i - a .loop .k) (c .before .before .next-feature .result) (c .before .before .next-feature .ensures .0) (c .if1 .taken))
+    sym (a .loop .inv ∙ mentioned-end _ _ (a .loop .q) (c .before .before .before .before .before .before .args .i - a .loop .k) (featureBy _ (c .before .before .next-name .result)) (c .before .before .next-name .ensures .0) (c .if1 .taken))
 
 same-name-requires : tie.Need-same-name-requires Inv-loop μ-loop
-same-name-requires c κs = (c .before .before .next-feature .ensures .1 (not-false _ (c .if1 .left)) .name, c .before .before .before .before .before .before .pre)
+same-name-requires c κs = (let w = c .before .before .next-name .ensures .1 (not-false _ (c .if1 .left)) in omega (arith, w), c .before .before .before .before .before .before .pre)
 
 returns-2 : tie.Need-returns-2 Inv-loop μ-loop
 returns-2 c =
     let a = c .before .before .before .before .before .before in
     let v = c .before .before .before .before in
     let i = c .before .before .before .before .before .before .before .before .args .i in
-    sym (a .loop .inv ∙ mentioned-here _ _ (a .loop .q) (i - a .loop .k) (v .next-feature .result) (v .next-feature .ensures .0) (c .before .before .if1 .left) {j = i - (a .loop .k + 1)} (omega arith) (c .before .same-name .ensures) (c .if2 .taken))
+    sym (a .loop .inv ∙ mentioned-here _ _ (a .loop .q) (i - a .loop .k) (featureBy _ (v .next-name .result)) (v .next-name .ensures .0) (c .before .before .if1 .left) {j = i - (a .loop .k + 1)} (omega arith) (c .before .same-name .ensures) (c .if2 .taken))
 
 add-k : tie.Need-add-k Inv-loop μ-loop
 add-k c = search needs
@@ -52,7 +52,7 @@ loop-again c =
     let a = c .before .before .before .before .before .before in
     let v = c .before .before .before .before in
     let i = c .before .before .before .before .before .before .before .before .args .i in
-    a .loop .inv ∙ mentioned-later _ _ (a .loop .q) (i - a .loop .k) (v .next-feature .result) (v .next-feature .ensures .0) (c .before .before .if1 .left) {j = i - (a .loop .k + 1)} (omega arith) (c .before .same-name .ensures) (c .if2 .left)
+    a .loop .inv ∙ mentioned-later _ _ (a .loop .q) (i - a .loop .k) (featureBy _ (v .next-name .result)) (v .next-name .ensures .0) (c .before .before .if1 .left) {j = i - (a .loop .k + 1)} (omega arith) (c .before .same-name .ensures) (c .if2 .left)
 
 returns-3 : tie.Need-returns-3 Inv-loop μ-loop
 returns-3 c =
@@ -66,7 +66,7 @@ is-mentioned-spec =
     Inv-loop
     μ-loop
     loop-holds
-    next-feature-requires
+    next-name-requires
     returns
     same-name-requires
     returns-2

@@ -6,7 +6,7 @@ use mathlib.Core.Bool.{false, not}
 use Prim.Native.Nat.{_-_}
 use native.Mathlib.Omega.{arith}
 use Rattle.stream.specs.Payload.{payload, room}
-use Rattle.scene.specs.Answers.{Within}
+use Rattle.scene.specs.Answers.{Within, featureBy}
 use Rattle.scene.specs.Index.{Indexed}
 use Rattle.register.proofs.Pushing.{sheet, sheets}
 use Rattle.register.proofs.Telling.{Told, none-told, all-told, one-told}
@@ -19,14 +19,16 @@ Inv-loop s labels ix₀ out₀ warned₀ q₀ i₀ ix out warned q i = Told (pay
 abbrev μ-loop : tie.MeasureT-loop
 μ-loop s labels ix₀ out₀ warned₀ q₀ i₀ ix out warned q i = room s - q
 
-within : (c : tie.After-next-feature Inv-loop μ-loop) → not (c .next-feature .result .some) ≡ false → Within (room (c .before .before .before .before .before .args .s .now)) (c .before .loop .q) (c .next-feature .result .at) (c .next-feature .result .len) (c .next-feature .result .next)
-within c h = c .next-feature .ensures .1 (not-false _ h)
+within : (c : tie.After-next-name Inv-loop μ-loop) → not (c .next-name .result .some) ≡ false → Within (room (c .before .before .before .before .before .args .s .now)) (c .before .loop .q) (c .next-name .result .at) (c .next-name .result .len) (c .next-name .result .next)
+within c h =
+    let w = c .next-name .ensures .1 (not-false _ h) in
+    record { name = omega (arith, w); more = w .more; fits = w .fits }
 
 loop-holds : tie.Need-loop-holds Inv-loop μ-loop
 loop-holds c = (none-told _ _ (c .before .before .before .pre .1), c .before .before .before .pre .3)
 
-next-feature-requires : tie.Need-next-feature-requires Inv-loop μ-loop
-next-feature-requires c κs = search needs
+next-name-requires : tie.Need-next-name-requires Inv-loop μ-loop
+next-name-requires c κs = search needs
 
 same-length : tie.Need-same-length Inv-loop μ-loop
 same-length c = c .before .before .before .loop .inv .1 .size ∙ sym (c .before .before .before .before .before .before .before .pre .3 .size)
@@ -36,7 +38,7 @@ same-length-2 c = c .before .before .before .loop .inv .0 .kept
 
 returns : tie.Need-returns Inv-loop μ-loop
 returns c =
-    let t = all-told (c .before .before .before .loop .inv .0) (c .before .before .next-feature .result) (c .before .before .next-feature .ensures .0) (c .if1 .taken) in
+    let t = all-told (c .before .before .before .loop .inv .0) (featureBy _ (c .before .before .next-name .result)) (c .before .before .next-name .ensures .0) (c .if1 .taken) in
     (t .0, (t .1 .0, t .1 .1, c .before .before .before .loop .inv .1))
 
 ready-requires : tie.Need-ready-requires Inv-loop μ-loop
@@ -60,10 +62,10 @@ loop-less c = omega (arith, within (c .before .before .before .before .before .b
 loop-again : tie.Need-loop-again Inv-loop μ-loop
 loop-again c =
     let v = c .before .before .before .before .before .before .before .before .before in (
-      one-told (c .before .before .before .before .before .before .before .before .before .before .loop .inv .0) (v .next-feature .result) (v .next-feature .ensures .0) (c .before .before .before .before .before .before .before .if1 .left) (within v (c .before .before .before .before .before .before .before .if1 .left) .more) (c .before .fate .ensures)
+      one-told (c .before .before .before .before .before .before .before .before .before .before .loop .inv .0) (featureBy _ (v .next-name .result)) (v .next-name .ensures .0) (c .before .before .before .before .before .before .before .if1 .left) (within v (c .before .before .before .before .before .before .before .if1 .left) .more) (c .before .fate .ensures)
           (⊎-elim (λ w. inl (w .0 .taken, sheets (w .5) (w .6) ∙ w .2 .ensures)) (λ w. inr (w .0 .left, sheets (w .1) (w .2))) (c .if2 .came)),
       c .before .before .before .before .before .ready .ensures,
     )
 
 pub warn-features-spec : {M : Type 1} → statement M
-warn-features-spec = tie.close (tie.spec Inv-loop μ-loop loop-holds next-feature-requires same-length same-length-2 returns ready-requires fate-requires cast-push push-requires add-i loop-less loop-again)
+warn-features-spec = tie.close (tie.spec Inv-loop μ-loop loop-holds next-name-requires same-length same-length-2 returns ready-requires fate-requires cast-push push-requires add-i loop-less loop-again)
