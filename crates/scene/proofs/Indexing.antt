@@ -44,7 +44,7 @@ module _ (name : List ℕ) {n : ℕ} (len : length name ≡ n) (h i : ℕ) where
       let g : length name ≤ i = omega arith in
       rw (drop-of-length-le name g) refl
 
-  pub slot-step : {b : ℕ} → i < n → b ≡ getD name i 0 → slotFrom h (drop i name) ≡ slotFrom ((h * 31 + b) % 4096) (drop (i + 1) name)
+  pub slot-step : {b : ℕ} → i < n → b ≡ getD name i 0 → slotFrom h (drop i name) ≡ slotFrom ((h * 3309 + b) % 4096) (drop (i + 1) name)
   unfolding slotFrom
   slot-step k e = rw (drop-cons name i 0 (omega arith), e, add-one) refl
 

@@ -11,10 +11,10 @@ use Rattle.scene.specs.Scene.{Maybe, none, some, NamedPlace, placeAt, Dr
 use Rattle.scene.specs.Labels.{pick}
 use Rattle.scene.specs.Answers.{placesAt, itemsAt}
 
--- the slot of a label, by a hash of its bytes
+-- the slot of a label, by a hash of its bytes; with this factor numbered names share few slots
 unfoldable pub slotFrom : ℕ → List ℕ → ℕ
 slotFrom h [] = h
-slotFrom h (b ∷ bs) = slotFrom ((h * 31 + b) % 4096) bs
+slotFrom h (b ∷ bs) = slotFrom ((h * 3309 + b) % 4096) bs
 
 abbrev pub slotOf : List ℕ → ℕ
 slotOf name = slotFrom 0 name

@@ -27,7 +27,7 @@ fn apart_slot(s: &[u8], at: usize, n: usize) -> usize
     let mut h = 0usize;
     let mut i = 0usize;
     while i < n {
-        h = (h * 31 + wide(byte(s, 0, at + i))) % 4096;
+        h = (h * 3309 + wide(byte(s, 0, at + i))) % 4096;
         i += 1;
     }
     h
@@ -41,7 +41,7 @@ fn run_slot(s: &[u8], at: usize, n: usize) -> usize
     let mut h = 0usize;
     let mut i = 0usize;
     while i < n {
-        h = (h * 31 + wide(s[at + i])) % 4096;
+        h = (h * 3309 + wide(s[at + i])) % 4096;
         i += 1;
     }
     h

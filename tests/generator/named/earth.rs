@@ -325,12 +325,12 @@ pub fn labels(set: &mut Set) {
     // Three names of one hash, as the index of labels has it, and one, two or three labels of it.
     let names = |d: Doc| {
         d.feature("none", 0.0, 0.0)
-            .feature("Ba", 7.0, 46.0)
-            .feature("CB", 7.1, 46.0)
-            .feature("D#", 7.0, 46.1)
+            .feature("0T", 7.0, 46.0)
+            .feature("JB", 7.1, 46.0)
+            .feature("d0", 7.0, 46.1)
     };
     let mark = sharp(4.0, 3.0, 1.0, 1.0);
-    let places = [("Ba", [1.0, 0.0]), ("CB", [5.0, 0.0]), ("D#", [1.0, 6.0])];
+    let places = [("0T", [1.0, 0.0]), ("JB", [5.0, 0.0]), ("d0", [1.0, 6.0])];
     for chosen in 1..8u8 {
         let some = (0..3).filter(|k| chosen >> k & 1 == 1).map(|k| places[k]);
         let mut doc = names(Doc::mercator());

@@ -16,7 +16,7 @@ use Rattle.scene.specs.Index.{slotFrom, slotOf, Held, nobody, place, ite
 slot-from : (h : ℕ) (name : List ℕ) → h < 4096 → slotFrom h name < 4096
 unfolding slotFrom
 slot-from h [] k = k
-slot-from h (b ∷ bs) k = slot-from ((h * 31 + b) % 4096) bs (omega arith)
+slot-from h (b ∷ bs) k = slot-from ((h * 3309 + b) % 4096) bs (omega arith)
 
 pub slot-less : (name : List ℕ) → slotOf name < 4096
 slot-less name = slot-from 0 name (omega arith)
