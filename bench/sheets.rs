@@ -189,14 +189,16 @@ fn items(count: usize, item: impl Fn(f64) -> Item) -> Doc {
     sheet().with(|d| d.items.extend((0..count).map(|i| item(i as f64))))
 }
 
-/// 200 lines of 10 km: 101 positions each.
+/// 200 lines of 10 km: 102 positions each.
 fn segments() -> Doc {
     items(200, |i| Item::new(LINE).points(&[[i, 0.0], [9990.0 + i, 1000.0 - i]]))
 }
 
 /// A line of 5,000 points in steps below 100 m.
 fn short_segments() -> Doc {
-    let points: Vec<_> = (0..5000).map(|k| [k as f64 * 30.0 + 0.1, (k % 7) as f64 * 9.3]).collect();
+    let points: Vec<_> = (0..5000)
+        .map(|k| [k as f64 * 30.0 + 0.1, (k % 7) as f64 * 9.3])
+        .collect();
     items(4, |_| Item::new(LINE).points(&points))
 }
 
@@ -209,7 +211,9 @@ fn ellipses() -> Doc {
 }
 
 fn rounded_boxes() -> Doc {
-    items(200, |i| Item::new(write::BOX).at(i * 3.0, -i).size(90.0 + i, 80.0).rad(20.0))
+    items(200, |i| {
+        Item::new(write::BOX).at(i * 3.0, -i).size(90.0 + i, 80.0).rad(20.0)
+    })
 }
 
 fn sharp_boxes() -> Doc {
@@ -254,7 +258,9 @@ fn variables(n: usize) -> Doc {
 
 /// Pairs of variables that name nothing.
 fn pairs(n: usize) -> Doc {
-    (0..n).fold(dots(1), |d, i| d.var(&format!("p{i:07}_lon"), 7.0).var(&format!("p{i:07}_lat"), 45.0))
+    (0..n).fold(dots(1), |d, i| {
+        d.var(&format!("p{i:07}_lon"), 7.0).var(&format!("p{i:07}_lat"), 45.0)
+    })
 }
 
 fn controls(n: usize) -> Doc {
@@ -271,22 +277,62 @@ fn product(n: usize) -> Doc {
     (0..n).fold(doc, |d, i| d.place(&format!("L{i:07}"), [i as f64, 0.0]))
 }
 
+type Sheet = (&'static str, fn() -> Doc);
+
+/// Sheets of positions, each of one kind.
+const BY_POSITION: [Sheet; 7] = [
+    ("straight segments, 102 positions each", segments),
+    ("short segments, one position each", short_segments),
+    ("circles", circles),
+    ("ellipses", ellipses),
+    ("rounded boxes", rounded_boxes),
+    ("sharp boxes", sharp_boxes),
+    ("cubics", cubics),
+];
+
+/// Sheets that grow, at one size, for a profile.
+const OF_ONE_SIZE: [Sheet; 5] = [
+    ("items", || dots(4000)),
+    ("host features", || features(4000)),
+    ("variables", || variables(4000)),
+    ("pairs of variables", || pairs(4000)),
+    ("control points", || controls(64)),
+];
+
+/// The module's call alone, ten times, on the sheet whose name begins so.
+fn one(name: &str) {
+    let lent = &mut Lent::with_work(8192);
+    let all = BY_POSITION.iter().chain(&OF_ONE_SIZE);
+    for (_, sheet) in all.filter(|(n, _)| n.starts_with(name)) {
+        let stream = sheet().stream();
+        for _ in 0..10 {
+            black_box(module(&stream, lent));
+        }
+    }
+}
+
 fn main() {
-    let rounds = std::env::args().nth(1).and_then(|n| n.parse().ok()).unwrap_or(11);
+    let args: Vec<String> = std::env::args().skip(1).collect();
+    if let [mode, name] = &args[..] {
+        assert_eq!(mode, "one", "sheets [ROUNDS] or sheets one NAME");
+        return one(name);
+    }
+    let rounds = args.first().and_then(|n| n.parse().ok()).unwrap_or(11);
     let lent = &mut Lent::with_work(8192);
 
     title("nanoseconds a position");
-    by_position("straight segments, 101 positions each", &segments(), lent, rounds);
-    by_position("short segments, one position each", &short_segments(), lent, rounds);
-    by_position("circles", &circles(), lent, rounds);
-    by_position("ellipses", &ellipses(), lent, rounds);
-    by_position("rounded boxes", &rounded_boxes(), lent, rounds);
-    by_position("sharp boxes", &sharp_boxes(), lent, rounds);
-    by_position("cubics", &cubics(), lent, rounds);
+    for (name, sheet) in BY_POSITION {
+        by_position(name, &sheet(), lent, rounds);
+    }
 
     title("megabytes a second, 32 MiB");
     let few = rounds.min(5);
-    megabytes("items of 13 bytes that draw nothing", &largest(&Item::new(LINE).flags(write::HIDDEN)), lent, few);
+    megabytes(
+        "items of 13 bytes that draw nothing",
+        &largest(&Item::new(LINE).flags(write::HIDDEN)),
+        lent,
+        few,
+    );
     megabytes("dots", &largest(&Item::new(DOT).at(3.0, 4.0)), lent, few);
 
     title("microseconds a sheet");
