@@ -103,7 +103,7 @@ pub fn is_mentioned(s: &[u8], i: usize, at: usize, n: usize) -> bool
     false
 }
 
-// Before a name is looked up, so many having been before it. An index of the labels is made for the second: it costs a walk over all records, as one name alone does.
+// Before a name is looked up, so many having been before it. An index of the labels is made for the second: it costs a walk over all records, as one name alone does. The answer, one more up to 2, only decides when; what is found is the same.
 pub fn ready(s: &[u8], labels: usize, ix: &mut [u32], seen: usize) -> usize
     requires { ⌜ Indexed (payload (now s)) labels (now ix) ⌝ }
     ensures { λ r. ⌜ Indexed (payload (now (s .entry))) labels (now (ix .exit)) ⌝ }
