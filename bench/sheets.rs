@@ -291,12 +291,14 @@ const BY_POSITION: [Sheet; 7] = [
 ];
 
 /// Sheets that grow, at one size, for a profile.
-const OF_ONE_SIZE: [Sheet; 5] = [
+const OF_ONE_SIZE: [Sheet; 7] = [
     ("items", || dots(4000)),
     ("host features", || features(4000)),
     ("variables", || variables(4000)),
     ("pairs of variables", || pairs(4000)),
     ("control points", || controls(64)),
+    ("single control point", || controls(1)),
+    ("single item", || dots(1)),
 ];
 
 /// The module's call alone, ten times, on the sheet whose name begins so.
@@ -337,6 +339,7 @@ fn main() {
 
     title("microseconds a sheet");
     let lent = &mut Lent::with_work(2048);
+    growth("items", &[1, 4, 16, 64], dots, lent, rounds);
     growth("items", &[1000, 4000, 16000, 64000], dots, lent, few);
     growth("host features", &[1000, 4000, 16000, 64000], features, lent, few);
     growth("variables", &[1000, 4000, 16000, 64000], variables, lent, few);

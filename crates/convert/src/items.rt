@@ -6,7 +6,7 @@ ghost use Prim.Native.Nat.{ℕ, _+_, _≤_, _<_};
 ghost use lib.Ieee.{Float};
 ghost use lib.ListN.{length};
 ghost use Rattle.stream.specs.Payload.{payload, room};
-ghost use Rattle.scene.specs.Answers.{PathWithin, pointsFrom, pathsFrom, pathsBy, itemsAt, itemBy};
+ghost use Rattle.scene.specs.Answers.{Labels, PathWithin, pointsFrom, pathsFrom, pathsBy, itemsAt, itemBy};
 ghost use Rattle.densify.specs.Densify.{boxRingOf, ellipseRingOf};
 ghost use Rattle.convert.specs.Convert.{ringTrace, pointsTrace, pathsOf, pathsTrace, withPart, onScreen, itemOf, itemsOf, convertOf};
 ghost use Rattle.convert.specs.Space.{sheetBy, Fits, Played};
@@ -315,6 +315,7 @@ fn draw_item(
 
 fn draw_items(
     s: &[u8],
+    from: usize,
     cx: Ctx,
     work: &mut [f64],
     positions: &mut [f64],
@@ -322,11 +323,11 @@ fn draw_items(
     warnings: &mut [u32],
     st: State,
 ) -> State
-    requires { ⌜ (room (now s) < 4294967295) × Fits (sheetBy (length (now work)) (now positions) (now features) (now warnings) st) (st .budget) ⌝ }
+    requires { ⌜ (room (now s) < 4294967295) × Fits (sheetBy (length (now work)) (now positions) (now features) (now warnings) st) (st .budget) × Labels (payload (now s)) from ⌝ }
     ensures { λ r. ⌜ Played (itemsOf onScreen cx 0 (itemsAt (payload (now (s .entry))) 0) (st .budget)) (sheetBy (length (now (work .entry))) (now (positions .entry)) (now (features .entry)) (now (warnings .entry)) st) (sheetBy (length (now (work .exit))) (now (positions .exit)) (now (features .exit)) (now (warnings .exit)) r) (r .budget) ⌝ }
 {
     let mut state = st;
-    let mut q = 0usize;
+    let mut q = from;
     let mut i = 0usize;
     loop {
         if state.number != 0 {
@@ -352,9 +353,10 @@ fn draw_items(
     }
 }
 
-// Every item of the scene, then the warning that the allowance was spent.
+// Every item of the scene, all of which stand from a position on, then the warning that the allowance was spent.
 pub fn convert(
     s: &[u8],
+    from: usize,
     cx: Ctx,
     work: &mut [f64],
     positions: &mut [f64],
@@ -362,10 +364,10 @@ pub fn convert(
     warnings: &mut [u32],
     st: State,
 ) -> State
-    requires { ⌜ (room (now s) < 4294967295) × Fits (sheetBy (length (now work)) (now positions) (now features) (now warnings) st) (st .budget) ⌝ }
+    requires { ⌜ (room (now s) < 4294967295) × Fits (sheetBy (length (now work)) (now positions) (now features) (now warnings) st) (st .budget) × Labels (payload (now s)) from ⌝ }
     ensures { λ r. ⌜ Played (convertOf onScreen cx (itemsAt (payload (now (s .entry))) 0) (st .budget)) (sheetBy (length (now (work .entry))) (now (positions .entry)) (now (features .entry)) (now (warnings .entry)) st) (sheetBy (length (now (work .exit))) (now (positions .exit)) (now (features .exit)) (now (warnings .exit)) r) (r .budget) ⌝ }
 {
-    let r = draw_items(s, cx, work, positions, features, warnings, st);
+    let r = draw_items(s, from, cx, work, positions, features, warnings, st);
     let left = r.budget;
     if !left.hit {
         return r;

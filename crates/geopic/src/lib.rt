@@ -8,13 +8,16 @@ ghost use Rattle.stream.specs.Payload.{payload};
 ghost use Rattle.records.specs.Refusals.{refusalOf};
 ghost use Rattle.scene.specs.Scene.{sceneOf};
 ghost use Rattle.register.specs.Register.{f0, registrationOf, registerRefusal};
+ghost use Rattle.register.specs.Survey.{Surveyed};
 ghost use Rattle.convert.specs.Space.{sheetBy, Played};
 ghost use Rattle.geopic.specs.Geopic.{traceOf, Lent, blank, refusal, acceptance, clear, answerOf, lentAfter};
 use budget::Budget;
 use convert::Ctx;
 use convert::State;
 use convert::convert;
+use register::Survey;
 use register::register;
+use register::survey_variables;
 use register::write_warnings;
 use similarity::Registration;
 use similarity::projection_of;
@@ -80,16 +83,17 @@ fn clear_words(out: &mut [u32]) -> usize
 // The registration's warnings, then every item.
 fn draw(
     s: &[u8],
+    v: Survey,
     r: Registration,
     work: &mut [f64],
     positions: &mut [f64],
     features: &mut [u32],
     warnings: &mut [u32],
 ) -> State
-    requires { ⌜ (refusalOf (now s) ≡ 0) × (registerRefusal (sceneOf (payload (now s))) ≡ 0) × (r ≡ registrationOf (sceneOf (payload (now s)))) ⌝ }
+    requires { ⌜ (refusalOf (now s) ≡ 0) × (registerRefusal (sceneOf (payload (now s))) ≡ 0) × (r ≡ registrationOf (sceneOf (payload (now s)))) × Surveyed (payload (now s)) v ⌝ }
     ensures { λ st. ⌜ Played (traceOf (sceneOf (payload (now (s .entry))))) (blank (record { work = now (work .entry); positions = now (positions .entry); features = now (features .entry); warnings = now (warnings .entry) })) (sheetBy (length (now (work .exit))) (now (positions .exit)) (now (features .exit)) (now (warnings .exit)) st) (st .budget) ⌝ }
 {
-    let w = write_warnings(s, warnings, r.controls);
+    let w = write_warnings(s, v, warnings, r.controls);
     let fresh = Budget {
         left: MAX_VERTICES,
         hit: false,
@@ -110,7 +114,7 @@ fn draw(
         step: MAX_STEP_M,
         flatten: scene::flatten(s),
     };
-    convert(s, cx, work, positions, features, warnings, st)
+    convert(s, v.labels, cx, work, positions, features, warnings, st)
 }
 
 fn accept(r: Registration, st: State) -> Answer
@@ -149,12 +153,13 @@ pub extern "C" fn geopic_place(
     if number != 0 {
         return refuse(number);
     }
-    let o = register(s);
+    let v = survey_variables(s);
+    let o = register(s, v);
     if o.number != 0 {
         return refuse(o.number);
     }
     let r = o.registration;
-    let st = draw(s, r, work, positions, features, warnings);
+    let st = draw(s, v, r, work, positions, features, warnings);
     clear_floats(work);
     if st.number != 0 {
         clear_floats(positions);

@@ -3,7 +3,7 @@ use mathlib.Core.Path.{_≡_, refl}
 use mathlib.Core.List.{List}
 use mathlib.Core.Bool.{true, false, and-false}
 use Prim.Native.Nat.{ℕ, _+_}
-use lib.ListN.{drop}
+use lib.ListN.{getD, drop}
 use lib.Dec.{leb}
 use Rattle.records.specs.declared.records.Record.{Record}
 use Rattle.records.specs.declared.records.Step.the-variants.{Got, End, Bad}
@@ -12,6 +12,7 @@ use Rattle.records.specs.Walk.{entries}
 use Rattle.records.specs.Layout.{Pass, go, stop, stepOf, inOrder, laidOutFrom}
 use Rattle.records.specs.Limits.{limitedAt, allLimited}
 use Rattle.records.specs.Laws.Walk.{entries-end, entries-bad, ends-end, ends-bad, entries-got, entries-on, ends-on}
+use Rattle.records.specs.Laws.Search.{entries-closed}
 
 -- ---- condition 3
 module _ (b : List ℕ) (st : Pass) where
@@ -45,6 +46,11 @@ module _ (b : List ℕ) where
   pub limits-stop : {r : Record} {k : ℕ} → recordOf b ≡ Got r k → limitedAt b r ≡ false → false ≡ allLimited (entries b 0)
   unfolding allLimited
   limits-stop e h = rw (entries-got b e, h) refl
+
+-- nothing is left, or the end record begins
+pub limits-closed : (l : List ℕ) (p : ℕ) → getD l p 0 ≡ 0 → true ≡ allLimited (entries (drop p l) 0)
+unfolding allLimited
+limits-closed l p h = rw (entries-closed l p h) refl
 
 pub limits-go : (l : List ℕ) (p : ℕ) {r : Record} {k : ℕ} → recordOf (drop p l) ≡ Got r k → limitedAt (drop p l) r ≡ true → allLimited (entries (drop p l) 0) ≡ allLimited (entries (drop (p + k) l) 0)
 unfolding allLimited

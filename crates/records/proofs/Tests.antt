@@ -11,7 +11,7 @@ use lib.ListN.{length, getD, drop, drop-of-length-le}
 use lib.Seq.{drop-cons}
 use lib.Dec.{eqb}
 use borrow.Author.Tests.{eq-eqb, ne-eqb, eqb-true, not-true, not-false}
-use Rattle.stream.specs.Numbers.{u16At, u32At}
+use Rattle.stream.specs.Numbers.{u16At, u32At, u64At}
 use Rattle.records.specs.Records.{allTo, allZero}
 use Rattle.records.specs.Laws.Tests.{and-left, and-right}
 
@@ -63,9 +63,9 @@ refuted true h = absurd (h refl)
 refuted false h = refl
 
 module _ (l : List ℕ) (i : ℕ) where
-  pub word-fails : (u32At l i ≡ 0 → ⊥) → false ≡ allZero l
+  word-zero : allZero l ≡ true → u32At l i ≡ 0
   unfolding u32At u16At
-  word-fails e = refuted (allZero l) (λ h. e (rw (zero-at l i h, zero-at l (i + 1) h, zero-at l (i + 2) h, zero-at l (i + 2 + 1) h) refl))
+  word-zero h = rw (zero-at l i h, zero-at l (i + 1) h, zero-at l (i + 2) h, zero-at l (i + 2 + 1) h) refl
 
   pub byte-fails : i < length l → (getD l i 0 ≡ 0 → ⊥) → false ≡ allZero (drop i l)
   unfolding allZero
@@ -80,10 +80,19 @@ module _ (l : List ℕ) (i : ℕ) where
   unfolding allZero
   byte-turn j q h e = rw (← q, drop-cons l i 0 h, eq-eqb (getD l i 0) 0 e, add-one) refl
 
-pub word-turn : (l : List ℕ) (i : ℕ) → i + 4 ≤ length l → u32At l i ≡ 0 → allZero (drop i l) ≡ allZero (drop (i + 4) l)
+word-turn : (l : List ℕ) (i j : ℕ) → i + 4 ≡ j → j ≤ length l → u32At l i ≡ 0 → allZero (drop i l) ≡ allZero (drop j l)
 unfolding u32At u16At
-word-turn l i h e =
+word-turn l i j q h e =
     byte-turn l i (i + 1) refl (omega arith) (omega arith)
     ∙ byte-turn l (i + 1) (i + 2) (omega arith) (omega arith) (omega arith)
     ∙ byte-turn l (i + 2) (i + 2 + 1) refl (omega arith) (omega arith)
-    ∙ byte-turn l (i + 2 + 1) (i + 4) (omega arith) (omega arith) (omega arith)
+    ∙ byte-turn l (i + 2 + 1) j (omega arith) (omega arith) (omega arith)
+
+module _ (l : List ℕ) (i : ℕ) where
+  pub long-fails : (u64At l i ≡ 0 → ⊥) → false ≡ allZero l
+  unfolding u64At
+  long-fails e = refuted (allZero l) (λ h. e (rw (word-zero l i h, word-zero l (i + 4) h) refl))
+
+  pub long-turn : i + 8 ≤ length l → u64At l i ≡ 0 → allZero (drop i l) ≡ allZero (drop (i + 8) l)
+  unfolding u64At
+  long-turn h e = word-turn l i (i + 4) refl (omega arith) (omega arith) ∙ word-turn l (i + 4) (i + 8) (omega arith) (omega arith) (omega arith)

@@ -14,6 +14,7 @@ use crate::records::next_record;
 use crate::records::values_width;
 use crate::records::wide;
 use crate::records::wide16;
+use crate::search::tag_at;
 use stream::Float64;
 use stream::float_of;
 use stream::long;
@@ -92,6 +93,9 @@ pub fn limits(s: &[u8]) -> bool
 {
     let mut p = 0usize;
     loop {
+        if tag_at(s, p) == 0 {
+            return true;
+        }
         let part = stream::part_from(s, p);
         let off = p % stream::PAYLOAD;
         match next_record(part, off) {

@@ -7,8 +7,8 @@ ghost use Rattle.records.specs.Records.{plain, plains, named, labelled, 
 ghost use Rattle.records.specs.Records.{endOf, rescaleOf, choiceOf, featureOf, variableOf, placeOf, itemOf, pointsOf, pathWith, pathOf, recordOf};
 use stream::byte;
 use stream::left;
+use stream::long;
 use stream::short;
-use stream::word;
 
 // A record. Names, floats and pairs stay in the stream, at places that the fields here settle.
 pub enum Record {
@@ -182,18 +182,18 @@ fn zeros_from(part: &[u8], off: usize, i: usize) -> bool
     true
 }
 
-// Whether all bytes are zeros: four at a time, since they may be the stream's most.
+// Whether all bytes are zeros: eight at a time, since they may be the stream's most.
 fn zeros(part: &[u8], off: usize) -> bool
     requires { ⌜ off ≤ room (now part) ⌝ }
     ensures { λ r. ⌜ r ≡ allZero (rest (now (part .entry)) off) ⌝ }
 {
     let len = left(part, off);
     let mut i = 0usize;
-    while len - i >= 4 {
-        if word(part, off, i) != 0 {
+    while len - i >= 8 {
+        if long(part, off, i) != 0 {
             return false;
         }
-        i += 4;
+        i += 8;
     }
     zeros_from(part, off, i)
 }

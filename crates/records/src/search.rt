@@ -1,9 +1,9 @@
 // The next record that a question asks for.
 ghost use mathlib.Core.Path.{_≡_};
-ghost use mathlib.Core.Bool.{Bool, true, false};
-ghost use mathlib.Core.List.{[]};
+ghost use mathlib.Core.Bool.{Bool, true, false, _||_};
 ghost use Prim.Native.Nat.{ℕ, _≤_};
-ghost use lib.ListN.{drop};
+ghost use lib.Dec.{eqb};
+ghost use lib.ListN.{getD, drop};
 ghost use Rattle.stream.specs.Payload.{payload};
 ghost use Rattle.records.specs.Records.{recordOf};
 ghost use Rattle.records.specs.Walk.{tagOf};
@@ -115,14 +115,24 @@ fn turn_at(r: Record, tag: u8, key: u8) -> Turn
     Turn::On
 }
 
-// Whether nothing is left at byte q of the payload, or the end record begins there: what follows needs no look.
-fn is_end(s: &[u8], q: usize) -> bool
-    ensures { λ r. ⌜ (r ≡ true → (t k : ℕ) → recordsAt (payload (now (s .entry))) q t k ≡ []) ⌝ }
+// The tag of what stands at byte q of the payload, 0 for the end record and behind the last byte.
+pub fn tag_at(s: &[u8], q: usize) -> u8
+    ensures { λ r. ⌜ r ≡ getD (payload (now (s .entry))) q 0 ⌝ }
 {
     if q >= stream::left(s, 0) {
+        return 0;
+    }
+    stream::byte(s, 0, q)
+}
+
+// Whether a search for tag t ends at the end record or at a record of tag x: what stands there needs no further look.
+fn is_over(t: u8, x: u8) -> bool
+    ensures { λ r. ⌜ r ≡ (eqb x 0 || past t x) ⌝ }
+{
+    if x == 0 {
         return true;
     }
-    stream::byte(s, 0, q) == 0
+    is_past(t, x)
 }
 
 // The first record of a tag and key from p on, as far as such a record can stand.
@@ -143,7 +153,7 @@ pub fn seek(s: &[u8], p: usize, tag: u8, key: u8) -> Hit
 {
     let mut q = p;
     loop {
-        if is_end(s, q) {
+        if is_over(tag, tag_at(s, q)) {
             return Hit {
                 some: false,
                 at: q,
@@ -194,7 +204,11 @@ pub fn skip_to(s: &[u8], p: usize, tag: u8) -> usize
 {
     let mut q = p;
     loop {
-        if is_end(s, q) {
+        let x = tag_at(s, q);
+        if x == 0 {
+            return q;
+        }
+        if x >= tag {
             return q;
         }
         match record_at(s, q) {
@@ -204,10 +218,7 @@ pub fn skip_to(s: &[u8], p: usize, tag: u8) -> usize
             Step::End => {
                 return q;
             }
-            Step::Got(r, k) => {
-                if tag_of(r) >= tag {
-                    return q;
-                }
+            Step::Got(_, k) => {
                 q = q + k;
             }
         }

@@ -8,21 +8,22 @@ use native.Mathlib.Numerals.{add-one}
 use native.Mathlib.Omega.{arith}
 use lib.ListN.{length, take, set, length-set}
 use lib.Seq.{take-nil, take-length}
-use lib.Dec.{ltb}
+use lib.Dec.{eqb, ltb}
 use lib.Ieee.{Float}
 use borrow.Author.Tests.{lt-ltb, le-ltb, not-true, not-false}
 use Rattle.records.specs.Order.{part}
 use Rattle.similarity.specs.declared.fit.Control.{Control}
-use Rattle.scene.specs.declared.numbers.Spot.{Spot}
 use Rattle.scene.specs.declared.numbers.Value.{Value}
 use Rattle.scene.specs.declared.sections.Feature.{Feature}
 use Rattle.scene.specs.Scene.{Maybe, none, some, Point, Scene, NamedFeature, NamedValue, sceneOf}
-use Rattle.scene.specs.Labels.{same, pointOfLabel}
-use Rattle.scene.specs.Answers.{valueBy, spotBy, featuresAt, featuresBy, variablesAt, placesAt, itemsAt}
+use Rattle.scene.specs.Labels.{same}
+use Rattle.scene.specs.Answers.{valueBy, featuresAt, featuresBy, variablesAt}
 use Rattle.scene.specs.Laws.Answers.{scene-lists}
+use Rattle.register.specs.declared.controls.Candidate.{Candidate}
 use Rattle.register.specs.declared.controls.Gathered.{Gathered}
+use Rattle.register.specs.Warned.{fateOf}
 use Rattle.register.specs.Register.{Warning, Event, control, warn, placed, resolved, mentioned, eventOf, suffixLat, var, stem, isLon, lonEvent, onto, variableEvents, featureEvent, featureEvents, events}
-use Rattle.register.specs.Gathered.{noControls, putOf, after, named, paired, gathered}
+use Rattle.register.specs.Gathered.{noControls, putOf, takenOf, after, unnamed, named, paired, gathered}
 
 -- ---- one more
 pub both : (a b : Bool) {r : Bool} → ((a ≡ true) × (r ≡ b)) ⊎ ((a ≡ false) × (r ≡ false)) → r ≡ (a && b)
@@ -77,24 +78,30 @@ unwarned none m lon lat v v′ w w′ g = refl
 unwarned (some p) true lon lat v v′ w w′ g = refl
 unwarned (some p) false lon lat v v′ w w′ g = refl
 
--- ---- the control point of a name, by the answers for it
-module _ (l name : List ℕ) (i : ℕ) (lon lat : Float) (g : Gathered) (p : Spot) (e : spotBy p ≡ pointOfLabel name (placesAt l 0) (itemsAt l 0)) where
-  resolves : resolved (sceneOf l) name ≡ spotBy p
-  unfolding sceneOf
-  resolves = sym e
+-- ---- the control point that a name may be, by what it comes to
+by-fate : (p : Maybe Point) (m : Bool) (x y lon lat : Float) (g : Gathered) (w : Warning) {k : ℕ} → k ≡ fateOf p m → (k ≡ 0 → p ≡ some (record { x = x; y = y }))
+    → takenOf (record { some = eqb k 0; control = record { x = x; y = y; lon = lon; lat = lat } }) g ≡ after (eventOf p m lon lat w w) g
+unfolding fateOf eventOf after
+by-fate none m x y lon lat g w e f = rw e refl
+by-fate (some p) true x y lon lat g w e f = rw e refl
+by-fate (some p) false x y lon lat g w e f =
+    let h : p ≡ record { x = x; y = y } = some-is (f e) in
+    rw (e, h) refl
+  where
+    some-is : {A : Type 0} {a b : A} → some a ≡ some b → a ≡ b
+    some-is z = cc
 
-  pub unresolved : not (p .some) ≡ true → g ≡ named (sceneOf l) name i lon lat g
-  unfolding named after eventOf
-  unresolved n = rw (resolves, not-true (p .some) n) refl
+pub named-taken : (l name : List ℕ) (i : ℕ) (lon lat x y : Float) {k : ℕ}
+    → k ≡ fateOf (resolved (sceneOf l) name) (mentioned name (take i (featuresAt l 0)))
+    → (k ≡ 0 → resolved (sceneOf l) name ≡ some (record { x = x; y = y }))
+    → (g : Gathered) → takenOf (record { some = eqb k 0; control = record { x = x; y = y; lon = lon; lat = lat } }) g ≡ named (sceneOf l) name i lon lat g
+unfolding named
+named-taken l name i lon lat x y e f g = rw (scene-lists l .0) (by-fate (resolved (sceneOf l) name) (mentioned name (take i (featuresAt l 0))) x y lon lat g unnamed e f)
 
-  module _ (n : not (p .some) ≡ false) {m : Bool} (s : m ≡ mentioned name (take i (featuresAt l 0))) where
-    pub again : m ≡ true → g ≡ named (sceneOf l) name i lon lat g
-    unfolding named after eventOf
-    again h = rw (resolves, not-false (p .some) n, scene-lists l .0, ← s, h) refl
-
-    pub once : {r : Gathered} → m ≡ false → r ≡ putOf g (record { x = p .x; y = p .y; lon = lon; lat = lat }) → r ≡ named (sceneOf l) name i lon lat g
-    unfolding named after eventOf
-    once h f = rw (resolves, not-false (p .some) n, scene-lists l .0, ← s, h) f
+-- where it is one, it is put to the others
+pub taken-by : (c : Candidate) {g g′ : Gathered} → ((c .some ≡ true) × (g′ ≡ putOf g (c .control))) ⊎ ((c .some ≡ false) × (g′ ≡ g)) → g′ ≡ takenOf c g
+taken-by c (inl w) = rw (w .0) (w .1)
+taken-by c (inr w) = rw (w .0) (w .1)
 
 -- ---- features, the first of them the i-th
 feature-next : (sc : Scene) (i : ℕ) (f : NamedFeature) (fs : List NamedFeature) (g : Gathered)
@@ -159,7 +166,7 @@ module _ (sc : Scene) (v : NamedValue) (vs : List NamedValue) (g : Gathered) whe
   lon-next h i k m = rw (m, i, k, h, ← lon-after sc 0 (stem (v .name)) (v .value) (var sc (stem (v .name) ++ suffixLat)) g) (unnumbered sc 1 0 vs _)
 
 -- where `<L>_lat` is set, and where not
-module _ (sc : Scene) (name : List ℕ) (i : ℕ) (lon : Float) (g : Gathered) (lat : Value) {m : Maybe Float} (e : valueBy lat ≡ m) where
+module _ (sc : Scene) (name : List ℕ) (i : ℕ) (lon : Float) (lat : Value) {m : Maybe Float} (e : valueBy lat ≡ m) (g : Gathered) where
   pub no-pair : not (lat .some) ≡ true → g ≡ paired sc name i lon m g
   unfolding paired
   no-pair n = rw (← e, not-true (lat .some) n) refl
@@ -195,3 +202,7 @@ module _ (l : List ℕ) {g : Gathered} (e : g ≡ gathered (featureEvents (scene
   pub all-gathered : {r : Gathered} → r ≡ gathered (variableEvents (sceneOf l) 0 (variablesAt l 0)) g → r ≡ gathered (events (sceneOf l)) noControls
   unfolding events sceneOf
   all-gathered f = f ∙ rw e (sym (gathered-append (featureEvents (sceneOf l) 0 (featuresAt l 0)) (variableEvents (sceneOf l) 0 (variablesAt l 0)) noControls))
+
+  pub features-alone : variableEvents (sceneOf l) 0 (variablesAt l 0) ≡ [] → g ≡ gathered (events (sceneOf l)) noControls
+  unfolding gathered
+  features-alone h = all-gathered (rw h refl)

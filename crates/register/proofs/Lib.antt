@@ -1,10 +1,12 @@
 pub mod Gathering
 pub mod Lons
 pub mod Lookup
+pub mod Marking
 pub mod Options
 pub mod Pairs
 pub mod Pushing
 pub mod RunsBytes
 pub mod RunsNames
+pub mod Surveying
 pub mod Telling
 pub mod Turning

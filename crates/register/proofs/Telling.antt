@@ -100,13 +100,22 @@ module _ {s : List ℕ} {t₀ t : Sheet} {runs : List ℕ} {at len q i : ℕ} (d
         short = omega (arith, p .within, d .short);
       }
 
+-- ---- features, then variables
+module _ (l : List ℕ) (t : Sheet) {features : Sheet} (f : features ≡ allPushed (warningsIn (featureEvents (sceneOf l) 0 (featuresAt l 0))) t) where
+  pub names-told : {all : Sheet} → all ≡ allPushed (warningsIn (variableEvents (sceneOf l) 0 (variablesAt l 0))) features → all ≡ allPushed (warningsIn (events (sceneOf l))) t
+  unfolding events
+  names-told w = rw (w, f, scene-lists l .0, scene-lists l .1) (simp (pushed-append, warnings-append))
+
+  pub features-told : variableEvents (sceneOf l) 0 (variablesAt l 0) ≡ [] → features ≡ allPushed (warningsIn (events (sceneOf l))) t
+  unfolding allPushed warningsIn
+  features-told h = names-told (rw h refl)
+
 -- ---- all warnings of a registration with n control points
-pub all-warned : (l : List ℕ) (t : Sheet) {n : ℕ} {view features variables half all : Sheet} → n ≡ length (controlsOf (sceneOf l))
+pub all-warned : (l : List ℕ) (t : Sheet) {n : ℕ} {view names half all : Sheet} → n ≡ length (controlsOf (sceneOf l))
     → view ≡ allPushed (viewWarnings (sceneOf l)) t
-    → features ≡ allPushed (warningsIn (featureEvents (sceneOf l) 0 (featuresAt l 0))) view
-    → variables ≡ allPushed (warningsIn (variableEvents (sceneOf l) 0 (variablesAt l 0))) features
-    → half ≡ allPushed (halfWarnings (sceneOf l)) variables
+    → names ≡ allPushed (warningsIn (events (sceneOf l))) view
+    → half ≡ allPushed (halfWarnings (sceneOf l)) names
     → all ≡ allPushed (ignoredWith n (sceneOf l)) half
     → all ≡ allPushed (registerWarnings (sceneOf l)) t
-unfolding registerWarnings events
-all-warned l t e v f w h i = rw (i, h, w, f, v, e, scene-lists l .0, scene-lists l .1) (simp (pushed-append, warnings-append))
+unfolding registerWarnings
+all-warned l t e v w h i = rw (i, h, w, v, e) (simp pushed-append)

@@ -5,6 +5,7 @@ use Prim.Native.Nat.{ℕ, _+_}
 use lib.ListN.{take, set, replicate}
 use lib.Dec.{ltb}
 use Rattle.similarity.specs.declared.fit.Control.{Control}
+use Rattle.register.specs.declared.controls.Candidate.{Candidate}
 use Rattle.register.specs.declared.controls.Gathered.{Gathered}
 use lib.Ieee.{Float}
 use Rattle.scene.specs.Scene.{Maybe, none, some, Scene}
@@ -26,6 +27,10 @@ putOf g c =
     pickGathered (ltb (g .n) 64)
     (record { at = set (g .at) (g .n) c; n = g .n + 1; placed = ok })
     (record { at = g .at; n = 65; placed = ok })
+
+-- one more that may be
+abbrev pub takenOf : Candidate → Gathered → Gathered
+takenOf c g = pickGathered (c .some) (putOf g (c .control)) g
 
 unfoldable pub after : Event → Gathered → Gathered
 after (control c) g = putOf g c

@@ -1,5 +1,7 @@
 -- Registration.
 pub mod Register
+pub mod Survey
+pub mod Marks
 pub mod Runs
 pub mod Gathered
 pub mod Outcome

@@ -7,25 +7,30 @@ ghost use lib.ListN.{length, take};
 ghost use Rattle.stream.specs.Payload.{payload, room};
 ghost use Rattle.records.specs.Layout.{laidOut};
 ghost use Rattle.records.specs.Order.{part};
-ghost use Rattle.scene.specs.Scene.{sceneOf};
+ghost use Rattle.scene.specs.Scene.{some, sceneOf};
 ghost use Rattle.scene.specs.Labels.{variableOf};
 ghost use Rattle.scene.specs.Answers.{Labels, Variables, featuresAt, variablesAt};
-ghost use Rattle.scene.specs.Index.{Indexed};
+ghost use Rattle.scene.specs.Index.{IndexOrNone};
 ghost use Rattle.scene.specs.Laws.Rising.{Rising};
-ghost use Rattle.register.specs.Register.{suffixLon, suffixLat, placed, mentioned, featureEvents, variableEvents, isLon, events};
-ghost use Rattle.register.specs.Gathered.{noControls, putOf, named, paired, gathered};
+ghost use Rattle.register.specs.Register.{isSome, suffixLon, suffixLat, placed, resolved, mentioned, featureEvents, variableEvents, isLon, events};
+ghost use Rattle.register.specs.declared.controls.Gathered.{Gathered};
+ghost use Rattle.register.specs.Survey.{Surveyed};
+ghost use Rattle.register.specs.Marks.{Marked, MarkedWith};
+ghost use Rattle.register.specs.Warned.{fateOf};
+ghost use Rattle.register.specs.Gathered.{noControls, putOf, takenOf, named, paired, gathered};
 use crate::runs::common;
 use crate::runs::lat_of;
 use crate::runs::next_runs;
+use crate::survey::Survey;
 use float::abs;
 use scene::find_label;
-use scene::first_label;
 use scene::index_labels;
 use scene::is_named;
 use scene::next_feature;
 use scene::next_name;
 use scene::next_variable;
 use scene::same_name;
+use scene::slot_of;
 use similarity::Control;
 
 pub struct Gathered {
@@ -83,7 +88,7 @@ fn put(g: Gathered, c: Control) -> Gathered
 }
 
 // Whether one of the first i host features has the name of n bytes at `at`.
-pub fn is_mentioned(s: &[u8], i: usize, at: usize, n: usize) -> bool
+fn is_mentioned(s: &[u8], i: usize, at: usize, n: usize) -> bool
     requires { ⌜ at + n ≤ room (now s) ⌝ }
     ensures { λ r. ⌜ r ≡ mentioned (part (payload (now (s .entry))) at n) (take i (featuresAt (payload (now (s .entry))) 0)) ⌝ }
 {
@@ -103,49 +108,94 @@ pub fn is_mentioned(s: &[u8], i: usize, at: usize, n: usize) -> bool
     false
 }
 
-// Before a name is looked up, so many having been before it. An index of the labels is made for the second: it costs a walk over all records, as one name alone does. The answer, one more up to 2, only decides when; what is found is the same.
-pub fn ready(s: &[u8], labels: usize, ix: &mut [u32], seen: usize) -> usize
-    requires { ⌜ Indexed (payload (now s)) labels (now ix) ⌝ }
-    ensures { λ r. ⌜ Indexed (payload (now (s .entry))) labels (now (ix .exit)) ⌝ }
+// The same of a name that resolves, by the marks of those before it, and one more mark. Only where its slot is marked already are the names compared.
+fn is_repeat(s: &[u8], marks: &mut [u8], i: usize, at: usize, n: usize) -> bool
+    requires { ⌜ (at + n ≤ room (now s)) × Marked (sceneOf (payload (now s))) (now marks) (take i (featuresAt (payload (now s)) 0)) × (isSome (resolved (sceneOf (payload (now s))) (part (payload (now s)) at n)) ≡ true) ⌝ }
+    ensures { λ r. ⌜ (r ≡ mentioned (part (payload (now (s .entry))) at n) (take i (featuresAt (payload (now (s .entry))) 0))) × MarkedWith (sceneOf (payload (now (s .entry)))) (now (marks .exit)) (take i (featuresAt (payload (now (s .entry))) 0)) (part (payload (now (s .entry))) at n) ⌝ }
 {
-    if seen > 1 {
-        return seen;
+    if marks.len() >= 4096 {
+        let h = slot_of(s, at, n);
+        if marks[h] == 0 {
+            marks[h] = 1;
+            return false;
+        }
     }
-    if seen == 1 {
-        index_labels(s, labels, ix);
-    }
-    seen + 1
+    is_mentioned(s, i, at, n)
 }
 
-// The control point of a name, its label looked for from a position on, of which ix is an index, unless it resolves to nothing or one of the first i host features has it.
-fn add_named(
+// What a name comes to: 0 a control point, at (x, y), 1 nothing of that name, 2 the name of a host feature before.
+pub struct Named {
+    pub fate: u8,
+    pub x: f64,
+    pub y: f64,
+}
+
+// What the name of n bytes at `at` comes to, behind the first i host features. Its label is looked for from a position on, of which ix may be an index.
+pub fn resolve(
     s: &[u8],
     labels: usize,
     ix: &[u32],
-    g: Gathered,
+    marks: &mut [u8],
+    i: usize,
+    at: usize,
+    n: usize,
+) -> Named
+    requires { ⌜ (at + n ≤ room (now s)) × Labels (payload (now s)) labels × IndexOrNone (payload (now s)) labels (now ix) × Marked (sceneOf (payload (now s))) (now marks) (take i (featuresAt (payload (now s)) 0)) ⌝ }
+    ensures { λ r. ⌜ (r .fate ≡ fateOf (resolved (sceneOf (payload (now (s .entry)))) (part (payload (now (s .entry))) at n)) (mentioned (part (payload (now (s .entry))) at n) (take i (featuresAt (payload (now (s .entry))) 0)))) × (r .fate ≡ 0 → resolved (sceneOf (payload (now (s .entry)))) (part (payload (now (s .entry))) at n) ≡ some (record { x = r .x; y = r .y })) ⌝ }
+    ensures { λ r. ⌜ MarkedWith (sceneOf (payload (now (s .entry)))) (now (marks .exit)) (take i (featuresAt (payload (now (s .entry))) 0)) (part (payload (now (s .entry))) at n) ⌝ }
+{
+    let p = find_label(s, labels, ix, at, n);
+    if !p.some {
+        return Named {
+            fate: 1,
+            x: 0.0,
+            y: 0.0,
+        };
+    }
+    let mut fate = 0u8;
+    if is_repeat(s, marks, i, at, n) {
+        fate = 2;
+    }
+    Named {
+        fate: fate,
+        x: p.x,
+        y: p.y,
+    }
+}
+
+// A control point that may be.
+pub struct Candidate {
+    pub some: bool,
+    pub control: Control,
+}
+
+// The control point of a name, unless it resolves to nothing or one of the first i host features has it.
+fn name_control(
+    s: &[u8],
+    labels: usize,
+    ix: &[u32],
+    marks: &mut [u8],
     i: usize,
     at: usize,
     n: usize,
     lon: f64,
     lat: f64,
-) -> Gathered
-    requires { ⌜ (length (g .at) ≡ 64) × (at + n ≤ room (now s)) × Labels (payload (now s)) labels × Indexed (payload (now s)) labels (now ix) ⌝ }
-    ensures { λ r. ⌜ r ≡ named (sceneOf (payload (now (s .entry)))) (part (payload (now (s .entry))) at n) i lon lat g ⌝ }
+) -> Candidate
+    requires { ⌜ (at + n ≤ room (now s)) × Labels (payload (now s)) labels × IndexOrNone (payload (now s)) labels (now ix) × Marked (sceneOf (payload (now s))) (now marks) (take i (featuresAt (payload (now s)) 0)) ⌝ }
+    ensures { λ r. ⌜ ((g : Gathered) → takenOf r g ≡ named (sceneOf (payload (now (s .entry)))) (part (payload (now (s .entry))) at n) i lon lat g) ⌝ }
+    ensures { λ r. ⌜ MarkedWith (sceneOf (payload (now (s .entry)))) (now (marks .exit)) (take i (featuresAt (payload (now (s .entry))) 0)) (part (payload (now (s .entry))) at n) ⌝ }
 {
-    let p = find_label(s, labels, ix, at, n);
-    if !p.some {
-        return g;
-    }
-    if is_mentioned(s, i, at, n) {
-        return g;
-    }
+    let p = resolve(s, labels, ix, marks, i, at, n);
     let c = Control {
         x: p.x,
         y: p.y,
         lon: lon,
         lat: lat,
     };
-    put(g, c)
+    Candidate {
+        some: p.fate == 0,
+        control: c,
+    }
 }
 
 pub struct Featured {
@@ -154,10 +204,10 @@ pub struct Featured {
     pub count: usize,
 }
 
-fn gather_features(s: &[u8], labels: usize, ix: &mut [u32]) -> Featured
-    requires { ⌜ Labels (payload (now s)) labels × Indexed (payload (now s)) labels (now ix) ⌝ }
+fn gather_features(s: &[u8], labels: usize, ix: &[u32], marks: &mut [u8]) -> Featured
+    requires { ⌜ Labels (payload (now s)) labels × IndexOrNone (payload (now s)) labels (now ix) × Marked (sceneOf (payload (now s))) (now marks) [] ⌝ }
     ensures { λ r. ⌜ r .controls ≡ gathered (featureEvents (sceneOf (payload (now (s .entry)))) 0 (featuresAt (payload (now (s .entry))) 0)) noControls ⌝ }
-    ensures { λ r. ⌜ (r .count ≡ length (featuresAt (payload (now (s .entry))) 0)) × Indexed (payload (now (s .entry))) labels (now (ix .exit)) ⌝ }
+    ensures { λ r. ⌜ (r .count ≡ length (featuresAt (payload (now (s .entry))) 0)) × Marked (sceneOf (payload (now (s .entry)))) (now (marks .exit)) (featuresAt (payload (now (s .entry))) 0) ⌝ }
 {
     let mut g = no_controls();
     let mut q = 0usize;
@@ -170,8 +220,11 @@ fn gather_features(s: &[u8], labels: usize, ix: &mut [u32]) -> Featured
                 count: i,
             };
         }
-        ready(s, labels, ix, i);
-        g = add_named(s, labels, ix, g, i, f.at, f.len, f.lon, f.lat);
+        let c = name_control(s, labels, ix, marks, i, f.at, f.len, f.lon, f.lat);
+        if c.some {
+            let control = c.control;
+            g = put(g, control);
+        }
         q = f.next;
         i += 1;
     }
@@ -192,25 +245,35 @@ pub fn is_lon(s: &[u8], at: usize, n: usize) -> bool
 }
 
 // The control point of `<L>_lon`, which stands at `at` with L of n bytes, where `<L>_lat` is set: it is looked for from p on.
-fn add_lon(
+fn lon_control(
     s: &[u8],
     labels: usize,
     ix: &[u32],
-    g: Gathered,
+    marks: &mut [u8],
     i: usize,
     p: usize,
     at: usize,
     n: usize,
     lon: f64,
-) -> Gathered
-    requires { ⌜ (length (g .at) ≡ 64) × (at + n + 4 ≤ room (now s)) × (part (payload (now s)) (at + n) 4 ≡ suffixLon) × Rising [] (variablesAt (payload (now s)) p) × Labels (payload (now s)) labels × Indexed (payload (now s)) labels (now ix) ⌝ }
-    ensures { λ r. ⌜ r ≡ paired (sceneOf (payload (now (s .entry)))) (part (payload (now (s .entry))) at n) i lon (variableOf (part (payload (now (s .entry))) at n ++ suffixLat) (variablesAt (payload (now (s .entry))) p)) g ⌝ }
+) -> Candidate
+    requires { ⌜ (at + n + 4 ≤ room (now s)) × (part (payload (now s)) (at + n) 4 ≡ suffixLon) × Rising [] (variablesAt (payload (now s)) p) × Labels (payload (now s)) labels × IndexOrNone (payload (now s)) labels (now ix) × Marked (sceneOf (payload (now s))) (now marks) (take i (featuresAt (payload (now s)) 0)) ⌝ }
+    ensures { λ r. ⌜ ((g : Gathered) → takenOf r g ≡ paired (sceneOf (payload (now (s .entry)))) (part (payload (now (s .entry))) at n) i lon (variableOf (part (payload (now (s .entry))) at n ++ suffixLat) (variablesAt (payload (now (s .entry))) p)) g) ⌝ }
+    ensures { λ r. ⌜ Marked (sceneOf (payload (now (s .entry)))) (now (marks .exit)) (take i (featuresAt (payload (now (s .entry))) 0)) ⌝ }
 {
     let lat = lat_of(s, p, at, n);
     if !lat.some {
-        return g;
+        let none = Control {
+            x: 0.0,
+            y: 0.0,
+            lon: 0.0,
+            lat: 0.0,
+        };
+        return Candidate {
+            some: false,
+            control: none,
+        };
     }
-    add_named(s, labels, ix, g, i, at, n, lon, lat.value)
+    name_control(s, labels, ix, marks, i, at, n, lon, lat.value)
 }
 
 // The pairs of variables, after the host features, of which there are so many.
@@ -218,11 +281,12 @@ fn gather_variables(
     s: &[u8],
     vars: usize,
     labels: usize,
-    ix: &mut [u32],
+    ix: &[u32],
+    marks: &mut [u8],
     g: Gathered,
     features: usize,
 ) -> Gathered
-    requires { ⌜ (length (g .at) ≡ 64) × (features ≡ length (featuresAt (payload (now s)) 0)) × Rising [] (variablesAt (payload (now s)) 0) × Labels (payload (now s)) labels × Variables (payload (now s)) vars × Indexed (payload (now s)) labels (now ix) ⌝ }
+    requires { ⌜ (length (g .at) ≡ 64) × (features ≡ length (featuresAt (payload (now s)) 0)) × Rising [] (variablesAt (payload (now s)) 0) × Labels (payload (now s)) labels × Variables (payload (now s)) vars × IndexOrNone (payload (now s)) labels (now ix) × Marked (sceneOf (payload (now s))) (now marks) (take features (featuresAt (payload (now s)) 0)) ⌝ }
     ensures { λ r. ⌜ r ≡ gathered (variableEvents (sceneOf (payload (now (s .entry)))) 0 (variablesAt (payload (now (s .entry))) 0)) g ⌝ }
 {
     let mut all = g;
@@ -230,33 +294,54 @@ fn gather_variables(
     let mut at = 0usize;
     let mut len = 0usize;
     let mut q = vars;
-    let mut seen = features;
     loop {
         let v = next_variable(s, q);
         if !v.some {
             return all;
         }
-        let c = common(s, at, len, v.at, v.len);
-        runs = next_runs(runs, c, q);
+        let alike = common(s, at, len, v.at, v.len);
+        runs = next_runs(runs, alike, q);
         at = v.at;
         len = v.len;
         if is_lon(s, at, len) {
             let from = runs[len - 2];
-            seen = ready(s, labels, ix, seen);
-            all = add_lon(s, labels, ix, all, features, from, at, len - 4, v.value);
+            let c = lon_control(s, labels, ix, marks, features, from, at, len - 4, v.value);
+            if c.some {
+                let control = c.control;
+                all = put(all, control);
+            }
         }
         q = v.next;
     }
 }
 
-// All control points, in their order.
-pub fn gather(s: &[u8], vars: usize) -> Gathered
-    requires { ⌜ (laidOut (payload (now s)) ≡ true) × Variables (payload (now s)) vars ⌝ }
+// By what may be an index, and by marks that say nothing yet.
+fn gather_names(s: &[u8], v: Survey, ix: &[u32], marks: &mut [u8]) -> Gathered
+    requires { ⌜ (laidOut (payload (now s)) ≡ true) × Surveyed (payload (now s)) v × IndexOrNone (payload (now s)) (v .labels) (now ix) × Marked (sceneOf (payload (now s))) (now marks) [] ⌝ }
     ensures { λ r. ⌜ r ≡ gathered (events (sceneOf (payload (now (s .entry))))) noControls ⌝ }
 {
-    let labels = first_label(s, vars);
-    let mut ix = [1u32; 4096];
-    let f = gather_features(s, labels, &mut ix);
+    let f = gather_features(s, v.labels, ix, marks);
     let g = f.controls;
-    gather_variables(s, vars, labels, &mut ix, g, f.count)
+    if !v.lons {
+        return g;
+    }
+    gather_variables(s, v.vars, v.labels, ix, marks, g, f.count)
+}
+
+// All control points, in their order. An index of the labels costs a walk over all records, as one name alone does: it is made for two.
+pub fn gather(s: &[u8], v: Survey) -> Gathered
+    requires { ⌜ (laidOut (payload (now s)) ≡ true) × Surveyed (payload (now s)) v ⌝ }
+    ensures { λ r. ⌜ r ≡ gathered (events (sceneOf (payload (now (s .entry))))) noControls ⌝ }
+{
+    if v.names == 0 {
+        return no_controls();
+    }
+    if v.names == 1 {
+        let mut few = [0u8; 1];
+        return gather_names(s, v, &[0u32; 1], &mut few);
+    }
+    let mut ix = [0u32; 4096];
+    let mut marks = [0u8; 4096];
+    index_labels(s, v.labels, &mut ix);
+    gather_names(s, v, &ix, &mut marks)
 }

@@ -1,40 +1,43 @@
-// What options and variables declare. The variables are asked for from `vars` on, where the first of them stands.
+// What options and variables declare.
 ghost use mathlib.Core.Path.{_≡_};
 ghost use Rattle.stream.specs.Payload.{payload};
 ghost use Rattle.scene.specs.Scene.{sceneOf};
-ghost use Rattle.scene.specs.Answers.{valueBy, spotBy, Variables};
+ghost use Rattle.scene.specs.Answers.{valueBy, spotBy};
 ghost use Rattle.scene.specs.Labels.{orElse};
+ghost use Rattle.register.specs.Survey.{Surveyed};
 ghost use Rattle.register.specs.Register.{isMercator, var, geoFrame, pxMode, declaredScale, declaredBearing, anchorOf};
+use crate::survey::Survey;
 use scene::Spot;
 use scene::Value;
-use scene::value_of;
 
 // The frame is Mercator.
-pub fn is_mercator(s: &[u8], vars: usize) -> bool
-    requires { ⌜ Variables (payload (now s)) vars ⌝ }
+pub fn is_mercator(s: &[u8], v: Survey) -> bool
+    requires { ⌜ Surveyed (payload (now s)) v ⌝ }
     ensures { λ r. ⌜ r ≡ isMercator (sceneOf (payload (now (s .entry))) .frame) (var (sceneOf (payload (now (s .entry)))) geoFrame) ⌝ }
 {
     let f = scene::frame(s);
     if f.some {
         return f.frame == 1;
     }
-    let v = value_of(s, vars, b"geo_frame");
-    if !v.some {
+    let g = v.geo;
+    let frame = g.frame;
+    if !frame.some {
         return false;
     }
-    v.value == 1.0
+    frame.value == 1.0
 }
 
 // Lengths are pixels.
-pub fn is_px(s: &[u8], vars: usize) -> bool
-    requires { ⌜ Variables (payload (now s)) vars ⌝ }
+pub fn is_px(s: &[u8], v: Survey) -> bool
+    requires { ⌜ Surveyed (payload (now s)) v ⌝ }
     ensures { λ r. ⌜ r ≡ pxMode (sceneOf (payload (now (s .entry)))) ⌝ }
 {
-    let v = value_of(s, vars, b"geo_px");
-    if !v.some {
+    let g = v.geo;
+    let px = g.px;
+    if !px.some {
         return false;
     }
-    v.value != 0.0
+    px.value != 0.0
 }
 
 fn or_value(a: Value, b: Value) -> Value
@@ -43,30 +46,33 @@ fn or_value(a: Value, b: Value) -> Value
     if a.some { a } else { b }
 }
 
-pub fn scale_of(s: &[u8], vars: usize) -> Value
-    requires { ⌜ Variables (payload (now s)) vars ⌝ }
+pub fn scale_of(s: &[u8], v: Survey) -> Value
+    requires { ⌜ Surveyed (payload (now s)) v ⌝ }
     ensures { λ r. ⌜ valueBy r ≡ declaredScale (sceneOf (payload (now (s .entry)))) ⌝ }
 {
-    or_value(scene::scale(s), value_of(s, vars, b"geo_scale"))
+    let g = v.geo;
+    or_value(scene::scale(s), g.scale)
 }
 
-pub fn bearing_of(s: &[u8], vars: usize) -> Value
-    requires { ⌜ Variables (payload (now s)) vars ⌝ }
+pub fn bearing_of(s: &[u8], v: Survey) -> Value
+    requires { ⌜ Surveyed (payload (now s)) v ⌝ }
     ensures { λ r. ⌜ valueBy r ≡ declaredBearing (sceneOf (payload (now (s .entry)))) ⌝ }
 {
-    or_value(scene::bearing(s), value_of(s, vars, b"geo_bearing"))
+    let g = v.geo;
+    or_value(scene::bearing(s), g.bearing)
 }
 
-pub fn anchor_of(s: &[u8], vars: usize) -> Spot
-    requires { ⌜ Variables (payload (now s)) vars ⌝ }
+pub fn anchor_of(s: &[u8], v: Survey) -> Spot
+    requires { ⌜ Surveyed (payload (now s)) v ⌝ }
     ensures { λ r. ⌜ spotBy r ≡ anchorOf (sceneOf (payload (now (s .entry)))) ⌝ }
 {
     let a = scene::anchor(s);
     if a.some {
         return a;
     }
-    let lon = value_of(s, vars, b"geo_lon");
-    let lat = value_of(s, vars, b"geo_lat");
+    let g = v.geo;
+    let lon = g.lon;
+    let lat = g.lat;
     Spot {
         some: lon.some && lat.some,
         x: lon.value,

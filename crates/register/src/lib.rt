@@ -3,10 +3,13 @@ mod controls;
 mod declared;
 mod outcome;
 mod runs;
+mod survey;
 mod warnings;
 
 pub use outcome::Outcome;
 pub use outcome::refuse;
 pub use outcome::register;
+pub use survey::Survey;
+pub use survey::survey_variables;
 pub use warnings::Warned;
 pub use warnings::write_warnings;

@@ -6,7 +6,7 @@ ghost use lib.ListN.{take};
 ghost use Rattle.stream.specs.Payload.{payload};
 ghost use Rattle.records.specs.Layout.{laidOut};
 ghost use Rattle.scene.specs.Scene.{sceneOf};
-ghost use Rattle.scene.specs.Answers.{Variables};
+ghost use Rattle.register.specs.Survey.{Surveyed};
 ghost use Rattle.register.specs.Outcome.{refusedBy, outcomeOf, checkedOf, declaredOutcome, fittedOutcome};
 use crate::controls::gather;
 use crate::controls::is_placed;
@@ -15,9 +15,9 @@ use crate::declared::bearing_of;
 use crate::declared::is_mercator;
 use crate::declared::is_px;
 use crate::declared::scale_of;
+use crate::survey::Survey;
 use float::is_finite;
 use scene::Spot;
-use scene::first_variable;
 use similarity::Control;
 use similarity::Registration;
 use similarity::fit_points;
@@ -68,17 +68,17 @@ fn check_scale(r: Registration) -> Outcome
 }
 
 // 12 to 14: by what is declared, about an anchor, with an origin.
-fn declare(s: &[u8], vars: usize, anchor: Spot, origin: Spot, n: u32) -> Outcome
-    requires { ⌜ Variables (payload (now s)) vars ⌝ }
+fn declare(s: &[u8], v: Survey, anchor: Spot, origin: Spot, n: u32) -> Outcome
+    requires { ⌜ Surveyed (payload (now s)) v ⌝ }
     ensures { λ o. ⌜ o ≡ declaredOutcome (sceneOf (payload (now (s .entry)))) (record { x = anchor .x; y = anchor .y }) (record { x = origin .x; y = origin .y }) n ⌝ }
 {
-    let declared = scale_of(s, vars);
+    let declared = scale_of(s, v);
     let value = if declared.some { declared.value } else { 100.0 };
     if !(0.0 < value) {
         return refuse(12);
     }
     let view = scene::view_scale(s);
-    let px = is_px(s, vars);
+    let px = is_px(s, v);
     if px {
         if !view.some {
             return refuse(13);
@@ -88,7 +88,7 @@ fn declare(s: &[u8], vars: usize, anchor: Spot, origin: Spot, n: u32) -> Outcome
         }
     }
     let per_inch = if px { value * view.value } else { value };
-    let bearing = bearing_of(s, vars);
+    let bearing = bearing_of(s, v);
     let turned = if bearing.some { bearing.value } else { 0.0 };
     let r = Registration {
         lon: anchor.x,
@@ -127,16 +127,15 @@ fn fit_controls(at: [Control; 64], n: usize) -> Outcome
 }
 
 // The registration of a stream that conditions 1 to 6 let pass.
-pub fn register(s: &[u8]) -> Outcome
-    requires { ⌜ laidOut (payload (now s)) ≡ true ⌝ }
+pub fn register(s: &[u8], v: Survey) -> Outcome
+    requires { ⌜ (laidOut (payload (now s)) ≡ true) × Surveyed (payload (now s)) v ⌝ }
     ensures { λ o. ⌜ o ≡ outcomeOf (sceneOf (payload (now (s .entry)))) ⌝ }
 {
-    let vars = first_variable(s);
-    if !is_mercator(s, vars) {
+    if !is_mercator(s, v) {
         return refuse(7);
     }
-    let g = gather(s, vars);
-    let a = anchor_of(s, vars);
+    let g = gather(s, v);
+    let a = anchor_of(s, v);
     if !g.placed {
         return refuse(8);
     }
@@ -146,14 +145,15 @@ pub fn register(s: &[u8]) -> Outcome
         }
     }
     let n = g.n;
-    let at = g.at;
     if n > 64 {
         return refuse(9);
     }
     if n >= 2 {
+        let at = g.at;
         return fit_controls(at, n);
     }
     if n == 1 {
+        let at = g.at;
         let c = at[0];
         let anchor = Spot {
             some: true,
@@ -165,7 +165,7 @@ pub fn register(s: &[u8]) -> Outcome
             x: c.x,
             y: c.y,
         };
-        return declare(s, vars, anchor, origin, 1);
+        return declare(s, v, anchor, origin, 1);
     }
     if !a.some {
         return refuse(10);
@@ -175,5 +175,5 @@ pub fn register(s: &[u8]) -> Outcome
         x: 0.0,
         y: 0.0,
     };
-    declare(s, vars, a, origin, 0)
+    declare(s, v, a, origin, 0)
 }

@@ -11,13 +11,14 @@ ghost use Rattle.records.specs.Order.{part};
 ghost use Rattle.scene.specs.Scene.{sceneOf};
 ghost use Rattle.scene.specs.Labels.{variableOf};
 ghost use Rattle.scene.specs.Answers.{Labels, Variables, featuresAt, variablesAt};
-ghost use Rattle.scene.specs.Index.{Indexed};
+ghost use Rattle.scene.specs.Index.{IndexOrNone};
 ghost use Rattle.scene.specs.Laws.Rising.{Rising};
-ghost use Rattle.register.specs.Register.{suffixLon, suffixLat, resolved, mentioned, featureEvents, variableEvents, lonEvent, warningsIn, controlsOf, viewWarnings, halfWarnings, anyDeclared, ignoredWith, registerWarnings};
-ghost use Rattle.register.specs.Warned.{Sheet, pushed, allPushed, fateOf};
+ghost use Rattle.register.specs.Register.{suffixLon, suffixLat, featureEvents, variableEvents, events, lonEvent, warningsIn, controlsOf, viewWarnings, halfWarnings, anyDeclared, ignoredWith, registerWarnings};
+ghost use Rattle.register.specs.Survey.{Surveyed};
+ghost use Rattle.register.specs.Marks.{Marked};
+ghost use Rattle.register.specs.Warned.{Sheet, pushed, allPushed};
 use crate::controls::is_lon;
-use crate::controls::is_mentioned;
-use crate::controls::ready;
+use crate::controls::resolve;
 use crate::declared::anchor_of;
 use crate::declared::bearing_of;
 use crate::declared::is_px;
@@ -25,12 +26,10 @@ use crate::declared::scale_of;
 use crate::runs::common;
 use crate::runs::lat_of;
 use crate::runs::next_runs;
-use scene::find_label;
-use scene::first_label;
-use scene::first_variable;
+use crate::survey::Survey;
+use scene::index_labels;
 use scene::next_name;
 use scene::next_variable;
-use scene::value_of;
 
 // How far the slice is used, in numbers, and whether everything fitted.
 #[repr(C)]
@@ -59,21 +58,6 @@ fn push(out: &mut [u32], w: Warned, kind: u32, index: u32) -> Warned
     }
 }
 
-// What the name of n bytes at `at` comes to, behind the first i host features.
-fn fate(s: &[u8], labels: usize, ix: &[u32], i: usize, at: usize, n: usize) -> u8
-    requires { ⌜ (at + n ≤ room (now s)) × Labels (payload (now s)) labels × Indexed (payload (now s)) labels (now ix) ⌝ }
-    ensures { λ r. ⌜ r ≡ fateOf (resolved (sceneOf (payload (now (s .entry)))) (part (payload (now (s .entry))) at n)) (mentioned (part (payload (now (s .entry))) at n) (take i (featuresAt (payload (now (s .entry))) 0))) ⌝ }
-{
-    let p = find_label(s, labels, ix, at, n);
-    if !p.some {
-        return 1;
-    }
-    if is_mentioned(s, i, at, n) {
-        return 2;
-    }
-    0
-}
-
 pub struct Counted {
     pub warned: Warned,
     // how many host features there are
@@ -81,10 +65,17 @@ pub struct Counted {
 }
 
 // Of the host features.
-fn warn_features(s: &[u8], labels: usize, ix: &mut [u32], out: &mut [u32], w: Warned) -> Counted
-    requires { ⌜ (room (now s) < 4294967296) × (w .used ≤ length (now out)) × Labels (payload (now s)) labels × Indexed (payload (now s)) labels (now ix) ⌝ }
+fn warn_features(
+    s: &[u8],
+    labels: usize,
+    ix: &[u32],
+    marks: &mut [u8],
+    out: &mut [u32],
+    w: Warned,
+) -> Counted
+    requires { ⌜ (room (now s) < 4294967296) × (w .used ≤ length (now out)) × Labels (payload (now s)) labels × IndexOrNone (payload (now s)) labels (now ix) × Marked (sceneOf (payload (now s))) (now marks) [] ⌝ }
     ensures { λ r. ⌜ record { out = now (out .exit); said = r .warned } ≡ allPushed (warningsIn (featureEvents (sceneOf (payload (now (s .entry)))) 0 (featuresAt (payload (now (s .entry))) 0))) (record { out = now (out .entry); said = w }) ⌝ }
-    ensures { λ r. ⌜ (r .warned .used ≤ length (now (out .exit))) × (r .count ≡ length (featuresAt (payload (now (s .entry))) 0)) × Indexed (payload (now (s .entry))) labels (now (ix .exit)) ⌝ }
+    ensures { λ r. ⌜ (r .warned .used ≤ length (now (out .exit))) × (r .count ≡ length (featuresAt (payload (now (s .entry))) 0)) × Marked (sceneOf (payload (now (s .entry)))) (now (marks .exit)) (featuresAt (payload (now (s .entry))) 0) ⌝ }
 {
     let mut warned = w;
     let mut q = 0usize;
@@ -97,8 +88,8 @@ fn warn_features(s: &[u8], labels: usize, ix: &mut [u32], out: &mut [u32], w: Wa
                 count: i,
             };
         }
-        ready(s, labels, ix, i);
-        if fate(s, labels, ix, i, f.at, f.len) != 0 {
+        let p = resolve(s, labels, ix, marks, i, f.at, f.len);
+        if p.fate != 0 {
             warned = push(out, warned, 2, i as u32);
         }
         q = f.next;
@@ -111,6 +102,7 @@ fn warn_lon(
     s: &[u8],
     labels: usize,
     ix: &[u32],
+    marks: &mut [u8],
     out: &mut [u32],
     w: Warned,
     features: usize,
@@ -119,19 +111,19 @@ fn warn_lon(
     n: usize,
     j: u32,
 ) -> Warned
-    requires { ⌜ (w .used ≤ length (now out)) × (at + n + 4 ≤ room (now s)) × (part (payload (now s)) (at + n) 4 ≡ suffixLon) × Rising [] (variablesAt (payload (now s)) p) × (features ≡ length (featuresAt (payload (now s)) 0)) × Labels (payload (now s)) labels × Indexed (payload (now s)) labels (now ix) ⌝ }
+    requires { ⌜ (w .used ≤ length (now out)) × (at + n + 4 ≤ room (now s)) × (part (payload (now s)) (at + n) 4 ≡ suffixLon) × Rising [] (variablesAt (payload (now s)) p) × (features ≡ length (featuresAt (payload (now s)) 0)) × Labels (payload (now s)) labels × IndexOrNone (payload (now s)) labels (now ix) × Marked (sceneOf (payload (now s))) (now marks) (take features (featuresAt (payload (now s)) 0)) ⌝ }
     ensures { λ r. ⌜ ((lon : Float) → record { out = now (out .exit); said = r } ≡ allPushed (warningsIn (lonEvent (sceneOf (payload (now (s .entry)))) j (part (payload (now (s .entry))) at n) lon (variableOf (part (payload (now (s .entry))) at n ++ suffixLat) (variablesAt (payload (now (s .entry))) p)) ∷ [])) (record { out = now (out .entry); said = w })) ⌝ }
-    ensures { λ r. ⌜ r .used ≤ length (now (out .exit)) ⌝ }
+    ensures { λ r. ⌜ (r .used ≤ length (now (out .exit))) × Marked (sceneOf (payload (now (s .entry)))) (now (marks .exit)) (take features (featuresAt (payload (now (s .entry))) 0)) ⌝ }
 {
     let lat = lat_of(s, p, at, n);
     if !lat.some {
         return push(out, w, 2, j);
     }
-    let k = fate(s, labels, ix, features, at, n);
-    if k == 0 {
+    let found = resolve(s, labels, ix, marks, features, at, n);
+    if found.fate == 0 {
         return w;
     }
-    if k == 1 {
+    if found.fate == 1 {
         return push(out, w, 2, j);
     }
     push(out, w, 3, j)
@@ -142,12 +134,13 @@ fn warn_variables(
     s: &[u8],
     vars: usize,
     labels: usize,
-    ix: &mut [u32],
+    ix: &[u32],
+    marks: &mut [u8],
     out: &mut [u32],
     w: Warned,
     features: usize,
 ) -> Warned
-    requires { ⌜ (room (now s) < 4294967296) × (w .used ≤ length (now out)) × (features ≡ length (featuresAt (payload (now s)) 0)) × Rising [] (variablesAt (payload (now s)) 0) × Labels (payload (now s)) labels × Variables (payload (now s)) vars × Indexed (payload (now s)) labels (now ix) ⌝ }
+    requires { ⌜ (room (now s) < 4294967296) × (w .used ≤ length (now out)) × (features ≡ length (featuresAt (payload (now s)) 0)) × Rising [] (variablesAt (payload (now s)) 0) × Labels (payload (now s)) labels × Variables (payload (now s)) vars × IndexOrNone (payload (now s)) labels (now ix) × Marked (sceneOf (payload (now s))) (now marks) (take features (featuresAt (payload (now s)) 0)) ⌝ }
     ensures { λ r. ⌜ record { out = now (out .exit); said = r } ≡ allPushed (warningsIn (variableEvents (sceneOf (payload (now (s .entry)))) 0 (variablesAt (payload (now (s .entry))) 0))) (record { out = now (out .entry); said = w }) ⌝ }
     ensures { λ r. ⌜ r .used ≤ length (now (out .exit)) ⌝ }
 {
@@ -157,23 +150,22 @@ fn warn_variables(
     let mut len = 0usize;
     let mut q = vars;
     let mut i = 0usize;
-    let mut seen = features;
     loop {
         let v = next_variable(s, q);
         if !v.some {
             return warned;
         }
-        let c = common(s, at, len, v.at, v.len);
-        runs = next_runs(runs, c, q);
+        let alike = common(s, at, len, v.at, v.len);
+        runs = next_runs(runs, alike, q);
         at = v.at;
         len = v.len;
         if is_lon(s, at, len) {
             let from = runs[len - 2];
-            seen = ready(s, labels, ix, seen);
             warned = warn_lon(
                 s,
                 labels,
                 ix,
+                marks,
                 out,
                 warned,
                 features,
@@ -188,9 +180,49 @@ fn warn_variables(
     }
 }
 
+// Of both, by what may be an index, and by marks that say nothing yet.
+fn warn_names(
+    s: &[u8],
+    v: Survey,
+    ix: &[u32],
+    marks: &mut [u8],
+    out: &mut [u32],
+    w: Warned,
+) -> Warned
+    requires { ⌜ (room (now s) < 4294967296) × (laidOut (payload (now s)) ≡ true) × (w .used ≤ length (now out)) × Surveyed (payload (now s)) v × IndexOrNone (payload (now s)) (v .labels) (now ix) × Marked (sceneOf (payload (now s))) (now marks) [] ⌝ }
+    ensures { λ r. ⌜ record { out = now (out .exit); said = r } ≡ allPushed (warningsIn (events (sceneOf (payload (now (s .entry)))))) (record { out = now (out .entry); said = w }) ⌝ }
+    ensures { λ r. ⌜ r .used ≤ length (now (out .exit)) ⌝ }
+{
+    let f = warn_features(s, v.labels, ix, marks, out, w);
+    let featured = f.warned;
+    if !v.lons {
+        return featured;
+    }
+    warn_variables(s, v.vars, v.labels, ix, marks, out, featured, f.count)
+}
+
+// The same, with an index where `gather` makes one.
+fn warn_controls(s: &[u8], v: Survey, out: &mut [u32], w: Warned) -> Warned
+    requires { ⌜ (room (now s) < 4294967296) × (laidOut (payload (now s)) ≡ true) × (w .used ≤ length (now out)) × Surveyed (payload (now s)) v ⌝ }
+    ensures { λ r. ⌜ record { out = now (out .exit); said = r } ≡ allPushed (warningsIn (events (sceneOf (payload (now (s .entry)))))) (record { out = now (out .entry); said = w }) ⌝ }
+    ensures { λ r. ⌜ r .used ≤ length (now (out .exit)) ⌝ }
+{
+    if v.names == 0 {
+        return w;
+    }
+    if v.names == 1 {
+        let mut few = [0u8; 1];
+        return warn_names(s, v, &[0u32; 1], &mut few, out, w);
+    }
+    let mut ix = [0u32; 4096];
+    let mut marks = [0u8; 4096];
+    index_labels(s, v.labels, &mut ix);
+    warn_names(s, v, &ix, &mut marks, out, w)
+}
+
 // 1: a view_scale without geo_px.
-fn warn_view(s: &[u8], vars: usize, out: &mut [u32], w: Warned) -> Warned
-    requires { ⌜ (w .used ≤ length (now out)) × Variables (payload (now s)) vars ⌝ }
+fn warn_view(s: &[u8], v: Survey, out: &mut [u32], w: Warned) -> Warned
+    requires { ⌜ (w .used ≤ length (now out)) × Surveyed (payload (now s)) v ⌝ }
     ensures { λ r. ⌜ record { out = now (out .exit); said = r } ≡ allPushed (viewWarnings (sceneOf (payload (now (s .entry))))) (record { out = now (out .entry); said = w }) ⌝ }
     ensures { λ r. ⌜ r .used ≤ length (now (out .exit)) ⌝ }
 {
@@ -198,15 +230,15 @@ fn warn_view(s: &[u8], vars: usize, out: &mut [u32], w: Warned) -> Warned
     if !view.some {
         return w;
     }
-    if is_px(s, vars) {
+    if is_px(s, v) {
         return w;
     }
     push(out, w, 1, 0)
 }
 
 // 2: half an anchor.
-fn warn_half(s: &[u8], vars: usize, out: &mut [u32], w: Warned) -> Warned
-    requires { ⌜ (w .used ≤ length (now out)) × Variables (payload (now s)) vars ⌝ }
+fn warn_half(s: &[u8], v: Survey, out: &mut [u32], w: Warned) -> Warned
+    requires { ⌜ (w .used ≤ length (now out)) × Surveyed (payload (now s)) v ⌝ }
     ensures { λ r. ⌜ record { out = now (out .exit); said = r } ≡ allPushed (halfWarnings (sceneOf (payload (now (s .entry))))) (record { out = now (out .entry); said = w }) ⌝ }
     ensures { λ r. ⌜ r .used ≤ length (now (out .exit)) ⌝ }
 {
@@ -214,8 +246,9 @@ fn warn_half(s: &[u8], vars: usize, out: &mut [u32], w: Warned) -> Warned
     if a.some {
         return w;
     }
-    let lon = value_of(s, vars, b"geo_lon");
-    let lat = value_of(s, vars, b"geo_lat");
+    let g = v.geo;
+    let lon = g.lon;
+    let lat = g.lat;
     if lon.some == lat.some {
         return w;
     }
@@ -223,24 +256,24 @@ fn warn_half(s: &[u8], vars: usize, out: &mut [u32], w: Warned) -> Warned
 }
 
 // Whether a scale, a bearing or geo_px is declared.
-fn declares(s: &[u8], vars: usize) -> bool
-    requires { ⌜ Variables (payload (now s)) vars ⌝ }
+fn declares(s: &[u8], v: Survey) -> bool
+    requires { ⌜ Surveyed (payload (now s)) v ⌝ }
     ensures { λ r. ⌜ r ≡ anyDeclared (sceneOf (payload (now (s .entry)))) ⌝ }
 {
-    let scale = scale_of(s, vars);
+    let scale = scale_of(s, v);
     if scale.some {
         return true;
     }
-    let bearing = bearing_of(s, vars);
+    let bearing = bearing_of(s, v);
     if bearing.some {
         return true;
     }
-    is_px(s, vars)
+    is_px(s, v)
 }
 
 // 4: what is ignored with n control points.
-fn warn_ignored(s: &[u8], vars: usize, out: &mut [u32], w: Warned, n: u32) -> Warned
-    requires { ⌜ (w .used ≤ length (now out)) × Variables (payload (now s)) vars ⌝ }
+fn warn_ignored(s: &[u8], v: Survey, out: &mut [u32], w: Warned, n: u32) -> Warned
+    requires { ⌜ (w .used ≤ length (now out)) × Surveyed (payload (now s)) v ⌝ }
     ensures { λ r. ⌜ record { out = now (out .exit); said = r } ≡ allPushed (ignoredWith n (sceneOf (payload (now (s .entry))))) (record { out = now (out .entry); said = w }) ⌝ }
     ensures { λ r. ⌜ r .used ≤ length (now (out .exit)) ⌝ }
 {
@@ -249,11 +282,11 @@ fn warn_ignored(s: &[u8], vars: usize, out: &mut [u32], w: Warned, n: u32) -> Wa
     }
     let mut warned = w;
     if n >= 2 {
-        if declares(s, vars) {
+        if declares(s, v) {
             warned = push(out, warned, 4, 0);
         }
     }
-    let anchor = anchor_of(s, vars);
+    let anchor = anchor_of(s, v);
     if anchor.some {
         warned = push(out, warned, 4, 0);
     }
@@ -261,18 +294,13 @@ fn warn_ignored(s: &[u8], vars: usize, out: &mut [u32], w: Warned, n: u32) -> Wa
 }
 
 // All warnings of the registration of a stream that is laid out, with n control points.
-pub fn write_warnings(s: &[u8], out: &mut [u32], n: u32) -> Warned
-    requires { ⌜ (room (now s) < 4294967296) × (laidOut (payload (now s)) ≡ true) × (n ≡ length (controlsOf (sceneOf (payload (now s))))) ⌝ }
+pub fn write_warnings(s: &[u8], v: Survey, out: &mut [u32], n: u32) -> Warned
+    requires { ⌜ (room (now s) < 4294967296) × (laidOut (payload (now s)) ≡ true) × Surveyed (payload (now s)) v × (n ≡ length (controlsOf (sceneOf (payload (now s))))) ⌝ }
     ensures { λ r. ⌜ record { out = now (out .exit); said = r } ≡ allPushed (registerWarnings (sceneOf (payload (now (s .entry))))) (record { out = now (out .entry); said = record { ok = true; used = 0 } }) ⌝ }
 {
     let none = Warned { ok: true, used: 0 };
-    let vars = first_variable(s);
-    let view = warn_view(s, vars, out, none);
-    let labels = first_label(s, vars);
-    let mut ix = [1u32; 4096];
-    let f = warn_features(s, labels, &mut ix, out, view);
-    let featured = f.warned;
-    let all = warn_variables(s, vars, labels, &mut ix, out, featured, f.count);
-    let half = warn_half(s, vars, out, all);
-    warn_ignored(s, vars, out, half, n)
+    let view = warn_view(s, v, out, none);
+    let all = warn_controls(s, v, out, view);
+    let half = warn_half(s, v, out, all);
+    warn_ignored(s, v, out, half, n)
 }

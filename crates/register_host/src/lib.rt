@@ -19,7 +19,7 @@ pub extern "C" fn register_stream(s: &[u8]) -> Outcome
     if number != 0 {
         return register::refuse(number);
     }
-    register::register(s)
+    register::register(s, register::survey_variables(s))
 }
 
 // The warnings of an accepted registration; none of any other stream.
@@ -32,7 +32,7 @@ pub extern "C" fn register_warnings(s: &[u8], out: &mut [u32]) -> Warned
         return Warned { ok: true, used: 0 };
     }
     let r = o.registration;
-    register::write_warnings(s, out, r.controls)
+    register::write_warnings(s, register::survey_variables(s), out, r.controls)
 }
 
 // A canvas point through a registration.

@@ -265,24 +265,3 @@ module _ {l : List ℕ} {q : ℕ} where
   pub the-item : Stood l 5 q ⊎ Stood l 6 q → (getD l q 0 ≡ 5 → ⊥) → Stood l 6 q
   the-item (inl s) e = absurd (e (tag-is (s .stands)))
   the-item (inr s) e = s
-
--- ---- slots that hold nobody
-module _ (ix : List ℕ) (i : ℕ) where
-  pub cleared : i < length ix → ((h : ℕ) → h < i → getD ix h 0 ≡ 0) → (h : ℕ) → h < i + 1 → getD (set ix i 0) h 0 ≡ 0
-  cleared k f h j =
-      ⊎-elim
-      (λ (e : h ≡ i). rw e (getD-set-same ix i 0 0 k))
-      (λ (e : h < i). getD-set-other ix i h 0 0 (λ z. omega arith) ∙ f h e)
-      (eq-or-lt-of-le (le-of-lt-succ h i j))
-    where
-      le-of-lt-succ : (h i : ℕ) → h < i + 1 → h ≤ i
-      le-of-lt-succ h i j = omega arith
-
-pub all-nobody : (l ix : List ℕ) {ix′ : List ℕ} → length ix ≡ 4096 → length ix′ ≡ length ix → ((h : ℕ) → h < length ix → getD ix′ h 0 ≡ 0) → Knows l ix′ (λ h x. x ≡ nobody)
-unfolding meantBy
-all-nobody l ix a b f =
-    record {
-      size = b ∙ a;
-      stands = λ h q j e. absurd (omega (arith, f h (omega arith)));
-      known = λ h j e. rw (f h (omega arith)) refl;
-    }

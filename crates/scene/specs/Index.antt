@@ -3,7 +3,7 @@ use mathlib.Core.Path.{_≡_}
 use mathlib.Core.Logic.{_⊎_}
 use mathlib.Core.Bool.{Bool, false, _&&_, cond}
 use mathlib.Core.List.{List, [], _∷_}
-use Prim.Native.Nat.{ℕ, zero, suc, _+_, _*_, _%_, _<_}
+use Prim.Native.Nat.{ℕ, zero, suc, _+_, _*_, _%_, _≤_, _<_}
 use lib.ListN.{length, getD, drop}
 use lib.Dec.{eqb, ltb}
 use Rattle.records.specs.Hits.{Standing}
@@ -76,3 +76,7 @@ pub record Knows (l ix : List ℕ) (says : ℕ → Held → Type 0) : Type 0 whe
 -- ix is an index of the places and items from position p on
 abbrev pub Indexed : List ℕ → ℕ → List ℕ → Type 0
 Indexed l p ix = Knows l ix (λ h x. x ≡ heldOf h (placesAt l p) (itemsAt l p))
+
+-- the same, unless there are fewer numbers than an index has
+abbrev pub IndexOrNone : List ℕ → ℕ → List ℕ → Type 0
+IndexOrNone l p ix = 4096 ≤ length ix → Indexed l p ix

@@ -1,13 +1,13 @@
 // An index of the labels, 4096 numbers that the caller lends: most names are answered by one look, and no walk over all records.
 ghost use mathlib.Core.Path.{_≡_};
-ghost use Prim.Native.Nat.{ℕ, _+_, _≤_, _<_};
+ghost use Prim.Native.Nat.{_+_, _≤_, _<_};
 ghost use lib.ListN.{length, getD, set, drop};
 ghost use Rattle.stream.specs.Payload.{payload, room};
 ghost use Rattle.records.specs.Order.{part};
 ghost use Rattle.scene.specs.Scene.{some, none, placeAt, itemAt};
 ghost use Rattle.scene.specs.Labels.{same, pick, carries, referencePoint, pointOfLabel};
 ghost use Rattle.scene.specs.Answers.{spotBy, placesAt, itemsAt};
-ghost use Rattle.scene.specs.Index.{slotOf, nobody, heldPlaces, numberOf, Stood, Knows, Indexed};
+ghost use Rattle.scene.specs.Index.{slotOf, nobody, heldPlaces, numberOf, Stood, Knows, Indexed, IndexOrNone};
 use crate::labels::point_of_label;
 use crate::labels::reference_point;
 use crate::names::is_labelled;
@@ -47,8 +47,8 @@ fn run_slot(s: &[u8], at: usize, n: usize) -> usize
     h
 }
 
-// A label seldom has a check between its bytes: it is read where it stands.
-fn slot_of(s: &[u8], at: usize, n: usize) -> usize
+// A name seldom has a check between its bytes: it is read where it stands.
+pub fn slot_of(s: &[u8], at: usize, n: usize) -> usize
     requires { ⌜ at + n ≤ room (now s) ⌝ }
     ensures { λ r. ⌜ r ≡ slotOf (part (payload (now (s .entry))) at n) ⌝ }
 {
@@ -120,23 +120,11 @@ fn index_items(s: &[u8], p: usize, ix: &mut [u32])
     }
 }
 
-// Nobody in any slot.
-fn clear(ix: &mut [u32])
-    ensures { λ r. ⌜ (length (now (ix .exit)) ≡ length (now (ix .entry))) × ((h : ℕ) → h < length (now (ix .entry)) → getD (now (ix .exit)) h 0 ≡ 0) ⌝ }
-{
-    let mut i = 0usize;
-    while i < ix.len() {
-        ix[i] = 0;
-        i += 1;
-    }
-}
-
-// The labels from p on, whatever the slots held before.
+// The labels from p on, into slots that hold nobody.
 pub fn index_labels(s: &[u8], p: usize, ix: &mut [u32])
-    requires { ⌜ length (now ix) ≡ 4096 ⌝ }
+    requires { ⌜ Knows (payload (now s)) (now ix) (λ h x. x ≡ nobody) ⌝ }
     ensures { λ r. ⌜ Indexed (payload (now (s .entry))) p (now (ix .exit)) ⌝ }
 {
-    clear(ix);
     index_places(s, p, ix);
     index_items(s, p, ix);
 }
@@ -170,11 +158,14 @@ fn item_named(s: &[u8], q: usize, at: usize, n: usize) -> Spot
     reference_point(s, it)
 }
 
-// What `point_of_label` finds, by an index of the labels from p on.
+// What `point_of_label` finds, by an index of the labels from p on, or by a walk where fewer numbers are lent than an index has.
 pub fn find_label(s: &[u8], p: usize, ix: &[u32], at: usize, n: usize) -> Spot
-    requires { ⌜ (at + n ≤ room (now s)) × Indexed (payload (now s)) p (now ix) ⌝ }
+    requires { ⌜ (at + n ≤ room (now s)) × IndexOrNone (payload (now s)) p (now ix) ⌝ }
     ensures { λ r. ⌜ spotBy r ≡ pointOfLabel (part (payload (now (s .entry))) at n) (placesAt (payload (now (s .entry))) p) (itemsAt (payload (now (s .entry))) p) ⌝ }
 {
+    if ix.len() < 4096 {
+        return point_of_label(s, p, at, n);
+    }
     let h = slot_of(s, at, n);
     let v = ix[h];
     if v == 0 {

@@ -16,6 +16,7 @@ pub use choices::scale;
 pub use choices::view_scale;
 pub use index::find_label;
 pub use index::index_labels;
+pub use index::slot_of;
 pub use labels::first_label;
 pub use labels::point_of_label;
 pub use labels::reference_point;

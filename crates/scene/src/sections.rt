@@ -4,6 +4,7 @@ ghost use mathlib.Core.Bool.{Bool, true, false};
 ghost use Prim.Native.Nat.{_+_, _*_, _<_, _≤_};
 ghost use Rattle.stream.specs.Payload.{payload, room};
 ghost use lib.ListN.{drop};
+ghost use Rattle.records.specs.Hits.{Later};
 ghost use Rattle.scene.specs.Scene.{itemAt};
 ghost use Rattle.scene.specs.Labels.{variableOf};
 ghost use Rattle.scene.specs.Answers.{valueBy, Within, PathWithin, featuresAt, featuresBy, featureBy, variablesAt, variablesBy, Variables, placesAt, placesBy, ItemStands, itemsAt, itemBy, itemsBy, pointsFrom, pointsBy, pathsFrom, pathsBy};
@@ -15,6 +16,7 @@ use crate::numbers::number;
 use crate::numbers::spot_if;
 use crate::numbers::value_if;
 use records::find;
+use records::seek;
 use records::values_width;
 use records::wide;
 use stream::byte;
@@ -158,15 +160,16 @@ pub fn next_variable(s: &[u8], p: usize) -> Variable
     ensures { λ r. ⌜ variablesAt (payload (now (s .entry))) p ≡ variablesBy (payload (now (s .entry))) r ⌝ }
     ensures { λ r. ⌜ (r .some ≡ true → Within (room (now (s .entry))) p (r .at) (r .len) (r .next)) ⌝ }
     ensures { λ r. ⌜ (r .some ≡ true → r .len ≤ 31) ⌝ }
+    ensures { λ r. ⌜ Later (payload (now (s .entry))) 4 p (r .next) ⌝ }
 {
-    let h = find(s, p, 4, 0);
+    let h = seek(s, p, 4, 0);
     if !h.some {
         return Variable {
             some: false,
             at: 0,
             len: 0,
             value: 0.0,
-            next: h.next,
+            next: h.at,
         };
     }
     let at = h.at;

@@ -339,9 +339,20 @@ pub fn labels(set: &mut Set) {
             doc = doc.place(label, [x, y]);
             items = items.item(dot(x, y).label(label));
         }
-        set.doc(format!("labels-of-one-hash-{chosen}"), &doc.item(mark.clone()));
+        set.doc(format!("labels-of-one-hash-{chosen}"), &doc.clone().item(mark.clone()));
         set.doc(format!("labels-of-one-hash-{chosen}-items"), &names(items));
+        // The same names again, by host features and by pairs: who was before is told by marks of the hash.
+        let pair = |d: Doc, n: &str| d.var(&format!("{n}_lon"), 7.2).var(&format!("{n}_lat"), 46.2);
+        let again = doc.feature("JB", 7.3, 46.3).feature("0T", 7.0, 46.0);
+        set.doc(format!("names-again-of-one-hash-{chosen}"), &again.clone().item(mark.clone()));
+        let pairs = pair(pair(again, "JB"), "d0");
+        set.doc(format!("names-and-pairs-of-one-hash-{chosen}"), &pairs.item(mark.clone()));
     }
+    // One name alone, of a pair: nothing is indexed, nothing marked.
+    let alone = Doc::mercator().var("d0_lon", 7.0).var("d0_lat", 46.0).item(mark.clone());
+    set.doc("a-pair-alone", &alone.clone().place("d0", [1.0, 6.0]));
+    set.doc("a-pair-alone-of-no-label", &alone);
+    set.doc("a-lon-alone", &alone.with(|d| _ = d.vars.remove("d0_lat")).place("d0", [1.0, 6.0]));
 }
 
 fn labels_after(set: &mut Set, before: &str, front: Doc) {

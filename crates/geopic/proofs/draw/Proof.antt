@@ -23,7 +23,7 @@ write-warnings-requires : tie.Need-write-warnings-requires
 write-warnings-requires c κs =
     let a = c .before .before .before .before .before .before in
     let s = a .args .s .now in
-    (omega (arith, is-short s (a .pre .0)), is-laid-out s (a .pre .0), controls-are s (a .pre .2))
+    (omega (arith, is-short s (a .pre .0)), is-laid-out s (a .pre .0), a .pre .3, controls-are s (a .pre .2))
 
 projection-of-requires : tie.Need-projection-of-requires
 projection-of-requires c κs = search needs
@@ -35,7 +35,7 @@ convert-requires : tie.Need-convert-requires
 convert-requires c κs =
     let a = c .before .before .before .before .before .before .before .before .before .before .before .before .before .before .before .before .before in
     let s = a .args .s .now in
-    (omega (arith, is-short s (a .pre .0)), begun s (lent a) (c .before .before .before .before .before .before .before .before .before .before .write-warnings .ensures) (short (c .before .before .before .before .before .before)) .fits)
+    (omega (arith, is-short s (a .pre .0)), begun s (lent a) (c .before .before .before .before .before .before .before .before .before .before .write-warnings .ensures) (short (c .before .before .before .before .before .before)) .fits, a .pre .3 .labels)
 
 same-length : tie.Need-same-length
 same-length c = search needs

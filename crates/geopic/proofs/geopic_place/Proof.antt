@@ -19,10 +19,10 @@ read : (e : tie.Else1) → refusalOf (e .before .before .before .before .before 
 read e = sym (e .before .refusal .ensures) ∙ e .if1 .left
 
 -- none of 7 to 14
-placed : (e : tie.Else2) → registerRefusal (sceneOf (payload (e .before .before .before .before .before .before .before .before .before .before .args .s .now))) ≡ 0
+placed : (e : tie.Else2) → registerRefusal (sceneOf (payload (e .before .before .before .before .before .before .before .before .before .before .before .args .s .now))) ≡ 0
 placed e = sym (outcome-number _ (e .before .before .register .ensures)) ∙ e .if2 .left
 
-registered : (e : tie.Else2) → e .before .before .register .result .registration ≡ registrationOf (sceneOf (payload (e .before .before .before .before .before .before .before .before .before .before .args .s .now)))
+registered : (e : tie.Else2) → e .before .before .register .result .registration ≡ registrationOf (sceneOf (payload (e .before .before .before .before .before .before .before .before .before .before .before .args .s .now)))
 registered e = outcome-is _ (e .before .before .register .ensures) (e .if2 .left)
 
 refusal-requires : tie.Need-refusal-requires
@@ -39,23 +39,26 @@ returns c =
     let some = c .before .if1 .taken in
     (early-answer s (lent a) n some (c .refuse .ensures), early-lent s (lent a) n some)
 
+survey-variables-requires : tie.Need-survey-variables-requires
+survey-variables-requires c κs = search needs
+
 register-requires : tie.Need-register-requires
-register-requires c κs = is-laid-out (c .before .before .before .before .before .before .before .args .s .now) (read (c))
+register-requires c κs = (is-laid-out (c .before .before .before .before .before .before .before .before .args .s .now) (read (c .before)), c .survey-variables .ensures)
 
 refuse-requires-2 : tie.Need-refuse-requires-2
 refuse-requires-2 c κs = search needs
 
 returns-2 : tie.Need-returns-2
 returns-2 c =
-    let a = c .before .before .before .before .before .before .before .before .before .before .before in
+    let a = c .before .before .before .before .before .before .before .before .before .before .before .before in
     let s = a .args .s .now in
     let o = c .before .before .before .register .ensures in
     let some = c .before .if2 .taken in
-    let h = read (c .before .before .before .before) in
+    let h = read (c .before .before .before .before .before) in
     (middle-answer s (lent a) h o some (c .refuse2 .ensures), middle-lent s (lent a) h o some)
 
 draw-requires : tie.Need-draw-requires
-draw-requires c κs = (read (c .before .before .before .before .before .before .before .before), placed (c .before .before .before .before .before), registered (c .before .before .before .before .before))
+draw-requires c κs = (read (c .before .before .before .before .before .before .before .before .before), placed (c .before .before .before .before .before), registered (c .before .before .before .before .before), c .before .before .before .before .before .before .before .before .survey-variables .ensures)
 
 clear-floats-requires : tie.Need-clear-floats-requires
 clear-floats-requires c κs = search needs
@@ -89,9 +92,9 @@ same-length-4 c = search needs
 
 returns-3 : tie.Need-returns-3
 returns-3 c =
-    let a = c .before .before .before .before .before .before .before .before .before .before .before .before .before .before .before .before .before .before .before .before .before .before .before .before .before .before .before .before .before .before .before .before .before .before .before .before .before .before .before .before .before .before .before .before in
+    let a = c .before .before .before .before .before .before .before .before .before .before .before .before .before .before .before .before .before .before .before .before .before .before .before .before .before .before .before .before .before .before .before .before .before .before .before .before .before .before .before .before .before .before .before .before .before in
     let s = a .args .s .now in
-    let h = read (c .before .before .before .before .before .before .before .before .before .before .before .before .before .before .before .before .before .before .before .before .before .before .before .before .before .before .before .before .before .before .before .before .before .before .before .before .before) in
+    let h = read (c .before .before .before .before .before .before .before .before .before .before .before .before .before .before .before .before .before .before .before .before .before .before .before .before .before .before .before .before .before .before .before .before .before .before .before .before .before .before) in
     let k = placed (c .before .before .before .before .before .before .before .before .before .before .before .before .before .before .before .before .before .before .before .before .before .before .before .before .before .before .before .before .before .before .before .before .before .before) in
     let d = c .before .before .before .before .before .before .before .before .before .before .before .before .before .before .before .before .before .before .before .before .before .before .before .before .before .before .before .before .draw .ensures in
     let some = c .before .before .before .before .before .before .before .before .before .before .before .before .before .before .if3 .taken in
@@ -114,9 +117,9 @@ same-length-8 c = search needs
 
 returns-4 : tie.Need-returns-4
 returns-4 c =
-    let a = c .before .before .before .before .before .before .before .before .before .before .before .before .before .before .before .before .before .before .before .before .before .before .before .before .before .before .before .before .before .before .before in
+    let a = c .before .before .before .before .before .before .before .before .before .before .before .before .before .before .before .before .before .before .before .before .before .before .before .before .before .before .before .before .before .before .before .before in
     let s = a .args .s .now in
-    let h = read (c .before .before .before .before .before .before .before .before .before .before .before .before .before .before .before .before .before .before .before .before .before .before .before .before) in
+    let h = read (c .before .before .before .before .before .before .before .before .before .before .before .before .before .before .before .before .before .before .before .before .before .before .before .before .before) in
     let k = placed (c .before .before .before .before .before .before .before .before .before .before .before .before .before .before .before .before .before .before .before .before .before) in
     let d = c .before .before .before .before .before .before .before .before .before .before .before .before .before .before .before .draw .ensures in
     let none = c .before .if3 .left in
@@ -129,6 +132,7 @@ geopic-place-spec =
     refusal-requires
     refuse-requires
     returns
+    survey-variables-requires
     register-requires
     refuse-requires-2
     returns-2

@@ -1,14 +1,15 @@
 -- A search: what it finds from one record on, and what a record that was found tells of its bytes.
-use mathlib.Core.Path.{_≡_, refl, ap, _∙_}
+use mathlib.Core.Path.{_≡_, refl, sym, ap, _∙_}
 use mathlib.Core.List.{List, [], _∷_}
-use mathlib.Core.Bool.{Bool, true, false, _&&_, cond}
+use mathlib.Core.Logic.{⊎-elim}
+use mathlib.Core.Bool.{Bool, true, false, _&&_, _||_, cond}
 use Prim.Native.Nat.{ℕ, _+_, _*_, _≤_, _<_}
 use native.Mathlib.Nat.{add-zero}
 use native.Mathlib.Omega.{arith}
 use lib.ListN.{length, getD, drop, length-drop}
 use lib.Seq.{getD-drop}
 use lib.Dec.{eqb, ltb}
-use borrow.Author.Tests.{eq-eqb, eqb-true, ne-eqb, lt-ltb, le-ltb, ltb-false}
+use borrow.Author.Tests.{eq-eqb, eqb-true, ne-eqb, lt-ltb, le-ltb, ltb-true, ltb-false}
 use Rattle.stream.specs.Numbers.{u16At}
 use Rattle.records.specs.declared.records.Record.{Record}
 use Rattle.records.specs.declared.records.Record.the-variants.{Rescale, Choice, Feature, Variable, Place, Item, Points, Path}
@@ -20,7 +21,7 @@ use Rattle.records.specs.Records.{pick, allZero, endOf, choiceWidth, val
 use Rattle.records.specs.Walk.{more, entries, tagOf}
 use Rattle.records.specs.Search.{keyOf, past, pickTurn, turnOf, sought, recordsOf, recordsAt}
 use Rattle.records.specs.Hits.{Standing}
-use Rattle.records.specs.Laws.Tests.{and-left, and-right}
+use Rattle.records.specs.Laws.Tests.{and-left, and-right, or-cases}
 use Rattle.records.specs.Laws.Records.{Name, Stands, stands, cubics-size, polyline-size}
 use Rattle.records.specs.Laws.Walk.{entries-bad, entries-end, entries-on}
 
@@ -49,9 +50,42 @@ closing (x ∷ xs) h = ended (eqb (length (x ∷ xs)) 0) (eqb x 0) (allZero (x �
     ended false b true r h = rw h refl
     ended false b false r h = rw h refl
 
-pub search-closed : (l : List ℕ) (p t key : ℕ) → getD l p 0 ≡ 0 → recordsAt l p t key ≡ []
-unfolding recordsOf
-search-closed l p t key h = ap (recordsOf t key) (closing (drop p l) (rw (getD-drop, add-zero) h))
+pub entries-closed : (l : List ℕ) (p : ℕ) → getD l p 0 ≡ 0 → entries (drop p l) 0 ≡ []
+entries-closed l p h = closing (drop p l) (rw (getD-drop, add-zero) h)
+
+-- ---- the byte at a position settles what a search finds there, if it is no tag or one that ends the search
+-- a record's tag is its first byte
+pub tag-stands : (l : List ℕ) (p : ℕ) {r : Record} {k : ℕ} → recordOf (drop p l) ≡ Got r k → getD l p 0 ≡ tagOf r
+tag-stands l p e = rw (getD-drop, add-zero) at (stands (drop p l) e .tag)
+
+past-other : (t x : ℕ) → past t x ≡ true → x ≡ t → ⊥
+unfolding past
+past-other t x h e = apart (ltb t 6) h
+  where
+    apart : (b : Bool) → cond b (ltb t x) (ltb 6 t && ltb x 7) ≡ true → ⊥
+    apart true h = omega (arith, ltb-true t x h)
+    apart false h = omega (arith, ltb-true 6 t (and-left _ _ h), ltb-true x 7 (and-right (ltb 6 t) _ h))
+
+turn-past : (t key : ℕ) (r : Record) → past t (tagOf r) ≡ true → turnOf t key r ≡ Past
+unfolding turnOf
+turn-past t key r h = rw (ne-eqb (tagOf r) t (past-other t (tagOf r) h), h) refl
+
+module _ (l : List ℕ) (p t key : ℕ) where
+  search-closed : getD l p 0 ≡ 0 → recordsAt l p t key ≡ []
+  unfolding recordsOf
+  search-closed h = ap (recordsOf t key) (entries-closed l p h)
+
+  search-past : (x : Step) → recordOf (drop p l) ≡ x → past t (getD l p 0) ≡ true → recordsAt l p t key ≡ []
+  search-past Bad e h = search-bad l p t key e
+  search-past End e h = search-end l p t key e
+  search-past (Got r k) e h = search-got l p t key e ∙ rw (turn-past t key r (rw (tag-stands l p e) at h)) refl
+
+  pub search-over : {x : ℕ} → x ≡ getD l p 0 → (eqb x 0 || past t x) ≡ true → recordsAt l p t key ≡ []
+  search-over {x} e h =
+      ⊎-elim
+      (λ (z : eqb x 0 ≡ true). search-closed (sym e ∙ eqb-true x 0 z))
+      (λ (z : past t x ≡ true). search-past (recordOf (drop p l)) refl (rw (← e) z))
+      (or-cases (eqb x 0) (past t x) h)
 
 -- ---- a search ends at a record of its tag and key
 is-here : (a b : Bool) → pickTurn a Here (pickTurn b Past On) ≡ Here → a ≡ true

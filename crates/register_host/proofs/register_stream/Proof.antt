@@ -14,12 +14,15 @@ refuse-requires c κs = search needs
 returns : tie.Need-returns
 returns c = refused _ (c .refuse .ensures) (c .before .before .refusal .ensures) (c .before .if1 .taken)
 
+survey-variables-requires : tie.Need-survey-variables-requires
+survey-variables-requires c κs = search needs
+
 register-requires : tie.Need-register-requires
-register-requires c κs = is-laid-out _ (sym (c .before .refusal .ensures) ∙ c .if1 .left)
+register-requires c κs = (is-laid-out _ (sym (c .before .before .refusal .ensures) ∙ c .before .if1 .left), c .survey-variables .ensures)
 
 returns-2 : tie.Need-returns-2
-returns-2 c = passed _ (sym (c .before .before .refusal .ensures) ∙ c .before .if1 .left) (c .register .ensures)
+returns-2 c = passed _ (sym (c .before .before .before .refusal .ensures) ∙ c .before .before .if1 .left) (c .register .ensures)
 
 pub register-stream-spec : {M : Type 1} → statement M
 register-stream-spec =
-    tie.close (tie.spec refusal-requires refuse-requires returns register-requires returns-2)
+    tie.close (tie.spec refusal-requires refuse-requires returns survey-variables-requires register-requires returns-2)

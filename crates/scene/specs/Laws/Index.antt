@@ -10,7 +10,7 @@ use borrow.Author.Tests.{eq-eqb, eqb-true}
 use Rattle.records.specs.Laws.Tests.{and-left, and-right}
 use Rattle.scene.specs.Scene.{Maybe, none, some, Point, NamedPlace, DrawnItem}
 use Rattle.scene.specs.Labels.{same, pick, carries, Key, Best, consider, considerAt, placeKey, itemKey, bestPlace, bestItem, pointOf, referencePoint, pointOfLabel}
-use Rattle.scene.specs.Index.{slotFrom, slotOf, Held, nobody, place, item, many, joined, inSlot, met, heldPlaces, heldItems, heldOf, Indexed}
+use Rattle.scene.specs.Index.{slotFrom, slotOf, Held, nobody, place, item, many, joined, inSlot, met, heldPlaces, heldItems, heldOf, meantBy, Knows, IndexOrNone}
 
 -- ---- slots
 slot-from : (h : ℕ) (name : List ℕ) → h < 4096 → slotFrom h name < 4096
@@ -95,11 +95,16 @@ module _ (name : List ℕ) where
     unfolding pointOfLabel
     held-item e = all-agree ps its e
 
--- where nothing is known of any slot, nothing is wrong
-pub nothing-known : (l : List ℕ) (p : ℕ) → Indexed l p (replicate 4096 1)
-nothing-known l p =
+-- zeros are slots that hold nobody
+pub blank-slots : (l : List ℕ) → Knows l (replicate 4096 0) (λ h x. x ≡ nobody)
+unfolding meantBy
+blank-slots l =
     record {
-      size = length-replicate {A = ℕ} 4096 1;
-      stands = λ h q j e. absurd (omega (arith, getD-replicate {A = ℕ} 4096 h 1 0 j));
-      known = λ h j ne. absurd (ne (getD-replicate {A = ℕ} 4096 h 1 0 j));
+      size = length-replicate {A = ℕ} 4096 0;
+      stands = λ h q j e. absurd (omega (arith, getD-replicate {A = ℕ} 4096 h 0 0 j));
+      known = λ h j e. rw (getD-replicate {A = ℕ} 4096 h 0 0 j) refl;
     }
+
+-- fewer numbers are no index
+pub no-index : (l : List ℕ) (p : ℕ) → IndexOrNone l p (replicate 1 0)
+no-index l p h = absurd (omega (arith, length-replicate {A = ℕ} 1 0))

@@ -12,19 +12,19 @@ use Rattle.convert.proofs.items.draw_items.Statement.{statement}
 use Rattle.convert.proofs.items.draw_items.Tie as tie
 
 abbrev Inv-loop : tie.InvT-loop
-Inv-loop s cx work₀ positions₀ features₀ warnings₀ state₀ q₀ i₀ work positions features warnings state q i =
+Inv-loop s from cx work₀ positions₀ features₀ warnings₀ state₀ q₀ i₀ work positions features warnings state q i =
     Loop (itemsOf onScreen cx 0 (itemsAt (payload s) 0) (state₀ .budget)) (sheetBy (length work₀) positions₀ features₀ warnings₀ state₀) (sheetBy (length work) positions features warnings state)
     (itemsOf onScreen cx i (itemsAt (payload s) q) (state .budget)) (state .budget) q i
 
 abbrev μ-loop : tie.MeasureT-loop
-μ-loop s cx work₀ positions₀ features₀ warnings₀ state₀ q₀ i₀ work positions features warnings state q i = room s - q
+μ-loop s from cx work₀ positions₀ features₀ warnings₀ state₀ q₀ i₀ work positions features warnings state q i = room s - q
 
 -- what a turn finds lies behind the turns before
 within : (v : tie.Else2 Inv-loop μ-loop) → Within (room (v .before .before .before .before .before .before .before .before .before .before .before .args .s .now)) (v .before .before .before .before .before .loop .q) (v .before .before .next-item .result .label) (v .before .before .next-item .result .len) (v .before .before .next-item .result .next)
 within v = v .before .before .next-item .ensures .1 (not-false _ (v .if2 .left))
 
 loop-holds : tie.Need-loop-holds Inv-loop μ-loop
-loop-holds c = none-done _ _ _ _ (c .before .before .before .before .before .pre .1)
+loop-holds c = rw (c .before .before .before .before .before .pre .2 .items) (none-done _ _ _ _ (c .before .before .before .before .before .pre .1))
 
 same-length : tie.Need-same-length Inv-loop μ-loop
 same-length c = c .before .before .loop .inv .work

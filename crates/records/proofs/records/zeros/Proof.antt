@@ -5,7 +5,7 @@ use native.Mathlib.Omega.{arith}
 use mathlib.Core.Path.{_∙_, _≡_, sym}
 use Rattle.stream.specs.Payload.{rest}
 use Rattle.records.specs.Records.{allZero}
-use Rattle.records.proofs.Tests.{word-fails, word-turn}
+use Rattle.records.proofs.Tests.{long-fails, long-turn}
 use Rattle.records.proofs.records.zeros.Statement.{statement}
 use Rattle.records.proofs.records.zeros.Tie as tie
 
@@ -24,11 +24,11 @@ loop-holds c = search needs
 sub-loop : tie.Need-sub-loop Inv-loop μ-loop
 sub-loop c = search needs
 
-word-requires : tie.Need-word-requires Inv-loop μ-loop
-word-requires c κs = search needs
+long-requires : tie.Need-long-requires Inv-loop μ-loop
+long-requires c κs = search needs
 
 returns : tie.Need-returns Inv-loop μ-loop
-returns c = word-fails _ (c .before .before .before .loop .i) (omega arith)
+returns c = long-fails _ (c .before .before .before .loop .i) (omega arith)
 
 add-i : tie.Need-add-i Inv-loop μ-loop
 add-i c = search needs
@@ -37,7 +37,7 @@ loop-less : tie.Need-loop-less Inv-loop μ-loop
 loop-less c = search needs
 
 loop-again : tie.Need-loop-again Inv-loop μ-loop
-loop-again c = (omega arith, c .before .before .before .loop .inv .1 ∙ word-turn _ (c .before .before .before .loop .i) (omega arith) (omega arith))
+loop-again c = (omega arith, c .before .before .before .loop .inv .1 ∙ long-turn _ (c .before .before .before .loop .i) (omega arith) (omega arith))
 
 zeros-from-requires : tie.Need-zeros-from-requires Inv-loop μ-loop
 zeros-from-requires c κs = search needs
@@ -54,7 +54,7 @@ zeros-spec =
     left-requires
     loop-holds
     sub-loop
-    word-requires
+    long-requires
     returns
     add-i
     loop-less

@@ -14,7 +14,7 @@ use Rattle.records.specs.Records.{recordOf}
 use Rattle.records.specs.Search.{turnOf, sought, recordsAt}
 use Rattle.records.specs.Hits.{Standing, hitsOf, Later}
 use Rattle.records.specs.Laws.Walk.{got-room}
-use Rattle.records.specs.Laws.Search.{search-bad, search-end, search-got, here, not-greater, passed-over}
+use Rattle.records.specs.Laws.Search.{search-bad, search-end, search-got, search-over, here, not-greater, passed-over}
 use Rattle.records.proofs.search.seek.Statement.{statement}
 use Rattle.records.proofs.search.seek.Tie as tie
 
@@ -32,7 +32,7 @@ none l t k p q h a e = (e, ((λ n. absurd (subst T (sym n) tt)), (h, a)))
 -- a record stands at the position
 module _ (w : tie.After-turn-at Inv-loop μ-loop) where
   abbrev at : tie.At-loop Inv-loop μ-loop
-  at = w .before .before .before .before .before .before .before
+  at = w .before .before .before .before .before .before .before .before
 
   abbrev s : List ℕ
   s = at .before .before .args .s .now
@@ -63,13 +63,16 @@ module _ (w : tie.After-turn-at Inv-loop μ-loop) where
 loop-holds : tie.Need-loop-holds Inv-loop μ-loop
 loop-holds c = (omega arith, refl, λ t k h m. refl)
 
-is-end-requires : tie.Need-is-end-requires Inv-loop μ-loop
-is-end-requires c κs = search needs
+tag-at-requires : tie.Need-tag-at-requires Inv-loop μ-loop
+tag-at-requires c κs = search needs
+
+is-over-requires : tie.Need-is-over-requires Inv-loop μ-loop
+is-over-requires c κs = search needs
 
 returns : tie.Need-returns Inv-loop μ-loop
 returns c =
-    let a = c .before .before in
-    none _ _ _ _ (a .loop .q) (a .loop .inv .0) (a .loop .inv .2) (a .loop .inv .1 ∙ c .before .is-end .ensures (c .if1 .taken) _ _)
+    let a = c .before .before .before in
+    none _ _ _ _ (a .loop .q) (a .loop .inv .0) (a .loop .inv .2) (a .loop .inv .1 ∙ search-over _ (a .loop .q) _ _ (c .before .before .tag-at .ensures) (sym (c .before .is-over .ensures) ∙ c .if1 .taken))
 
 record-at-requires : tie.Need-record-at-requires Inv-loop μ-loop
 record-at-requires c κs = search needs
@@ -79,7 +82,7 @@ enum-told c = search needs
 
 returns-2 : tie.Need-returns-2 Inv-loop μ-loop
 returns-2 c =
-    let a = c .before .before .before .before .before in
+    let a = c .before .before .before .before .before .before in
     none _ _ _ _ (a .loop .q) (a .loop .inv .0) (a .loop .inv .2) (a .loop .inv .1 ∙ search-bad _ (a .loop .q) _ _ (sym (c .before .before .record-at .ensures) ∙ c .enum-told .given .1))
 
 enum-told-2 : tie.Need-enum-told-2 Inv-loop μ-loop
@@ -87,7 +90,7 @@ enum-told-2 c = search needs
 
 returns-3 : tie.Need-returns-3 Inv-loop μ-loop
 returns-3 c =
-    let a = c .before .before .before .before .before in
+    let a = c .before .before .before .before .before .before in
     none _ _ _ _ (a .loop .q) (a .loop .inv .0) (a .loop .inv .2) (a .loop .inv .1 ∙ search-end _ (a .loop .q) _ _ (sym (c .before .before .record-at .ensures) ∙ c .enum-told2 .given .1))
 
 enum-known-r : tie.Need-enum-known-r Inv-loop μ-loop
@@ -99,8 +102,8 @@ turn-at-requires c κs = search needs
 enum-told-3 : tie.Need-enum-told-3 Inv-loop μ-loop
 enum-told-3 c = search needs
 
-add-t11 : tie.Need-add-t11 Inv-loop μ-loop
-add-t11 c = let w = c .before .before in omega (arith, within w)
+add-t12 : tie.Need-add-t12 Inv-loop μ-loop
+add-t12 c = let w = c .before .before in omega (arith, within w)
 
 returns-4 : tie.Need-returns-4 Inv-loop μ-loop
 unfolding hitsOf
@@ -134,7 +137,8 @@ seek-spec =
     Inv-loop
     μ-loop
     loop-holds
-    is-end-requires
+    tag-at-requires
+    is-over-requires
     returns
     record-at-requires
     enum-told
@@ -144,7 +148,7 @@ seek-spec =
     enum-known-r
     turn-at-requires
     enum-told-3
-    add-t11
+    add-t12
     returns-4
     enum-told-4
     returns-5

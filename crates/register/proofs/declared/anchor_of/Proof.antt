@@ -1,7 +1,8 @@
 use borrow.Author.Needs.{needs}
 use Rattle.stream.specs.Payload.{payload}
 use Rattle.register.specs.Register.{geoLon, geoLat, bothOf, anchorOf}
-use Rattle.register.proofs.Options.{var-by, both}
+use Rattle.register.proofs.Options.{both}
+use Rattle.register.proofs.Surveying.{survey-says}
 use Rattle.register.proofs.declared.anchor_of.Statement.{statement}
 use Rattle.register.proofs.declared.anchor_of.Tie as tie
 
@@ -12,47 +13,17 @@ returns : tie.Need-returns
 unfolding anchorOf
 returns c = rw (← c .before .anchor .ensures, c .if1 .taken)
 
-slice-aggregate-value-of : tie.Need-slice-aggregate-value-of
-slice-aggregate-value-of c = search needs
-
-value-of-requires : tie.Need-value-of-requires
-value-of-requires c κs = search needs
-
-slice-aggregate-value-of-2 : tie.Need-slice-aggregate-value-of-2
-slice-aggregate-value-of-2 c = search needs
-
-value-of-requires-2 : tie.Need-value-of-requires-2
-value-of-requires-2 c κs = search needs
-
 returns-2 : tie.Need-returns-2
 unfolding anchorOf
 returns-2 c =
-    let y = c .before in
-    let x = y .before .before in
-    let a = x .before .before .before in
-    let l = payload (a .before .before .args .s .now) in
-    rw
-    (← a .anchor .ensures, x .before .before .if1 .left, ← var-by l geoLon (x .value-of .result) (a .before .before .pre) (x .value-of .ensures), ← var-by l geoLat (y .value-of2 .result) (a .before .before .pre) (y .value-of2 .ensures), c .if2 .taken)
-    (both (y .value-of2 .result .some) _ _)
+    let l = payload (c .before .before .before .before .before .before .before .args .s .now) in
+    let g = c .before .before .before .before .before .before .before .args .v .geo in
+    let says = c .before .before .before .before .before .before .before .pre .says in
+    rw (← c .before .before .before .before .before .anchor .ensures, c .before .before .before .before .if1 .left, ← survey-says l (g .lon) geoLon (says .lon), ← survey-says l (g .lat) geoLat (says .lat), c .if2 .taken) (both (g .lat .some) _ _)
 
 returns-3 : tie.Need-returns-3
 unfolding anchorOf bothOf
-returns-3 c =
-    let y = c .before in
-    let x = y .before .before in
-    let a = x .before .before .before in
-    let l = payload (a .before .before .args .s .now) in
-    rw (← a .anchor .ensures, x .before .before .if1 .left, ← var-by l geoLon (x .value-of .result) (a .before .before .pre) (x .value-of .ensures), c .if2 .left)
+returns-3 c = rw (← c .before .before .before .before .before .anchor .ensures, c .before .before .before .before .if1 .left, ← survey-says (payload (c .before .before .before .before .before .before .before .args .s .now)) (c .before .before .before .before .before .before .before .args .v .geo .lon) geoLon (c .before .before .before .before .before .before .before .pre .says .lon), c .if2 .left)
 
 pub anchor-of-spec : {M : Type 1} → statement M
-anchor-of-spec =
-    tie.close
-    (tie.spec
-    anchor-requires
-    returns
-    slice-aggregate-value-of
-    value-of-requires
-    slice-aggregate-value-of-2
-    value-of-requires-2
-    returns-2
-    returns-3)
+anchor-of-spec = tie.close (tie.spec anchor-requires returns returns-2 returns-3)

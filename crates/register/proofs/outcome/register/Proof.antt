@@ -16,7 +16,7 @@ use Rattle.register.proofs.outcome.register.Tie as tie
 -- what is gathered, the frame being Mercator
 module _ (c : tie.After-anchor-of) where
   abbrev sc : Scene
-  sc = sceneOf (payload (c .before .before .before .before .before .before .args .s .now))
+  sc = sceneOf (payload (c .before .before .before .before .before .args .s .now))
 
   abbrev g : Gathered
   g = c .before .gather .result
@@ -43,9 +43,6 @@ module _ (c : tie.Joined3) where
         anchor = anchor-in (a .anchor-of .result) _ (a .anchor-of .ensures) (⊎-elim (λ w. inl (w .0 .taken, sym (w .1 .ensures) ∙ not-false _ (w .2 .left))) (λ w. inr (w .left)) (c .if3 .came));
       }
 
-first-variable-requires : tie.Need-first-variable-requires
-first-variable-requires c κs = search needs
-
 is-mercator-requires : tie.Need-is-mercator-requires
 is-mercator-requires c κs = search needs
 
@@ -55,7 +52,7 @@ refuse-requires c κs = search needs
 returns : tie.Need-returns
 returns c =
     let m = c .before .before in
-    c .refuse .ensures ∙ not-mercator (sceneOf (payload (m .before .before .before .args .s .now))) (sym (m .is-mercator .ensures) ∙ not-true _ (c .before .if1 .taken))
+    c .refuse .ensures ∙ not-mercator (sceneOf (payload (m .before .before .args .s .now))) (sym (m .is-mercator .ensures) ∙ not-true _ (c .before .if1 .taken))
 
 gather-requires : tie.Need-gather-requires
 gather-requires c κs = search needs
@@ -89,7 +86,7 @@ refuse-requires-4 c κs = search needs
 
 returns-4 : tie.Need-returns-4
 returns-4 c =
-    let j = c .before .before .before in
+    let j = c .before .before in
     c .refuse4 .ensures ∙ too-many (passed j) (omega (arith, holds (a j) .count))
 
 fit-controls-requires : tie.Need-fit-controls-requires
@@ -110,14 +107,14 @@ declare-requires c κs = search needs
 returns-6 : tie.Need-returns-6
 returns-6 c =
     let j = c .before .before .before .before .before .before in
-    rw (c .declare .ensures) (by-one (passed j) _ (one-kept (holds (a j)) _ (c .before .before .if7 .taken)))
+    rw (c .declare .ensures) (by-one (passed j) _ (one-kept (holds (a j)) _ (c .before .before .before .if7 .taken)))
 
 refuse-requires-5 : tie.Need-refuse-requires-5
 refuse-requires-5 c κs = search needs
 
 returns-7 : tie.Need-returns-7
 returns-7 c =
-    let j = c .before .before .before .before .before .before .before in
+    let j = c .before .before .before .before .before .before in
     let r = a j .anchor-of in
     c .refuse5 .ensures
     ∙ no-anchor (passed j) (none-kept (holds (a j)) (omega arith)) (not-given (r .result .some) _ (sym (r .ensures)) (not-true _ (c .before .if8 .taken)))
@@ -127,7 +124,7 @@ declare-requires-2 c κs = search needs
 
 returns-8 : tie.Need-returns-8
 returns-8 c =
-    let j = c .before .before .before .before .before .before .before in
+    let j = c .before .before .before .before .before .before in
     let r = a j .anchor-of in
     rw (c .declare2 .ensures) (by-anchor (passed j) _ (none-kept (holds (a j)) (omega arith)) (is-given (r .result .some) _ (sym (r .ensures)) (not-false _ (c .before .if8 .left))))
 
@@ -135,7 +132,6 @@ pub register-spec : {M : Type 1} → statement M
 register-spec =
     tie.close
     (tie.spec
-    first-variable-requires
     is-mercator-requires
     refuse-requires
     returns

@@ -1,13 +1,9 @@
 use borrow.Author.Needs.{needs}
-use Rattle.scene.proofs.Indexing.{all-nobody}
 use Rattle.scene.proofs.index.index_labels.Statement.{statement}
 use Rattle.scene.proofs.index.index_labels.Tie as tie
 
-clear-requires : tie.Need-clear-requires
-clear-requires c κs = search needs
-
 index-places-requires : tie.Need-index-places-requires
-index-places-requires c κs = all-nobody _ (c .before .before .before .before .before .before .before .args .ix .now) (c .before .before .before .before .before .before .before .pre) (c .before .before .before .clear .ensures .0) (c .before .before .before .clear .ensures .1)
+index-places-requires c κs = search needs
 
 index-items-requires : tie.Need-index-items-requires
 index-items-requires c κs = c .before .before .before .index-places .ensures
@@ -19,4 +15,4 @@ returns : tie.Need-returns
 returns c = c .before .before .index-items .ensures
 
 pub index-labels-spec : {M : Type 1} → statement M
-index-labels-spec = tie.close (tie.spec clear-requires index-places-requires index-items-requires same-length returns)
+index-labels-spec = tie.close (tie.spec index-places-requires index-items-requires same-length returns)
