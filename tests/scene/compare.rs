@@ -77,9 +77,7 @@ fn scene(s: &Stream) -> Vec<String> {
     }
     for (i, v) in s.variables().enumerate() {
         let name = s.text(v.at, v.len);
-        let asked = value(&s.value(name.as_bytes()));
-        out.push(format!("V {i} {name} {asked}"));
-        assert_eq!(asked, bits(v.value), "{name} by name and by its place");
+        out.push(format!("V {i} {name} {}", bits(v.value)));
         if name != "geo_lon" && name.ends_with("_lon") {
             names.push((v.at, v.len - 4));
         }

@@ -99,7 +99,6 @@ extern "C" {
     fn scene_item(s: *const u8, n: usize, p: usize) -> Item;
     fn scene_points(s: *const u8, n: usize, p: usize, role: u8) -> Points;
     fn scene_path(s: *const u8, n: usize, p: usize, role: u8) -> Path;
-    fn scene_value(s: *const u8, n: usize, name: *const u8, len: usize) -> Value;
     fn scene_point(s: *const u8, n: usize, at: usize, i: usize) -> Spot;
     fn scene_label(s: *const u8, n: usize, at: usize, len: usize) -> Spot;
 }
@@ -184,10 +183,6 @@ impl<'a> Stream<'a> {
 
     pub fn points(&self, p: usize, role: u8) -> Points {
         ask!(self, scene_points, p, role)
-    }
-
-    pub fn value(&self, name: &[u8]) -> Value {
-        ask!(self, scene_value, name.as_ptr(), name.len())
     }
 
     pub fn label(&self, at: usize, len: usize) -> Spot {

@@ -1,6 +1,6 @@
 // Condition 3, in one pass over the records.
 ghost use mathlib.Core.Path.{_≡_};
-ghost use Prim.Native.Nat.{ℕ, _+_, _≤_};
+ghost use Prim.Native.Nat.{_+_, _≤_};
 ghost use lib.ListN.{drop};
 ghost use Rattle.stream.specs.Payload.{payload, room};
 ghost use Rattle.records.specs.Records.{recordOf};

@@ -2,9 +2,8 @@
 ghost use mathlib.Core.Path.{_≡_};
 ghost use Prim.Native.Nat.{_≤_};
 ghost use lib.ListN.{length};
-ghost use mathlib.Core.Bool.{cond};
 ghost use Rattle.stream.specs.Payload.{payload};
-ghost use Rattle.records.specs.Values.{flattenIn, rescaleIn, notAbove};
+ghost use Rattle.records.specs.Values.{flattenIn, notAbove};
 ghost use Rattle.records.specs.Refusals.{valuesRefusal, refusalOf};
 use crate::floats::limits;
 use crate::order::layout;

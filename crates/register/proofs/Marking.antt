@@ -1,6 +1,5 @@
 -- Marks of names: one more, the loop over the host features, and what a name comes to.
 use mathlib.Core.Path.{_≡_, refl, sym, ap, _∙_}
-use mathlib.Core.Logic.{_⊎_, inl, inr}
 use mathlib.Core.Bool.{Bool, true, false, not, _||_}
 use mathlib.Core.List.{List, [], _∷_, _++_}
 use Prim.Native.Nat.{ℕ, zero, suc, _+_, _≤_, _<_}
@@ -9,12 +8,11 @@ use native.Mathlib.Omega.{arith}
 use lib.ListN.{length, take, drop, getD, set}
 use lib.Seq.{getD-set-same, getD-set-other}
 use lib.Dec.{eqb}
-use lib.Ieee.{Float}
 use borrow.Author.Tests.{eqb-true, eqb-false, not-true, not-false}
 use Rattle.records.specs.Order.{part}
 use Rattle.scene.specs.declared.numbers.Spot.{Spot}
 use Rattle.scene.specs.declared.sections.Feature.{Feature}
-use Rattle.scene.specs.Scene.{Maybe, none, some, Point, Scene, NamedFeature, sceneOf}
+use Rattle.scene.specs.Scene.{some, Scene, NamedFeature, sceneOf}
 use Rattle.scene.specs.Labels.{same, pointOfLabel}
 use Rattle.scene.specs.Answers.{spotBy, featuresAt, featuresBy, placesAt, itemsAt}
 use Rattle.scene.specs.Index.{slotOf}

@@ -2,21 +2,14 @@
 use mathlib.Core.Path.{_≡_, refl}
 use mathlib.Core.Logic.{_⊎_, inl, inr}
 use mathlib.Core.Bool.{Bool, true, false, not, _&&_}
-use mathlib.Core.List.{List}
 use Prim.Native.Nat.{ℕ}
 use native.Mathlib.Omega.{arith}
 use lib.Ieee.{Float, binary64, mul, div, lt}
-use Rattle.scene.specs.Scene.{Maybe, some, given, Point, Scene, sceneOf}
-use Rattle.scene.specs.Labels.{variableOf}
+use Rattle.scene.specs.Scene.{Maybe, some, given, Point, Scene}
 use Rattle.scene.specs.declared.numbers.Value.{Value}
-use Rattle.scene.specs.Answers.{valueBy, variablesAt, Variables}
-use Rattle.register.specs.Register.{f0, var, orValue, bothOf, pxMode, declaredBearing, scaleValue, above0, effectiveScale}
+use Rattle.scene.specs.Answers.{valueBy}
+use Rattle.register.specs.Register.{f0, orValue, bothOf, pxMode, declaredBearing, scaleValue, above0, effectiveScale}
 use Rattle.register.specs.Outcome.{checkedOf, declaredOutcome}
-
--- a variable of the scene, looked for from where all variables stand
-pub var-by : (l name : List ℕ) (r : Value) {p : ℕ} → Variables l p → valueBy r ≡ variableOf name (variablesAt l p) → valueBy r ≡ var (sceneOf l) name
-unfolding sceneOf
-var-by l name r h e = rw (h .all) e
 
 -- longitude and latitude, the first of them set
 pub both : (b : Bool) (x y : Float) → given b (record { x = x; y = y }) ≡ bothOf (some x) (given b y)

@@ -1,8 +1,7 @@
 -- The walk that surveys the variables: what is known at a position, and one turn.
 use mathlib.Core.Path.{_≡_, refl, sym, ap, _∙_}
-use mathlib.Core.Logic.{_⊎_, inl, inr, ⊎-elim}
 use mathlib.Core.Bool.{Bool, true, false, not, _||_}
-use mathlib.Core.List.{List, [], _∷_, _++_, map}
+use mathlib.Core.List.{List, [], _∷_, map}
 use Prim.Native.Nat.{ℕ, suc}
 use native.Mathlib.Omega.{arith}
 use lib.Ieee.{Float}
@@ -69,9 +68,6 @@ module _ (all : List NamedValue) where
       }
 
 -- ---- one more test: what is new of a variable, by the answers for it
-pub kept-old : (old : Value) (other : Value) → old .some ≡ true → old ≡ pick (old .some) old other
-kept-old old other h = rw h refl
-
 pub kept-new : (old : Value) {b c : Bool} (x : Float) → old .some ≡ false → c ≡ b → _≡_ {A = Value} (record { some = c; value = x }) (pick (old .some) old (record { some = b; value = x }))
 kept-new old x h e = rw (h, e) refl
 

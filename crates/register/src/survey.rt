@@ -26,7 +26,7 @@ pub struct Geo {
 
 pub struct Survey {
     pub geo: Geo,
-    // how many names there are to be looked up, of host features and `<L>_lon` variables, 2 for more
+    // how many names there are to be looked up, of host features and `<L>_lon` variables, 2 for more: it decides whether an index is made, not what is found
     pub names: usize,
     // whether any `<L>_lon` variable is among them
     pub lons: bool,
@@ -79,7 +79,7 @@ fn few_features(s: &[u8]) -> usize
     1
 }
 
-// 2 for more.
+// One name more, 2 for more.
 fn one_more(n: usize) -> usize
     ensures { λ r. ⌜ (r ≡ 0 → ⊥) ⌝ }
 {

@@ -1,6 +1,6 @@
 // The warnings of a registration, written once it is accepted.
 ghost use mathlib.Core.Path.{_≡_};
-ghost use mathlib.Core.Bool.{Bool, true, false};
+ghost use mathlib.Core.Bool.{true, false};
 ghost use mathlib.Core.List.{[], _∷_, _++_};
 ghost use lib.Ieee.{Float};
 ghost use Prim.Native.Nat.{_+_, _≤_, _<_};
@@ -16,7 +16,7 @@ ghost use Rattle.scene.specs.Laws.Rising.{Rising};
 ghost use Rattle.register.specs.Register.{suffixLon, suffixLat, featureEvents, variableEvents, events, lonEvent, warningsIn, controlsOf, viewWarnings, halfWarnings, anyDeclared, ignoredWith, registerWarnings};
 ghost use Rattle.register.specs.Survey.{Surveyed};
 ghost use Rattle.register.specs.Marks.{Marked};
-ghost use Rattle.register.specs.Warned.{Sheet, pushed, allPushed};
+ghost use Rattle.register.specs.Warned.{pushed, allPushed};
 use crate::controls::is_lon;
 use crate::controls::resolve;
 use crate::declared::anchor_of;

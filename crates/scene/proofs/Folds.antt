@@ -16,27 +16,11 @@ use Rattle.scene.specs.declared.labels.Best as code-best
 use Rattle.scene.specs.declared.numbers.Spot.{Spot}
 use Rattle.scene.specs.declared.sections.Item.{Item}
 use Rattle.scene.specs.declared.sections.Place.{Place}
-use Rattle.scene.specs.declared.sections.Variable.{Variable}
 use Rattle.scene.specs.Scene.{Maybe, none, some, given, Point, NamedPlace, placeAt, DrawnItem, itemWith, itemAt}
-use Rattle.scene.specs.Labels.{same, pick, variableOf, Key, Best, consider, considerAt, itemKey, considerPlace, considerItem, bestPlace, carries, referencePoint, bestItem, pointOf, pointOfLabel}
-use Rattle.scene.specs.Answers.{spotBy, variablesAt, variablesBy, placesAt, placesBy, labelBy, itemBy, itemsAt, itemsBy, bestBy}
+use Rattle.scene.specs.Labels.{same, pick, Key, Best, consider, considerAt, itemKey, bestPlace, carries, referencePoint, bestItem, pointOf, pointOfLabel}
+use Rattle.scene.specs.Answers.{considerPlace, considerItem, spotBy, placesAt, placesBy, labelBy, itemBy, itemsAt, itemsBy, bestBy}
 use Rattle.scene.specs.Laws.Shift.{part-drop}
 use Rattle.scene.proofs.Found.{Answer, One, none-listed, one-listed, found-again}
-
--- ---- the variable of a name
-module _ (name l : List ℕ) (q : ℕ) (c : Variable) (e : variablesAt l q ≡ variablesBy l c) where
-  pub no-variable : not (c .some) ≡ true → none ≡ variableOf name (variablesAt l q)
-  unfolding variableOf
-  no-variable n = rw (e, not-true (c .some) n) refl
-
-  module _ (n : not (c .some) ≡ false) {t : Bool} (s : t ≡ same (part l (c .at) (c .len)) name) where
-    pub this-variable : t ≡ true → some (c .value) ≡ variableOf name (variablesAt l q)
-    unfolding variableOf
-    this-variable h = rw (e, not-false (c .some) n, ← s, h) refl
-
-    pub later-variable : t ≡ false → variableOf name (variablesAt l q) ≡ variableOf name (variablesAt l (c .next))
-    unfolding variableOf
-    later-variable h = rw (e, not-false (c .some) n, ← s, h) refl
 
 -- ---- the best place, and the best item
 -- what a branch left, by its test

@@ -24,7 +24,7 @@ use Rattle.scene.specs.declared.sections.Place.{Place}
 use Rattle.scene.specs.declared.sections.Points.{Points}
 use Rattle.scene.specs.declared.sections.Variable.{Variable}
 use Rattle.scene.specs.Scene.{Maybe, given, first, numberAt, Point, pointAt, pointsAt, cubicsAt, NamedFeature, featureAt, NamedValue, variableAt, NamedPlace, placeAt, Form, curve, polyline, DrawnPath, pathAt, DrawnItem, itemAt}
-use Rattle.scene.specs.Labels.{Key, Best}
+use Rattle.scene.specs.Labels.{Key, Best, consider, considerAt, placeKey, itemKey, referencePoint}
 
 -- ---- numbers and points
 abbrev pub valueBy : Value → Maybe Float
@@ -152,3 +152,12 @@ keyBy k = record { top = k .top; line = k .line; col = k .col; order = k .order 
 
 abbrev pub bestBy : code-best.Best → Maybe Best
 bestBy b = given (b .some) (record { key = keyBy (b .key); at = record { x = b .x; y = b .y } })
+
+-- the first of some places as the i-th, and of some items
+abbrev pub considerPlace : Maybe Best → ℕ → List NamedPlace → Maybe Best
+considerPlace b i [] = b
+considerPlace b i (p ∷ ps) = consider b (placeKey p i) (p .at)
+
+abbrev pub considerItem : Maybe Best → ℕ → List DrawnItem → Maybe Best
+considerItem b i [] = b
+considerItem b i (it ∷ its) = considerAt b (itemKey it i) (referencePoint it)

@@ -104,15 +104,6 @@ bestPlace name i (p ∷ ps) b =
     bestPlace name (suc i) ps
     (pick (same (p .label) name) (consider b (placeKey p i) (p .at)) b)
 
--- the first of some places as the i-th, and of some items
-abbrev pub considerPlace : Maybe Best → ℕ → List NamedPlace → Maybe Best
-considerPlace b i [] = b
-considerPlace b i (p ∷ ps) = consider b (placeKey p i) (p .at)
-
-abbrev pub considerItem : Maybe Best → ℕ → List DrawnItem → Maybe Best
-considerItem b i [] = b
-considerItem b i (it ∷ its) = considerAt b (itemKey it i) (referencePoint it)
-
 -- an item without a label carries none, not even the empty one
 unfoldable pub carries : Maybe (List ℕ) → List ℕ → Bool
 carries none name = false

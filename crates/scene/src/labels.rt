@@ -1,12 +1,12 @@
 // The point that a label names, after the source's `reference_point` and `point_of_label`.
 ghost use mathlib.Core.Path.{_≡_};
-ghost use mathlib.Core.Bool.{Bool, true, false};
+ghost use mathlib.Core.Bool.{true, false};
 ghost use Prim.Native.Nat.{_+_, _*_, _≤_};
 ghost use Rattle.stream.specs.Payload.{payload, room};
 ghost use Rattle.records.specs.Order.{part};
-ghost use Rattle.scene.specs.Scene.{Maybe, some, none, pointsAt};
-ghost use Rattle.scene.specs.Labels.{meanPoint, firstStart, meanOrStart, referencePoint, greater, consider, considerAt, itemKey, considerPlace, considerItem, bestPlace, bestItem, pointOfLabel};
-ghost use Rattle.scene.specs.Answers.{Labels, pointBy, spotBy, keyBy, bestBy, pointsFrom, pathsFrom, placesAt, itemsAt, itemBy};
+ghost use Rattle.scene.specs.Scene.{some, none, pointsAt};
+ghost use Rattle.scene.specs.Labels.{meanPoint, firstStart, meanOrStart, referencePoint, greater, consider, considerAt, itemKey, bestPlace, bestItem, pointOfLabel};
+ghost use Rattle.scene.specs.Answers.{considerPlace, considerItem, pointBy, spotBy, keyBy, bestBy, pointsFrom, pathsFrom, placesAt, itemsAt, itemBy};
 use crate::names::bears;
 use crate::names::is_called;
 use crate::numbers::Point;
@@ -257,12 +257,4 @@ pub fn point_of_label(s: &[u8], p: usize, at: usize, n: usize) -> Spot
         x: b.x,
         y: b.y,
     }
-}
-
-// Where to ask for labels from, which all stand from p on: behind all that carries none, which is passed over once and not for each name.
-pub fn first_label(s: &[u8], p: usize) -> usize
-    requires { ⌜ Labels (payload (now s)) p ⌝ }
-    ensures { λ r. ⌜ Labels (payload (now (s .entry))) r ⌝ }
-{
-    records::skip_to(s, p, 5)
 }

@@ -1,6 +1,6 @@
 // Floats and points of the payload, and bits of a byte.
 ghost use mathlib.Core.Path.{_≡_};
-ghost use mathlib.Core.Bool.{Bool, true, false};
+ghost use mathlib.Core.Bool.{true, false};
 ghost use Prim.Native.Nat.{_+_, _*_, _≤_};
 ghost use Rattle.stream.specs.Payload.{payload, room};
 ghost use Rattle.scene.specs.Scene.{given, bit, numberAt, pointAt};

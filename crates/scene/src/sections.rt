@@ -1,14 +1,12 @@
 // Features, variables, places and items, one by one, and what follows an item.
 ghost use mathlib.Core.Path.{_≡_};
-ghost use mathlib.Core.Bool.{Bool, true, false};
-ghost use Prim.Native.Nat.{_+_, _*_, _<_, _≤_};
+ghost use mathlib.Core.Bool.{true, false};
+ghost use Prim.Native.Nat.{_+_, _*_, _≤_};
 ghost use Rattle.stream.specs.Payload.{payload, room};
 ghost use lib.ListN.{drop};
 ghost use Rattle.records.specs.Hits.{Later};
 ghost use Rattle.scene.specs.Scene.{itemAt};
-ghost use Rattle.scene.specs.Labels.{variableOf};
-ghost use Rattle.scene.specs.Answers.{valueBy, Within, PathWithin, featuresAt, featuresBy, featureBy, variablesAt, variablesBy, Variables, placesAt, placesBy, ItemStands, itemsAt, itemBy, itemsBy, pointsFrom, pointsBy, pathsFrom, pathsBy};
-use crate::names::is_named;
+ghost use Rattle.scene.specs.Answers.{Within, PathWithin, featuresAt, featuresBy, featureBy, variablesAt, variablesBy, Variables, placesAt, placesBy, ItemStands, itemsAt, itemBy, itemsBy, pointsFrom, pointsBy, pathsFrom, pathsBy};
 use crate::numbers::Spot;
 use crate::numbers::Value;
 use crate::numbers::has_bit;
@@ -362,27 +360,4 @@ pub fn first_variable(s: &[u8]) -> usize
     ensures { λ r. ⌜ Variables (payload (now (s .entry))) r ⌝ }
 {
     records::skip_to(s, 0, 4)
-}
-
-// The value of the variable of a name, among those from p on.
-pub fn value_of(s: &[u8], p: usize, name: &[u8]) -> Value
-    ensures { λ r. ⌜ valueBy r ≡ variableOf (now (name .entry)) (variablesAt (payload (now (s .entry))) p) ⌝ }
-{
-    let mut q = p;
-    loop {
-        let v = next_variable(s, q);
-        if !v.some {
-            return Value {
-                some: false,
-                value: 0.0,
-            };
-        }
-        if is_named(s, v.at, v.len, name) {
-            return Value {
-                some: true,
-                value: v.value,
-            };
-        }
-        q = v.next;
-    }
 }

@@ -3,7 +3,6 @@ ghost use mathlib.Core.Path.{_≡_};
 ghost use Rattle.stream.specs.Payload.{payload};
 ghost use Rattle.records.specs.Refusals.{refusalOf};
 ghost use Rattle.scene.specs.Scene.{Maybe, sceneOf};
-ghost use Rattle.scene.specs.Labels.{variableOf};
 ghost use Rattle.scene.specs.Answers.{valueBy, spotBy, frameBy, featuresAt, featuresBy, variablesAt, variablesBy, placesAt, placesBy, itemsAt, itemsBy, pointsFrom, pointsBy, pathsFrom, pathsBy};
 ghost use Rattle.scene_host.specs.Guarded.{spotIn, labelIn};
 use scene::Feature;
@@ -112,14 +111,6 @@ pub extern "C" fn scene_path(s: &[u8], p: usize, role: u8) -> Path
     ensures { λ r. ⌜ pathsFrom (payload (now (s .entry))) p role ≡ pathsBy (payload (now (s .entry))) role r ⌝ }
 {
     scene::next_path(s, p, role)
-}
-
-// The value of the variable of a name.
-#[no_mangle]
-pub extern "C" fn scene_value(s: &[u8], name: &[u8]) -> Value
-    ensures { λ r. ⌜ valueBy r ≡ variableOf (now (name .entry)) (variablesAt (payload (now (s .entry))) 0) ⌝ }
-{
-    scene::value_of(s, 0, name)
 }
 
 // The i-th point of those from `at` on, if the payload goes that far.

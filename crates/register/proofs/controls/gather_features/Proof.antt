@@ -30,7 +30,8 @@ same-length : tie.Need-same-length Inv-loop μ-loop
 same-length c = c .before .before .before .loop .inv .2
 
 returns : tie.Need-returns Inv-loop μ-loop
-returns c = let f = c .before .before .next-feature in
+returns c =
+    let f = c .before .before .next-feature in
     let d = all-done (c .before .before .before .loop .inv .0) (f .result) (f .ensures .0) (c .if1 .taken) in
     (d .0, (d .1, marks-end (c .before .before .before .loop .inv .1) (f .result) (f .ensures .0) (c .if1 .taken)))
 
@@ -47,7 +48,8 @@ loop-less : tie.Need-loop-less Inv-loop μ-loop
 loop-less c = omega (arith, c .before .before .before .before .before .before .before .next-feature .ensures .1 (not-false _ (c .before .before .before .before .before .if1 .left)))
 
 loop-again : tie.Need-loop-again Inv-loop μ-loop
-loop-again c = let f = c .before .before .before .before .before .before .before .next-feature in
+loop-again c =
+    let f = c .before .before .before .before .before .before .before .next-feature in
     let taken = taken-by (c .before .before .before .name-control .result) (⊎-elim (λ w. inl (w .0 .taken, w .3 ∙ w .2 .ensures)) (λ w. inr (w .0 .left, w .1)) (c .if2 .came)) in
     (one-done (c .before .before .before .before .before .before .before .before .loop .inv .0) (f .result) (f .ensures .0) (c .before .before .before .before .before .if1 .left) (f .ensures .1 (not-false _ (c .before .before .before .before .before .if1 .left)) .more) (taken ∙ c .before .before .before .name-control .ensures .0 _), marks-on (c .before .before .before .before .before .before .before .before .loop .inv .1) (f .result) (f .ensures .0) (c .before .before .before .before .before .if1 .left) (c .before .before .before .name-control .ensures .1), search needs)
 

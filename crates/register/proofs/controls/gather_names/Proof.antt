@@ -1,5 +1,4 @@
 use borrow.Author.Needs.{needs}
-use mathlib.Core.Path.{_∙_, ap}
 use lib.Seq.{take-length}
 use borrow.Author.Tests.{not-true}
 use Rattle.scene.specs.Laws.Rising.{variables-rising}
@@ -18,7 +17,8 @@ returns : tie.Need-returns
 returns c = features-alone _ (c .before .before .before .before .before .gather-features .ensures .0) (only-features (c .before .before .before .before .before .before .before .before .before .before .pre .1) (not-true _ (c .if1 .taken)) 0)
 
 gather-variables-requires : tie.Need-gather-variables-requires
-gather-variables-requires c κs = let f = c .before .before .before .before .before .before .gather-features in
+gather-variables-requires c κs =
+    let f = c .before .before .before .before .before .before .gather-features in
     let pre = c .before .before .before .before .before .before .before .before .before .before .before .pre in
     (features-sized _ (f .ensures .0), f .ensures .1 .0, variables-rising _ (pre .0), pre .1 .labels, pre .1 .vars, pre .2, rw (f .ensures .1 .0, take-length) (f .ensures .1 .1))
 

@@ -44,7 +44,8 @@ turn c =
     }
 
 loop-holds : tie.Need-loop-holds Inv-loop μ-loop
-loop-holds c = let pre = c .before .before .before .pre in
+loop-holds c =
+    let pre = c .before .before .before .pre in
     (going _ _ (pre .0) (pre .4) (pre .2), record { marked = pre .6; kept = refl })
 
 next-variable-requires : tie.Need-next-variable-requires Inv-loop μ-loop
@@ -78,7 +79,8 @@ sub-lon-control : tie.Need-sub-lon-control Inv-loop μ-loop
 sub-lon-control c = long (turn (c .before .before)) (c .before .if2 .taken)
 
 lon-control-requires : tie.Need-lon-control-requires Inv-loop μ-loop
-lon-control-requires c κs = let t = turn (c .before .before) in
+lon-control-requires c κs =
+    let t = turn (c .before .before) in
     let h = c .before .if2 .taken in
     let pre = c .before .before .before .before .before .before .before .before .before .before .before .before .pre in
     (omega (arith, long t h, t .within .name), suffix t h, run t h, pre .3, pre .5, c .before .before .before .before .before .before .before .before .loop .inv .1 .marked)
@@ -90,14 +92,16 @@ loop-less : tie.Need-loop-less Inv-loop μ-loop
 loop-less c = omega (arith, turn (c .before .before .before .before .before .before .before .before) .within)
 
 loop-again : tie.Need-loop-again Inv-loop μ-loop
-loop-again c = let all = taken-by (c .before .before .before .before .before .lon-control .result) (inl (c .before .before .if3 .taken, c .put .ensures)) ∙ c .before .before .before .before .before .lon-control .ensures .0 _ in
+loop-again c =
+    let all = taken-by (c .before .before .before .before .before .lon-control .result) (inl (c .before .before .if3 .taken, c .put .ensures)) ∙ c .before .before .before .before .before .lon-control .ensures .0 _ in
     (on-lon (c .before .before .before .before .before .before .before .before .before .before .before .before .before .before .loop .inv .0) (turn (c .before .before .before .before .before .before .before .before)) (c .before .before .before .before .before .before .before .if2 .taken) (c .before .before .before .before .before .before .before .before .before .before .before .before .before .before .before .before .before .before .args .features) (c .before .before .before .before .before .before .before .before .before .before .before .before .before .before .before .before .before .before .pre .1) all, record { marked = c .before .before .before .before .before .lon-control .ensures .1; kept = omega (arith, c .before .before .before .before .marks .given, c .before .before .before .before .before .before .before .before .before .before .before .before .before .before .loop .inv .1 .kept) })
 
 loop-less-2 : tie.Need-loop-less-2 Inv-loop μ-loop
 loop-less-2 c = omega (arith, turn (c .before .before .before .before .before .before) .within)
 
 loop-again-2 : tie.Need-loop-again-2 Inv-loop μ-loop
-loop-again-2 c = let all = taken-by (c .before .before .before .lon-control .result) (inr (c .if3 .left, refl)) ∙ c .before .before .before .lon-control .ensures .0 _ in
+loop-again-2 c =
+    let all = taken-by (c .before .before .before .lon-control .result) (inr (c .if3 .left, refl)) ∙ c .before .before .before .lon-control .ensures .0 _ in
     (on-lon (c .before .before .before .before .before .before .before .before .before .before .before .before .loop .inv .0) (turn (c .before .before .before .before .before .before)) (c .before .before .before .before .before .if2 .taken) (c .before .before .before .before .before .before .before .before .before .before .before .before .before .before .before .before .args .features) (c .before .before .before .before .before .before .before .before .before .before .before .before .before .before .before .before .pre .1) all, record { marked = c .before .before .before .lon-control .ensures .1; kept = search needs })
 
 loop-less-3 : tie.Need-loop-less-3 Inv-loop μ-loop

@@ -26,7 +26,8 @@ same-length : tie.Need-same-length
 same-length c = search needs
 
 returns : tie.Need-returns
-returns c = let o = c .before .before .before .before .before .before in
+returns c =
+    let o = c .before .before .before .before .before .before in
     let e = c .before .before .slot-of .ensures in
     (sym (o .pre .1 (omega arith) _ (o .pre .2) (rw (← e) (c .if2 .taken))), new-mark _ (o .args .marks .now) _ (o .pre .1) (part (payload (o .args .s .now)) (o .args .at) (o .args .n)) e refl (omega arith))
 
@@ -34,7 +35,8 @@ is-mentioned-requires : tie.Need-is-mentioned-requires
 is-mentioned-requires c κs = search needs
 
 returns-2 : tie.Need-returns-2
-returns-2 c = let m = c .before .before .before .before .pre .1 in
+returns-2 c =
+    let m = c .before .before .before .before .pre .1 in
     (c .is-mentioned .ensures, ⊎-elim (λ w. has-mark _ _ _ m _ (w .1 .ensures) (w .3 .left)) (λ w. too-few _ _ _ m _ (omega arith)) (c .before .if1 .came))
 
 pub is-repeat-spec : {M : Type 1} → statement M

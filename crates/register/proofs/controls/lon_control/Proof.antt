@@ -1,5 +1,4 @@
 use borrow.Author.Needs.{needs}
-use mathlib.Core.Path.{_∙_}
 use Rattle.register.proofs.Gathering.{no-pair, a-pair}
 use Rattle.register.proofs.controls.lon_control.Statement.{statement}
 use Rattle.register.proofs.controls.lon_control.Tie as tie

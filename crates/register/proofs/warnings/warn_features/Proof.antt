@@ -38,7 +38,8 @@ same-length-2 : tie.Need-same-length-2 Inv-loop μ-loop
 same-length-2 c = c .before .before .before .loop .inv .0 .kept
 
 returns : tie.Need-returns Inv-loop μ-loop
-returns c = let f = featureBy _ (c .before .before .next-name .result) in
+returns c =
+    let f = featureBy _ (c .before .before .next-name .result) in
     let t = all-told (c .before .before .before .loop .inv .0) f (c .before .before .next-name .ensures .0) (c .if1 .taken) in
     (t .0, (t .1 .0, t .1 .1, marks-end (c .before .before .before .loop .inv .1) f (c .before .before .next-name .ensures .0) (c .if1 .taken)))
 
@@ -58,7 +59,8 @@ loop-less : tie.Need-loop-less Inv-loop μ-loop
 loop-less c = omega (arith, c .before .before .before .before .before .before .before .before .next-name .ensures .1 (not-false _ (c .before .before .before .before .before .before .if1 .left)))
 
 loop-again : tie.Need-loop-again Inv-loop μ-loop
-loop-again c = let f = featureBy _ (c .before .before .before .before .before .before .before .before .next-name .result) in
+loop-again c =
+    let f = featureBy _ (c .before .before .before .before .before .before .before .before .next-name .result) in
     let e = c .before .before .before .before .before .before .before .before .next-name .ensures .0 in
     (one-told (c .before .before .before .before .before .before .before .before .before .loop .inv .0) f e (c .before .before .before .before .before .before .if1 .left) (c .before .before .before .before .before .before .before .before .next-name .ensures .1 (not-false _ (c .before .before .before .before .before .before .if1 .left)) .more) (c .before .before .before .before .resolve .ensures .0 .0) (⊎-elim (λ w. inl (w .0 .taken, sheets (w .5) (w .6) ∙ w .2 .ensures)) (λ w. inr (w .0 .left, sheets (w .1) (w .2))) (c .if2 .came)), marks-on (c .before .before .before .before .before .before .before .before .before .loop .inv .1) f e (c .before .before .before .before .before .before .if1 .left) (c .before .before .before .before .resolve .ensures .1), search needs)
 

@@ -37,7 +37,8 @@ same-length : tie.Need-same-length
 same-length c = search needs
 
 returns-3 : tie.Need-returns-3
-returns-3 c = let i = c .before .before .before .before in
+returns-3 c =
+    let i = c .before .before .before .before in
     one-written _ _ _ _ (rw (half (i .before .before .before .before .before .before), i .if2 .left) refl) (c .before .before .push .ensures) (c .before .before .before .before .before .before .before .before .before .before .before .before .before .before .pre .0)
 
 pub warn-half-spec : {M : Type 1} → statement M

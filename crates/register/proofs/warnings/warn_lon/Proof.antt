@@ -13,7 +13,8 @@ same-length : tie.Need-same-length
 same-length c = search needs
 
 returns : tie.Need-returns
-returns c = let r = each-one _ _ _ _ (λ lon. lon-alone _ _ _ lon (c .before .before .before .before .before .before .lat-of .result) (c .before .before .before .before .before .before .lat-of .ensures) (c .before .before .before .before .if1 .taken)) (c .before .before .push .ensures) (c .before .before .before .before .before .before .before .before .before .before .before .pre .0) in
+returns c =
+    let r = each-one _ _ _ _ (λ lon. lon-alone _ _ _ lon (c .before .before .before .before .before .before .lat-of .result) (c .before .before .before .before .before .before .lat-of .ensures) (c .before .before .before .before .if1 .taken)) (c .before .before .push .ensures) (c .before .before .before .before .before .before .before .before .before .before .before .pre .0) in
     (r .0, (r .1, c .before .before .before .before .before .before .before .before .before .before .before .pre .7))
 
 resolve-requires : tie.Need-resolve-requires
@@ -23,7 +24,8 @@ same-length-2 : tie.Need-same-length-2
 same-length-2 c = search needs
 
 returns-2 : tie.Need-returns-2
-returns-2 c = let r = each-none _ _ (λ lon. lon-control _ _ _ lon (c .before .before .before .before .before .before .before .before .lat-of .result) (c .before .before .before .before .before .before .before .before .lat-of .ensures) (c .before .before .before .before .before .before .if1 .left) (c .before .before .before .before .resolve .ensures .0 .0) (c .before .before .before .before .before .before .before .before .before .before .before .before .before .pre .4) (c .if2 .taken)) (c .before .before .before .before .before .before .before .before .before .before .before .before .before .pre .0) in
+returns-2 c =
+    let r = each-none _ _ (λ lon. lon-control _ _ _ lon (c .before .before .before .before .before .before .before .before .lat-of .result) (c .before .before .before .before .before .before .before .before .lat-of .ensures) (c .before .before .before .before .before .before .if1 .left) (c .before .before .before .before .resolve .ensures .0 .0) (c .before .before .before .before .before .before .before .before .before .before .before .before .before .pre .4) (c .if2 .taken)) (c .before .before .before .before .before .before .before .before .before .before .before .before .before .pre .0) in
     (r .0, (r .1, c .before .before .before .before .resolve .ensures .1 .others))
 
 push-requires-2 : tie.Need-push-requires-2
@@ -36,7 +38,8 @@ same-length-4 : tie.Need-same-length-4
 same-length-4 c = search needs
 
 returns-3 : tie.Need-returns-3
-returns-3 c = let r = each-one _ _ _ _ (λ lon. lon-lost _ _ _ lon (c .before .before .before .before .before .before .before .before .before .before .before .before .before .before .lat-of .result) (c .before .before .before .before .before .before .before .before .before .before .before .before .before .before .lat-of .ensures) (c .before .before .before .before .before .before .before .before .before .before .before .before .if1 .left) (c .before .before .before .before .before .before .before .before .before .before .resolve .ensures .0 .0) (c .before .before .before .before .before .before .before .before .before .before .before .before .before .before .before .before .before .before .before .pre .4) (c .before .before .before .before .if3 .taken)) (c .before .before .push2 .ensures) (c .before .before .before .before .before .before .before .before .before .before .before .before .before .before .before .before .before .before .before .pre .0) in
+returns-3 c =
+    let r = each-one _ _ _ _ (λ lon. lon-lost _ _ _ lon (c .before .before .before .before .before .before .before .before .before .before .before .before .before .before .lat-of .result) (c .before .before .before .before .before .before .before .before .before .before .before .before .before .before .lat-of .ensures) (c .before .before .before .before .before .before .before .before .before .before .before .before .if1 .left) (c .before .before .before .before .before .before .before .before .before .before .resolve .ensures .0 .0) (c .before .before .before .before .before .before .before .before .before .before .before .before .before .before .before .before .before .before .before .pre .4) (c .before .before .before .before .if3 .taken)) (c .before .before .push2 .ensures) (c .before .before .before .before .before .before .before .before .before .before .before .before .before .before .before .before .before .before .before .pre .0) in
     (r .0, (r .1, c .before .before .before .before .before .before .before .before .before .before .resolve .ensures .1 .others))
 
 push-requires-3 : tie.Need-push-requires-3
@@ -49,7 +52,8 @@ same-length-6 : tie.Need-same-length-6
 same-length-6 c = search needs
 
 returns-4 : tie.Need-returns-4
-returns-4 c = let r = each-one _ _ _ _ (λ lon. lon-again _ _ _ lon (c .before .before .before .before .before .before .before .before .before .before .before .before .before .before .lat-of .result) (c .before .before .before .before .before .before .before .before .before .before .before .before .before .before .lat-of .ensures) (c .before .before .before .before .before .before .before .before .before .before .before .before .if1 .left) (c .before .before .before .before .before .before .before .before .before .before .resolve .ensures .0 .0) (c .before .before .before .before .before .before .before .before .before .before .before .before .before .before .before .before .before .before .before .pre .4) (c .before .before .before .before .before .before .if2 .left) (c .before .before .before .before .if3 .left)) (c .before .before .push3 .ensures) (c .before .before .before .before .before .before .before .before .before .before .before .before .before .before .before .before .before .before .before .pre .0) in
+returns-4 c =
+    let r = each-one _ _ _ _ (λ lon. lon-again _ _ _ lon (c .before .before .before .before .before .before .before .before .before .before .before .before .before .before .lat-of .result) (c .before .before .before .before .before .before .before .before .before .before .before .before .before .before .lat-of .ensures) (c .before .before .before .before .before .before .before .before .before .before .before .before .if1 .left) (c .before .before .before .before .before .before .before .before .before .before .resolve .ensures .0 .0) (c .before .before .before .before .before .before .before .before .before .before .before .before .before .before .before .before .before .before .before .pre .4) (c .before .before .before .before .before .before .if2 .left) (c .before .before .before .before .if3 .left)) (c .before .before .push3 .ensures) (c .before .before .before .before .before .before .before .before .before .before .before .before .before .before .before .before .before .before .before .pre .0) in
     (r .0, (r .1, c .before .before .before .before .before .before .before .before .before .before .resolve .ensures .1 .others))
 
 pub warn-lon-spec : {M : Type 1} → statement M

@@ -20,7 +20,8 @@ returns : tie.Need-returns
 returns c = (features-told _ _ (c .before .before .before .before .before .before .before .warn-features .ensures .0) (only-features (c .before .before .before .before .before .before .before .before .before .before .before .before .before .before .pre .3) (not-true _ (c .if1 .taken)) 0), c .before .before .before .before .before .before .before .warn-features .ensures .1 .0)
 
 warn-variables-requires : tie.Need-warn-variables-requires
-warn-variables-requires c κs = let f = c .before .before .before .before .before .before .before .before .before .warn-features .ensures .1 in
+warn-variables-requires c κs =
+    let f = c .before .before .before .before .before .before .before .before .before .warn-features .ensures .1 in
     let pre = c .before .before .before .before .before .before .before .before .before .before .before .before .before .before .before .before .pre in
     (pre .0, f .0, f .1, variables-rising _ (pre .1), pre .3 .labels, pre .3 .vars, pre .4, rw (f .1, take-length) (f .2))
 

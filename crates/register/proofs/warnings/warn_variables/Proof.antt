@@ -44,7 +44,8 @@ turn c =
     }
 
 loop-holds : tie.Need-loop-holds Inv-loop μ-loop
-loop-holds c = let pre = c .before .before .before .before .pre in
+loop-holds c =
+    let pre = c .before .before .before .before .pre in
     (telling _ _ (pre .1) (pre .5) (pre .3), record { marked = pre .7; kept = refl })
 
 next-variable-requires : tie.Need-next-variable-requires Inv-loop μ-loop
@@ -84,7 +85,8 @@ cast-warn-lon : tie.Need-cast-warn-lon Inv-loop μ-loop
 cast-warn-lon c = omega (arith, turn (c .before .before .before) .within, c .before .before .before .before .before .before .before .before .before .loop .inv .0 .short, c .before .before .before .before .before .before .before .before .before .before .before .before .before .before .pre .0)
 
 warn-lon-requires : tie.Need-warn-lon-requires Inv-loop μ-loop
-warn-lon-requires c κs = let t = turn (c .before .before .before) in
+warn-lon-requires c κs =
+    let t = turn (c .before .before .before) in
     let h = c .before .before .if2 .taken in
     let pre = c .before .before .before .before .before .before .before .before .before .before .before .before .before .before .pre in
     (c .before .before .before .before .before .before .before .before .before .loop .inv .0 .fits, omega (arith, long t h, t .within .name), suffix t h, run t h, pre .2, pre .4, pre .6, c .before .before .before .before .before .before .before .before .before .loop .inv .1 .marked)
