@@ -10,8 +10,7 @@ use crate::writing::close_ring;
 use crate::writing::put_point;
 use budget::Budget;
 use budget::draw;
-use elementary::cos;
-use elementary::sin;
+use elementary::sin_cos;
 use elementary::to_radians;
 use float::max;
 use float::min;
@@ -35,7 +34,8 @@ fn ellipse_points(
     let mut k = 0usize;
     while k < n {
         let t = 2.0 * PI * (k as f64) / (n as f64);
-        let d = put_point(c[0] + rx * cos(t), c[1] + ry * sin(t), budget, work, next);
+        let v = sin_cos(t);
+        let d = put_point(c[0] + rx * v.cos, c[1] + ry * v.sin, budget, work, next);
         if !d.ok {
             return d;
         }
@@ -120,7 +120,8 @@ fn corner(
     let mut k = 0usize;
     while k <= per {
         let a = to_radians(start + 90.0 * (k as f64) / (per as f64));
-        let d = put_point(x + r * cos(a), y + r * sin(a), budget, work, next);
+        let v = sin_cos(a);
+        let d = put_point(x + r * v.cos, y + r * v.sin, budget, work, next);
         if !d.ok {
             return d;
         }

@@ -1,5 +1,6 @@
 -- What the functions' proofs share.
 pub mod Horner
 pub mod Quarters
+pub mod Reduction
 pub mod Logarithm
 pub mod Powers

@@ -245,13 +245,30 @@ pub fn cos(t: f64) -> f64
     cosine_at(p.q, p.u)
 }
 
-pub fn tan(t: f64) -> f64
-    ensures { λ r. ⌜ r ≡ tanOf t ⌝ }
+pub struct SinCos {
+    pub sin: f64,
+    pub cos: f64,
+}
+
+// Both, by one reduction.
+pub fn sin_cos(t: f64) -> SinCos
+    ensures { λ r. ⌜ (r .sin ≡ sinOf t) × (r .cos ≡ cosOf t) ⌝ }
 {
     let p = reduce(t);
     let v = sine_at(p.q, p.u);
     let c = cosine_at(p.q, p.u);
-    if t < 0.0 { -v / c } else { v / c }
+    if t < 0.0 {
+        SinCos { sin: -v, cos: c }
+    } else {
+        SinCos { sin: v, cos: c }
+    }
+}
+
+pub fn tan(t: f64) -> f64
+    ensures { λ r. ⌜ r ≡ tanOf t ⌝ }
+{
+    let v = sin_cos(t);
+    v.sin / v.cos
 }
 
 // The logarithm of m * 2^e.

@@ -29,14 +29,11 @@ int-to-float-to-radians-2 c = in-float _ (omega arith)
 to-radians-requires : tie.Need-to-radians-requires Inv-loop μ-loop
 to-radians-requires c κs = search needs
 
-cos-requires : tie.Need-cos-requires Inv-loop μ-loop
-cos-requires c κs = search needs
-
-sin-requires : tie.Need-sin-requires Inv-loop μ-loop
-sin-requires c κs = search needs
+sin-cos-requires : tie.Need-sin-cos-requires Inv-loop μ-loop
+sin-cos-requires c κs = search needs
 
 put-point-requires : tie.Need-put-point-requires Inv-loop μ-loop
-put-point-requires c κs = next-in (c .before .before .before .before .before .before .before .loop .inv .1) refl
+put-point-requires c κs = next-in (c .before .before .before .before .before .before .before .before .loop .inv .1) refl
 
 same-length : tie.Need-same-length Inv-loop μ-loop
 same-length c = search needs
@@ -44,8 +41,9 @@ same-length c = search needs
 returns : tie.Need-returns Inv-loop μ-loop
 unfolding cornerPoint
 returns c =
-    let one = rw (c .before .before .before .before .before .before .before .cos .ensures, c .before .before .before .before .before .before .sin .ensures, c .before .before .before .before .before .before .before .before .to-radians .ensures) at (c .before .before .before .before .put-point .ensures) in
-    round-short _ (c .before .before .before .before .before .before .before .before .before .before .before .before .loop .k) (c .before .before .before .before .before .before .before .before .before .before .before .before .loop .inv .1) one (suc (c .before .before .before .before .before .before .before .before .before .before .before .before .before .before .args .per)) (omega arith) (not-true _ (c .if1 .taken))
+    let v = c .before .before .before .before .before .before .before .before .sin-cos .ensures in
+    let one = rw (v .1, v .0, c .before .before .before .before .before .before .before .before .before .to-radians .ensures) at (c .before .before .before .before .put-point .ensures) in
+    round-short _ (c .before .before .before .before .before .before .before .before .before .before .before .before .before .loop .k) (c .before .before .before .before .before .before .before .before .before .before .before .before .before .loop .inv .1) one (suc (c .before .before .before .before .before .before .before .before .before .before .before .before .before .before .before .args .per)) (omega arith) (not-true _ (c .if1 .taken))
 
 add-k : tie.Need-add-k Inv-loop μ-loop
 add-k c = search needs
@@ -56,8 +54,9 @@ loop-less c = omega arith
 loop-again : tie.Need-loop-again Inv-loop μ-loop
 unfolding cornerPoint
 loop-again c =
-    let one = rw (c .before .before .before .before .before .before .before .cos .ensures, c .before .before .before .before .before .before .sin .ensures, c .before .before .before .before .before .before .before .before .to-radians .ensures) at (c .before .before .before .before .put-point .ensures) in
-    (omega arith, round-next _ (c .before .before .before .before .before .before .before .before .before .before .before .before .loop .k) (c .before .before .before .before .before .before .before .before .before .before .before .before .loop .inv .1) one (not-false _ (c .if1 .left)))
+    let v = c .before .before .before .before .before .before .before .before .sin-cos .ensures in
+    let one = rw (v .1, v .0, c .before .before .before .before .before .before .before .before .before .to-radians .ensures) at (c .before .before .before .before .put-point .ensures) in
+    (omega arith, round-next _ (c .before .before .before .before .before .before .before .before .before .before .before .before .before .loop .k) (c .before .before .before .before .before .before .before .before .before .before .before .before .before .loop .inv .1) one (not-false _ (c .if1 .left)))
 
 same-length-2 : tie.Need-same-length-2 Inv-loop μ-loop
 same-length-2 c = search needs
@@ -77,8 +76,7 @@ corner-spec =
     int-to-float-to-radians
     int-to-float-to-radians-2
     to-radians-requires
-    cos-requires
-    sin-requires
+    sin-cos-requires
     put-point-requires
     same-length
     returns

@@ -27,20 +27,17 @@ int-to-float-t c = in-float _ (omega arith)
 int-to-float-t-2 : tie.Need-int-to-float-t-2 Inv-loop μ-loop
 int-to-float-t-2 c = in-float _ (c .before .before .before .before .before .pre .0)
 
+sin-cos-requires : tie.Need-sin-cos-requires Inv-loop μ-loop
+sin-cos-requires c κs = search needs
+
 array-read-put-point : tie.Need-array-read-put-point Inv-loop μ-loop
 array-read-put-point c = search needs
-
-cos-requires : tie.Need-cos-requires Inv-loop μ-loop
-cos-requires c κs = search needs
 
 array-read-put-point-2 : tie.Need-array-read-put-point-2 Inv-loop μ-loop
 array-read-put-point-2 c = search needs
 
-sin-requires : tie.Need-sin-requires Inv-loop μ-loop
-sin-requires c κs = search needs
-
 put-point-requires : tie.Need-put-point-requires Inv-loop μ-loop
-put-point-requires c κs = next-in (c .before .before .before .before .before .before .loop .inv .1) refl
+put-point-requires c κs = next-in (c .before .before .before .before .before .before .before .loop .inv .1) refl
 
 same-length : tie.Need-same-length Inv-loop μ-loop
 same-length c = search needs
@@ -48,8 +45,9 @@ same-length c = search needs
 returns : tie.Need-returns Inv-loop μ-loop
 unfolding ellipsePoint
 returns c =
-    let one = rw (c .before .before .before .before .before .before .before .cos .ensures, c .before .before .before .before .before .before .sin .ensures) at (c .before .before .before .before .put-point .ensures) in
-    round-short _ (c .before .before .before .before .before .before .before .before .before .before .before .loop .k) (c .before .before .before .before .before .before .before .before .before .before .before .loop .inv .1) one (c .before .before .before .before .before .before .before .before .before .before .before .before .before .args .n) (omega arith) (not-true _ (c .if1 .taken))
+    let v = c .before .before .before .before .before .before .before .before .sin-cos .ensures in
+    let one = rw (v .1, v .0) at (c .before .before .before .before .put-point .ensures) in
+    round-short _ (c .before .before .before .before .before .before .before .before .before .before .before .before .loop .k) (c .before .before .before .before .before .before .before .before .before .before .before .before .loop .inv .1) one (c .before .before .before .before .before .before .before .before .before .before .before .before .before .before .args .n) (omega arith) (not-true _ (c .if1 .taken))
 
 add-k : tie.Need-add-k Inv-loop μ-loop
 add-k c = search needs
@@ -60,8 +58,9 @@ loop-less c = omega arith
 loop-again : tie.Need-loop-again Inv-loop μ-loop
 unfolding ellipsePoint
 loop-again c =
-    let one = rw (c .before .before .before .before .before .before .before .cos .ensures, c .before .before .before .before .before .before .sin .ensures) at (c .before .before .before .before .put-point .ensures) in
-    (omega arith, round-next _ (c .before .before .before .before .before .before .before .before .before .before .before .loop .k) (c .before .before .before .before .before .before .before .before .before .before .before .loop .inv .1) one (not-false _ (c .if1 .left)))
+    let v = c .before .before .before .before .before .before .before .before .sin-cos .ensures in
+    let one = rw (v .1, v .0) at (c .before .before .before .before .put-point .ensures) in
+    (omega arith, round-next _ (c .before .before .before .before .before .before .before .before .before .before .before .before .loop .k) (c .before .before .before .before .before .before .before .before .before .before .before .before .loop .inv .1) one (not-false _ (c .if1 .left)))
 
 same-length-2 : tie.Need-same-length-2 Inv-loop μ-loop
 same-length-2 c = search needs
@@ -80,10 +79,9 @@ ellipse-points-spec =
     loop-holds
     int-to-float-t
     int-to-float-t-2
+    sin-cos-requires
     array-read-put-point
-    cos-requires
     array-read-put-point-2
-    sin-requires
     put-point-requires
     same-length
     returns

@@ -1,0 +1,24 @@
+-- Of a quadrant q and what is left in it, u, the sine and the cosine of t. Assumes nothing.
+use mathlib.Core.Path.{_≡_, ap, _∙_}
+use mathlib.Core.Bool.{true, false}
+use lib.Ieee.{Float, lt, neg}
+use Rattle.float.specs.Laws.Tests.{taken, left}
+use Rattle.elementary.specs.Constants as K
+use Rattle.elementary.specs.Functions.{turnOf, quadrantOf, restOf, sineAt, cosineAt, sinOf, cosOf}
+
+module _ (t q u v : Float) (p : (q ≡ quadrantOf (turnOf t)) × (u ≡ restOf (turnOf t))) where
+  parts : (f : Float → Float → Float) → v ≡ f q u → v ≡ f (quadrantOf (turnOf t)) (restOf (turnOf t))
+  parts f e = e ∙ ap (λ (a : Float). f a u) (p .0) ∙ ap (f (quadrantOf (turnOf t))) (p .1)
+
+  pub cosine-is : v ≡ cosineAt q u → v ≡ cosOf t
+  unfolding cosOf
+  cosine-is e = parts cosineAt e
+
+  -- the sine, by the sign of t
+  pub sine-below : v ≡ sineAt q u → lt t K.zero ≡ true → neg v ≡ sinOf t
+  unfolding sinOf
+  sine-below e h = ap neg (parts sineAt e) ∙ taken _ _ _ h
+
+  pub sine-above : v ≡ sineAt q u → lt t K.zero ≡ false → v ≡ sinOf t
+  unfolding sinOf
+  sine-above e h = parts sineAt e ∙ left _ _ _ h
