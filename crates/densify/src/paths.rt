@@ -1,9 +1,8 @@
 // The points of a path, in the order in which it is drawn.
-ghost use mathlib.Core.Path.{_≡_};
 ghost use Prim.Native.Nat.{_+_, _*_, _≤_};
 ghost use lib.ListN.{length};
 ghost use Rattle.stream.specs.Payload.{payload, room};
-ghost use Rattle.scene.specs.Scene.{Point, pointsAt, cubicsAt};
+ghost use Rattle.scene.specs.Scene.{pointsAt, cubicsAt};
 ghost use Rattle.scene.specs.Answers.{formBy};
 ghost use Rattle.densify.specs.Densify.{plain, cubicsOf, formPoints, pathPointsOf};
 ghost use Rattle.densify.specs.Written.{Written, drawnBy, PathFits};

@@ -1,9 +1,7 @@
 // Points written into a lent slice, two floats each.
-ghost use mathlib.Core.Path.{_≡_};
 ghost use Prim.Native.Nat.{_≤_};
 ghost use lib.ListN.{length};
 ghost use mathlib.Core.List.{[], _∷_};
-ghost use Rattle.scene.specs.Scene.{Point};
 ghost use Rattle.densify.specs.Densify.{plain, leafOf};
 ghost use Rattle.densify.specs.Written.{pointIn, closingIn, Written};
 use budget::Budget;

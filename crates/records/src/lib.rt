@@ -18,4 +18,3 @@ pub use search::Hit;
 pub use search::find;
 pub use search::record_at;
 pub use search::seek;
-pub use search::skip_to;

@@ -1,7 +1,7 @@
 // The next record that a question asks for.
 ghost use mathlib.Core.Path.{_≡_};
 ghost use mathlib.Core.Bool.{true, false, _||_};
-ghost use Prim.Native.Nat.{ℕ, _≤_};
+ghost use Prim.Native.Nat.{_≤_};
 ghost use lib.Dec.{eqb};
 ghost use lib.ListN.{getD, drop};
 ghost use Rattle.stream.specs.Payload.{payload};
@@ -194,33 +194,6 @@ pub fn seek(s: &[u8], p: usize, tag: u8, key: u8) -> Hit
                     q = q + k;
                 }
             },
-        }
-    }
-}
-
-// The first position from p on whose record has this tag or a greater one, or where no record stands.
-pub fn skip_to(s: &[u8], p: usize, tag: u8) -> usize
-    ensures { λ r. ⌜ ((t k : ℕ) → tag ≤ t → t ≤ 6 → recordsAt (payload (now (s .entry))) p t k ≡ recordsAt (payload (now (s .entry))) r t k) ⌝ }
-{
-    let mut q = p;
-    loop {
-        let x = tag_at(s, q);
-        if x == 0 {
-            return q;
-        }
-        if x >= tag {
-            return q;
-        }
-        match record_at(s, q) {
-            Step::Bad => {
-                return q;
-            }
-            Step::End => {
-                return q;
-            }
-            Step::Got(_, k) => {
-                q = q + k;
-            }
         }
     }
 }

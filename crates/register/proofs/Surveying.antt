@@ -1,23 +1,25 @@
 -- The walk that surveys the variables: what is known at a position, and one turn.
 use mathlib.Core.Path.{_≡_, refl, sym, ap, _∙_}
-use mathlib.Core.Bool.{Bool, true, false, not, _||_}
+use mathlib.Core.Bool.{Bool, true, false, not, cond}
 use mathlib.Core.List.{List, [], _∷_, map}
-use Prim.Native.Nat.{ℕ, suc}
+use Prim.Native.Nat.{ℕ, suc, _+_, _≤_, _<_}
 use native.Mathlib.Omega.{arith}
+use lib.ListN.{length, length-append}
 use lib.Ieee.{Float}
 use borrow.Author.Tests.{not-true, not-false}
 use Rattle.records.specs.Order.{part}
 use Rattle.records.specs.Hits.{Later}
 use Rattle.scene.specs.declared.numbers.Value.{Value}
+use Rattle.scene.specs.declared.sections.Feature.{Feature}
 use Rattle.scene.specs.declared.sections.Variable.{Variable}
-use Rattle.scene.specs.Scene.{Maybe, none, some, given, Scene, NamedValue, sceneOf, placeAt, itemAt}
+use Rattle.scene.specs.Scene.{Maybe, none, some, given, Scene, NamedFeature, NamedValue, sceneOf, variableAt, placeAt, itemAt}
 use Rattle.scene.specs.Labels.{same, pick, variableOf, orElse}
-use Rattle.scene.specs.Answers.{valueBy, featuresAt, variablesAt, variablesBy, Labels, Variables}
+use Rattle.scene.specs.Answers.{valueBy, featuresAt, featuresBy, variablesAt, variablesBy, Labels, Variables}
 use Rattle.scene.specs.Laws.Answers.{scene-lists}
 use Rattle.register.specs.declared.survey.Geo.{Geo}
 use Rattle.register.specs.declared.survey.Survey.{Survey}
-use Rattle.register.specs.Register.{f0, var, Event, isLon, onto, variableEvents, featureEvents, events}
-use Rattle.register.specs.Survey.{Each, Says, keptOf, notedOf, anyLon, Surveyed}
+use Rattle.register.specs.Register.{f0, var, Event, control, warn, isLon, onto, variableEvents, featureEvents, events, controlsIn, warningsIn, controlsOf}
+use Rattle.register.specs.Survey.{Each, Says, keptOf, notedOf, lonsIn, Numbered, Surveyed}
 
 -- ---- a value looked for among all of them: it is found, or stands in the rest
 abbrev Ahead : List NamedValue → List NamedValue → List ℕ → Value → Type 0
@@ -71,11 +73,40 @@ module _ (all : List NamedValue) where
 pub kept-new : (old : Value) {b c : Bool} (x : Float) → old .some ≡ false → c ≡ b → _≡_ {A = Value} (record { some = c; value = x }) (pick (old .some) old (record { some = b; value = x }))
 kept-new old x h e = rw (h, e) refl
 
--- ---- the walk: so much is known at q
-pub record Surveying (l : List ℕ) (geo : Geo) (n : ℕ) (any : Bool) (q : ℕ) : Type 0 where
+-- ---- the walk over the features
+pub record Numbering (l : List ℕ) (n q : ℕ) : Type 0 where
+  pub count : n + length (featuresAt l q) ≡ length (featuresAt l 0)
+  pub short : n ≤ q
+  pub behind : Later l 3 0 q
+
+pub numbering : (l : List ℕ) → Numbering l 0 0
+numbering l = record { count = omega arith; short = omega arith; behind = λ t k h m. refl }
+
+module _ {l : List ℕ} {n q : ℕ} (d : Numbering l n q) (f : Feature) (e : featuresAt l q ≡ featuresBy l f) where
+  pub numbered : not (f .some) ≡ true → Numbered l n q
+  numbered s =
+      let h : featuresAt l q ≡ [] = rw (e, not-true (f .some) s) refl in
+      record {
+        count = omega (arith, d, ap length h);
+        short = d .short;
+        behind = record {
+          all = ap (map variableAt) (d .behind 4 0 (omega arith) (omega arith));
+          labels = record { places = ap (map placeAt) (d .behind 5 0 (omega arith) (omega arith)); items = ap (map itemAt) (d .behind 6 0 (omega arith) (omega arith)) };
+        };
+      }
+
+  pub one-numbered : Later l 3 q (f .next) → not (f .some) ≡ false → q < f .next → Numbering l (n + 1) (f .next)
+  one-numbered a s more =
+      let h : featuresAt l q ≡ record { name = part l (f .at) (f .len); lon = f .lon; lat = f .lat } ∷ featuresAt l (f .next) = rw (e, not-false (f .some) s) refl in
+      record { count = omega (arith, d, ap length h); short = omega (arith, d); behind = λ t k i j. d .behind t k i j ∙ a t k i j }
+
+-- ---- the walk over the variables: so much is known at q
+pub record Surveying (l : List ℕ) (geo : Geo) (n m q : ℕ) : Type 0 where
   pub said : Each (Ahead (variablesAt l 0) (variablesAt l q)) geo
-  pub names : n ≡ 0 → (featuresAt l 0 ≡ []) × (any ≡ false)
-  pub lons : any ≡ false → anyLon (variablesAt l 0) ≡ anyLon (variablesAt l q)
+  pub names : n + lonsIn (variablesAt l q) ≡ length (featuresAt l 0) + lonsIn (variablesAt l 0)
+  pub lons : m + lonsIn (variablesAt l q) ≡ lonsIn (variablesAt l 0)
+  pub fewer : m ≤ n
+  pub short : n ≤ q
   pub labels : Labels l q
 
 abbrev nothing-said : Value
@@ -84,70 +115,104 @@ nothing-said = record { some = false; value = f0 }
 abbrev unsaid : Geo
 unsaid = record { frame = nothing-said; px = nothing-said; scale = nothing-said; bearing = nothing-said; lon = nothing-said; lat = nothing-said }
 
-pub surveying : (l : List ℕ) {names q : ℕ} → Variables l q → (names ≡ 0 → featuresAt l 0 ≡ []) → Surveying l unsaid names false q
-surveying l {q = q} v h =
-    let from : (name : List ℕ) → variableOf name (variablesAt l 0) ≡ variableOf name (variablesAt l q) = λ name. ap (variableOf name) (v .all) in
+pub surveying : (l : List ℕ) {n q : ℕ} → Numbered l n q → Surveying l unsaid n 0 q
+surveying l {q = q} v =
+    let all = v .behind .all in
+    let from : (name : List ℕ) → variableOf name (variablesAt l 0) ≡ variableOf name (variablesAt l q) = λ name. ap (variableOf name) all in
     record {
       said = record { frame = from _; px = from _; scale = from _; bearing = from _; lon = from _; lat = from _ };
-      names = λ z. (h z, refl);
-      lons = λ z. ap anyLon (v .all);
-      labels = v .labels;
+      names = omega (arith, v .count, ap lonsIn all);
+      lons = omega (arith, ap lonsIn all);
+      fewer = omega arith;
+      short = v .short;
+      labels = v .behind .labels;
     }
 
-module _ {l : List ℕ} {geo : Geo} {names : ℕ} {lons : Bool} {q : ℕ} (d : Surveying l geo names lons q) (v : Variable) (e : variablesAt l q ≡ variablesBy l v) (a : Later l 4 q (v .next)) where
+module _ {l : List ℕ} {geo : Geo} {n m q : ℕ} (d : Surveying l geo n m q) (v : Variable) (e : variablesAt l q ≡ variablesBy l v) (a : Later l 4 q (v .next)) where
   labels-on : Labels l (v .next)
   labels-on = record { places = d .labels .places ∙ ap (map placeAt) (a 5 0 (omega arith) (omega arith)); items = d .labels .items ∙ ap (map itemAt) (a 6 0 (omega arith) (omega arith)) }
 
-  pub surveyed : {vars : ℕ} → Variables l vars → not (v .some) ≡ true → Surveyed l (record { geo = geo; names = names; lons = lons; vars = vars; labels = v .next })
-  unfolding anyLon
-  surveyed vs n =
-      let h : variablesAt l q ≡ [] = rw (e, not-true (v .some) n) refl in
+  pub surveyed : {vars : ℕ} → Variables l vars → not (v .some) ≡ true → Surveyed l (record { geo = geo; names = n; lons = m; vars = vars; labels = v .next })
+  unfolding lonsIn
+  surveyed vs s =
+      let h : variablesAt l q ≡ [] = rw (e, not-true (v .some) s) refl in
+      let z : lonsIn (variablesAt l q) ≡ 0 = rw h refl in
       record {
         says = each-last (variablesAt l 0) (rw h at (d .said));
-        names = d .names;
-        lons = λ z. d .lons z ∙ rw h refl;
+        names = omega (arith, d .names);
+        lons = omega (arith, d .lons);
         vars = vs;
         labels = labels-on;
       }
 
-  module _ (n : not (v .some) ≡ false) {geo′ : Geo} (g : geo′ ≡ notedOf (part l (v .at) (v .len)) (v .value) geo) {t : Bool} (s : t ≡ isLon (part l (v .at) (v .len))) where
+  module _ (s : not (v .some) ≡ false) {geo′ : Geo} (g : geo′ ≡ notedOf (part l (v .at) (v .len)) (v .value) geo) {t : Bool} (b : t ≡ isLon (part l (v .at) (v .len))) (more : q < v .next) where
     here : variablesAt l q ≡ record { name = part l (v .at) (v .len); value = v .value } ∷ variablesAt l (v .next)
-    here = rw (e, not-false (v .some) n) refl
+    here = rw (e, not-false (v .some) s) refl
 
     said-on : Each (Ahead (variablesAt l 0) (variablesAt l (v .next))) geo′
     said-on = rw g (each-kept (variablesAt l 0) (variablesAt l (v .next)) (part l (v .at) (v .len)) (v .value) (rw here at (d .said)))
 
-    pub lon-surveyed : {names′ : ℕ} → (names′ ≡ 0 → ⊥) → Surveying l geo′ names′ true (v .next)
-    lon-surveyed m = record { said = said-on; names = λ z. absurd (m z); lons = λ z. let o : _≡_ {A = ℕ} 0 1 = cc in absurd (omega arith); labels = labels-on }
+    pub lon-surveyed : t ≡ true → Surveying l geo′ (n + 1) (m + 1) (v .next)
+    unfolding lonsIn
+    lon-surveyed h =
+        let z : lonsIn (variablesAt l q) ≡ suc (lonsIn (variablesAt l (v .next))) = rw (here, ← b, h) refl in
+        record { said = said-on; names = omega (arith, d .names); lons = omega (arith, d .lons); fewer = omega (arith, d .fewer); short = omega (arith, d .short); labels = labels-on }
 
-    pub other-surveyed : t ≡ false → Surveying l geo′ names lons (v .next)
-    unfolding anyLon
-    other-surveyed f = record { said = said-on; names = d .names; lons = λ z. d .lons z ∙ rw (here, ← s, f) refl; labels = labels-on }
+    pub other-surveyed : t ≡ false → Surveying l geo′ n m (v .next)
+    unfolding lonsIn
+    other-surveyed h =
+        let z : lonsIn (variablesAt l q) ≡ lonsIn (variablesAt l (v .next)) = rw (here, ← b, h) refl in
+        record { said = said-on; names = omega (arith, d .names); lons = omega (arith, d .lons); fewer = d .fewer; short = omega (arith, d .short); labels = labels-on }
 
--- ---- no names: no events
-pub no-lons : (sc : Scene) (i : ℕ) (vs : List NamedValue) → anyLon vs ≡ false → variableEvents sc i vs ≡ []
-unfolding anyLon variableEvents
-no-lons sc i [] h = refl
-no-lons sc i (v ∷ vs) h = by (isLon (v .name)) (anyLon vs) _ _ h (no-lons sc (suc i) vs)
+-- ---- an event for each name
+lon-events : (sc : Scene) (i : ℕ) (vs : List NamedValue) → length (variableEvents sc i vs) ≡ lonsIn vs
+unfolding lonsIn variableEvents
+lon-events sc i [] = refl
+lon-events sc i (v ∷ vs) = by (isLon (v .name)) _ _ (lon-events sc (suc i) vs)
   where
-    by : (a b : Bool) (x : Event) (xs : List Event) → (a || b) ≡ false → (b ≡ false → xs ≡ []) → onto a x xs ≡ []
-    by true b x xs h f = let z : _≡_ {A = ℕ} 0 1 = cc in absurd (omega arith)
-    by false b x xs h f = f h
+    by : (b : Bool) (x : Event) (xs : List Event) {k : ℕ} → length xs ≡ k → length (onto b x xs) ≡ cond b (suc k) k
+    by true x xs h = ap suc h
+    by false x xs h = h
 
-no-events : (sc : Scene) → featureEvents sc 0 (sc .features) ≡ [] → variableEvents sc 0 (sc .variables) ≡ [] → events sc ≡ []
+feature-events : (sc : Scene) (i : ℕ) (fs : List NamedFeature) → length (featureEvents sc i fs) ≡ length fs
+unfolding featureEvents
+feature-events sc i [] = refl
+feature-events sc i (f ∷ fs) = ap suc (feature-events sc (suc i) fs)
+
+all-events : (sc : Scene) → length (events sc) ≡ length (sc .features) + lonsIn (sc .variables)
 unfolding events
-no-events sc e f = rw (e, f) refl
+all-events sc = omega (arith, length-append (featureEvents sc 0 (sc .features)) (variableEvents sc 0 (sc .variables)), feature-events sc 0 (sc .features), lon-events sc 0 (sc .variables))
+
+none-left : {A : Type 0} (xs : List A) → length xs ≡ 0 → xs ≡ []
+none-left [] h = refl
+none-left (x ∷ xs) h = absurd (omega arith)
+
+-- where each event is a control point, none is a warning
+controls-fit : (es : List Event) → length (controlsIn es) ≤ length es
+unfolding controlsIn
+controls-fit [] = omega arith
+controls-fit (control c ∷ es) = omega (arith, controls-fit es)
+controls-fit (warn w ∷ es) = omega (arith, controls-fit es)
+
+all-controls : (es : List Event) → length (controlsIn es) ≡ length es → warningsIn es ≡ []
+unfolding controlsIn warningsIn
+all-controls [] h = refl
+all-controls (control c ∷ es) h = all-controls es (omega arith)
+all-controls (warn w ∷ es) h = absurd (omega (arith, controls-fit es))
 
 module _ {l : List ℕ} {v : Survey} (s : Surveyed l v) where
-  pub only-features : v .lons ≡ false → (i : ℕ) → variableEvents (sceneOf l) i (variablesAt l 0) ≡ []
-  only-features h i = no-lons (sceneOf l) i (variablesAt l 0) (s .lons h)
+  names-are : v .names ≡ length (events (sceneOf l))
+  names-are = omega (arith, s .names, all-events (sceneOf l), ap length (scene-lists l .0), ap lonsIn (scene-lists l .1))
+
+  pub only-features : v .lons ≡ 0 → (i : ℕ) → variableEvents (sceneOf l) i (variablesAt l 0) ≡ []
+  only-features h i = none-left _ (omega (arith, s .lons, lon-events (sceneOf l) i (variablesAt l 0)))
 
   pub no-names : v .names ≡ 0 → events (sceneOf l) ≡ []
-  unfolding featureEvents
-  no-names h =
-      no-events (sceneOf l)
-      (ap (featureEvents (sceneOf l) 0) (scene-lists l .0 ∙ s .names h .0))
-      (ap (variableEvents (sceneOf l) 0) (scene-lists l .1) ∙ only-features (s .names h .1) 0)
+  no-names h = none-left _ (omega (arith, names-are))
+
+  pub none-warned : {n : ℕ} → n ≡ length (controlsOf (sceneOf l)) → v .names ≡ n → warningsIn (events (sceneOf l)) ≡ []
+  unfolding controlsOf
+  none-warned e h = all-controls (events (sceneOf l)) (omega (arith, names-are))
 
 -- ---- what a survey says of the scene's variables
 pub survey-says : (l : List ℕ) (x : Value) (name : List ℕ) → valueBy x ≡ variableOf name (variablesAt l 0) → valueBy x ≡ var (sceneOf l) name

@@ -1,8 +1,9 @@
 -- What one walk over the variables tells: the `geo_` ones, whether there are names of control points, and where variables and labels stand.
 use mathlib.Core.Path.{_≡_}
-use mathlib.Core.Bool.{Bool, false, _||_}
+use mathlib.Core.Bool.{cond}
 use mathlib.Core.List.{List, [], _∷_}
-use Prim.Native.Nat.{ℕ}
+use Prim.Native.Nat.{ℕ, suc, _+_, _≤_}
+use lib.ListN.{length}
 use lib.Ieee.{Float}
 use Rattle.scene.specs.declared.numbers.Value.{Value}
 use Rattle.scene.specs.Scene.{NamedValue}
@@ -40,14 +41,20 @@ notedOf called x g =
       lat = keptOf called x geoLat (g .lat);
     }
 
--- whether one of them is `<L>_lon`
-unfoldable pub anyLon : List NamedValue → Bool
-anyLon [] = false
-anyLon (v ∷ vs) = isLon (v .name) || anyLon vs
+-- how many of them are `<L>_lon`
+unfoldable pub lonsIn : List NamedValue → ℕ
+lonsIn [] = 0
+lonsIn (v ∷ vs) = cond (isLon (v .name)) (suc (lonsIn vs)) (lonsIn vs)
 
 pub record Surveyed (l : List ℕ) (v : Survey) : Type 0 where
   pub says : Says (variablesAt l 0) (v .geo)
-  pub names : v .names ≡ 0 → (featuresAt l 0 ≡ []) × (v .lons ≡ false)
-  pub lons : v .lons ≡ false → anyLon (variablesAt l 0) ≡ false
+  pub names : v .names ≡ length (featuresAt l 0) + lonsIn (variablesAt l 0)
+  pub lons : v .lons ≡ lonsIn (variablesAt l 0)
   pub vars : Variables l (v .vars)
   pub labels : Labels l (v .labels)
+
+-- the host features are counted, and what follows them stands from `end` on
+pub record Numbered (l : List ℕ) (n end : ℕ) : Type 0 where
+  pub count : n ≡ length (featuresAt l 0)
+  pub short : n ≤ end
+  pub behind : Variables l end

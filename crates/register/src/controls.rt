@@ -322,7 +322,7 @@ fn gather_names(s: &[u8], v: Survey, ix: &[u32], marks: &mut [u8]) -> Gathered
 {
     let f = gather_features(s, v.labels, ix, marks);
     let g = f.controls;
-    if !v.lons {
+    if v.lons == 0 {
         return g;
     }
     gather_variables(s, v.vars, v.labels, ix, marks, g, f.count)

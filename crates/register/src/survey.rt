@@ -1,15 +1,12 @@
 // What the `geo_` variables say and where things stand, in one walk over the variables.
 ghost use mathlib.Core.Path.{_≡_};
-ghost use mathlib.Core.List.{[]};
 ghost use Prim.Native.Nat.{_+_, _≤_};
 ghost use Rattle.stream.specs.Payload.{payload, room};
 ghost use Rattle.records.specs.Order.{part};
-ghost use Rattle.scene.specs.Answers.{featuresAt};
-ghost use Rattle.register.specs.Survey.{keptOf, notedOf, Surveyed};
+ghost use Rattle.register.specs.Survey.{keptOf, notedOf, Numbered, Surveyed};
 use crate::controls::is_lon;
 use scene::Value;
 use scene::Variable;
-use scene::first_variable;
 use scene::is_named;
 use scene::next_name;
 use scene::next_variable;
@@ -26,10 +23,9 @@ pub struct Geo {
 
 pub struct Survey {
     pub geo: Geo,
-    // how many names there are to be looked up, of host features and `<L>_lon` variables, 2 for more: it decides whether an index is made, not what is found
+    // how many names there are to be looked up, of host features and `<L>_lon` variables, and how many of these
     pub names: usize,
-    // whether any `<L>_lon` variable is among them
-    pub lons: bool,
+    pub lons: usize,
     // where variables are asked for, and where labels are
     pub vars: usize,
     pub labels: usize,
@@ -64,29 +60,25 @@ fn note(s: &[u8], g: Geo, v: Variable) -> Geo
     }
 }
 
-// How many host features there are, 2 for more.
-fn few_features(s: &[u8]) -> usize
-    ensures { λ r. ⌜ (r ≡ 0 → featuresAt (payload (now (s .entry))) 0 ≡ []) ⌝ }
-{
-    let f = next_name(s, 0);
-    if !f.some {
-        return 0;
-    }
-    let second = next_name(s, f.next);
-    if second.some {
-        return 2;
-    }
-    1
+struct FeatureCount {
+    count: usize,
+    // where variables are asked for: behind the host features
+    end: usize,
 }
 
-// One name more, 2 for more.
-fn one_more(n: usize) -> usize
-    ensures { λ r. ⌜ (r ≡ 0 → ⊥) ⌝ }
+fn count_features(s: &[u8]) -> FeatureCount
+    ensures { λ r. ⌜ Numbered (payload (now (s .entry))) (r .count) (r .end) ⌝ }
 {
-    if n < 1 {
-        return 1;
+    let mut n = 0usize;
+    let mut q = 0usize;
+    loop {
+        let f = next_name(s, q);
+        if !f.some {
+            return FeatureCount { count: n, end: q };
+        }
+        q = f.next;
+        n += 1;
     }
-    2
 }
 
 pub fn survey_variables(s: &[u8]) -> Survey
@@ -104,9 +96,10 @@ pub fn survey_variables(s: &[u8]) -> Survey
         lon: none,
         lat: none,
     };
-    let mut names = few_features(s);
-    let mut lons = false;
-    let vars = first_variable(s);
+    let f = count_features(s);
+    let vars = f.end;
+    let mut names = f.count;
+    let mut lons = 0usize;
     let mut q = vars;
     loop {
         let v = next_variable(s, q);
@@ -121,8 +114,8 @@ pub fn survey_variables(s: &[u8]) -> Survey
         }
         geo = note(s, geo, v);
         if is_lon(s, v.at, v.len) {
-            lons = true;
-            names = one_more(names);
+            names += 1;
+            lons += 1;
         }
         q = v.next;
     }

@@ -195,19 +195,19 @@ fn warn_names(
 {
     let f = warn_features(s, v.labels, ix, marks, out, w);
     let featured = f.warned;
-    if !v.lons {
+    if v.lons == 0 {
         return featured;
     }
     warn_variables(s, v.vars, v.labels, ix, marks, out, featured, f.count)
 }
 
-// The same, with an index where `gather` makes one.
-fn warn_controls(s: &[u8], v: Survey, out: &mut [u32], w: Warned) -> Warned
-    requires { ⌜ (room (now s) < 4294967296) × (laidOut (payload (now s)) ≡ true) × (w .used ≤ length (now out)) × Surveyed (payload (now s)) v ⌝ }
+// The same, with an index where `gather` makes one. Where each name has come to one of the n control points, no other look is taken.
+fn warn_controls(s: &[u8], v: Survey, out: &mut [u32], w: Warned, n: u32) -> Warned
+    requires { ⌜ (room (now s) < 4294967296) × (laidOut (payload (now s)) ≡ true) × (w .used ≤ length (now out)) × Surveyed (payload (now s)) v × (n ≡ length (controlsOf (sceneOf (payload (now s))))) ⌝ }
     ensures { λ r. ⌜ record { out = now (out .exit); said = r } ≡ allPushed (warningsIn (events (sceneOf (payload (now (s .entry)))))) (record { out = now (out .entry); said = w }) ⌝ }
     ensures { λ r. ⌜ r .used ≤ length (now (out .exit)) ⌝ }
 {
-    if v.names == 0 {
+    if v.names == n as usize {
         return w;
     }
     if v.names == 1 {
@@ -300,7 +300,7 @@ pub fn write_warnings(s: &[u8], v: Survey, out: &mut [u32], n: u32) -> Warned
 {
     let none = Warned { ok: true, used: 0 };
     let view = warn_view(s, v, out, none);
-    let all = warn_controls(s, v, out, view);
+    let all = warn_controls(s, v, out, view, n);
     let half = warn_half(s, v, out, all);
     warn_ignored(s, v, out, half, n)
 }

@@ -6,6 +6,5 @@ pub mod Found
 pub mod Indexing
 pub mod Reading
 pub mod Items
-pub mod Skipped
 pub mod Starts
 pub mod Folds

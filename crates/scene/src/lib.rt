@@ -32,7 +32,6 @@ pub use sections::Path;
 pub use sections::Place;
 pub use sections::Points;
 pub use sections::Variable;
-pub use sections::first_variable;
 pub use sections::next_feature;
 pub use sections::next_item;
 pub use sections::next_name;

@@ -6,7 +6,7 @@ ghost use Rattle.stream.specs.Payload.{payload, room};
 ghost use lib.ListN.{drop};
 ghost use Rattle.records.specs.Hits.{Later};
 ghost use Rattle.scene.specs.Scene.{itemAt};
-ghost use Rattle.scene.specs.Answers.{Within, PathWithin, featuresAt, featuresBy, featureBy, variablesAt, variablesBy, Variables, placesAt, placesBy, ItemStands, itemsAt, itemBy, itemsBy, pointsFrom, pointsBy, pathsFrom, pathsBy};
+ghost use Rattle.scene.specs.Answers.{Within, PathWithin, featuresAt, featuresBy, featureBy, variablesAt, variablesBy, placesAt, placesBy, ItemStands, itemsAt, itemBy, itemsBy, pointsFrom, pointsBy, pathsFrom, pathsBy};
 use crate::numbers::Spot;
 use crate::numbers::Value;
 use crate::numbers::has_bit;
@@ -107,14 +107,15 @@ pub struct Path {
 pub fn next_name(s: &[u8], p: usize) -> FeatureName
     ensures { λ r. ⌜ featuresAt (payload (now (s .entry))) p ≡ featuresBy (payload (now (s .entry))) (featureBy (payload (now (s .entry))) r) ⌝ }
     ensures { λ r. ⌜ (r .some ≡ true → Within (room (now (s .entry))) p (r .at) (r .len + 16) (r .next)) ⌝ }
+    ensures { λ r. ⌜ Later (payload (now (s .entry))) 3 p (r .next) ⌝ }
 {
-    let h = find(s, p, 3, 0);
+    let h = seek(s, p, 3, 0);
     if !h.some {
         return FeatureName {
             some: false,
             at: 0,
             len: 0,
-            next: h.next,
+            next: h.at,
         };
     }
     let at = h.at;
@@ -353,11 +354,4 @@ pub fn next_path(s: &[u8], p: usize, role: u8) -> Path
         count: short(s, 0, at + 4),
         next: h.next,
     }
-}
-
-// Where to ask for variables from: behind the options and host features, which are passed over once and not for each name.
-pub fn first_variable(s: &[u8]) -> usize
-    ensures { λ r. ⌜ Variables (payload (now (s .entry))) r ⌝ }
-{
-    records::skip_to(s, 0, 4)
 }

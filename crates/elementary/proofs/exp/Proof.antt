@@ -2,13 +2,13 @@ use borrow.Author.Needs.{needs}
 use mathlib.Core.Path.{_≡_, sym, ap, _∙_, subst}
 use mathlib.Core.Bool.{not}
 use lib.Dec.{T}
-use lib.Ieee.{Float, nan, binary64, neg, ne, isNan, sub, mul, div}
+use lib.Ieee.{Float, binary64, isNan, sub, mul, div}
 use lib.Ieee.Compare.{differs-from-itself}
 use Rattle.float.specs.Functions.{roundOf}
 use Rattle.float.specs.Laws.Tests.{yes, nan-test}
 use Rattle.elementary.specs.Constants as K
 use Rattle.elementary.specs.Series.{seriesOf, exponentialTable}
-use Rattle.elementary.specs.Functions.{heldOf, Small, twoTo, expAt, expOf}
+use Rattle.elementary.specs.Functions.{heldOf, Small, expAt, expOf}
 use Rattle.elementary.specs.Laws.Exponential.{exponent-small, exp-nan}
 use Rattle.elementary.proofs.exp.Statement.{statement}
 use Rattle.elementary.proofs.exp.Tie as tie

@@ -1,4 +1,3 @@
-use borrow.Author.Needs.{needs}
 use native.Mathlib.Omega.{arith}
 use Rattle.elementary.proofs.Powers.{casts, field-small, no-nan, two-to-read}
 use Rattle.elementary.proofs.two_to.Statement.{statement}

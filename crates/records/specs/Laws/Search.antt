@@ -55,7 +55,7 @@ entries-closed l p h = closing (drop p l) (rw (getD-drop, add-zero) h)
 
 -- ---- the byte at a position settles what a search finds there, if it is no tag or one that ends the search
 -- a record's tag is its first byte
-pub tag-stands : (l : List ℕ) (p : ℕ) {r : Record} {k : ℕ} → recordOf (drop p l) ≡ Got r k → getD l p 0 ≡ tagOf r
+tag-stands : (l : List ℕ) (p : ℕ) {r : Record} {k : ℕ} → recordOf (drop p l) ≡ Got r k → getD l p 0 ≡ tagOf r
 tag-stands l p e = rw (getD-drop, add-zero) at (stands (drop p l) e .tag)
 
 past-other : (t x : ℕ) → past t x ≡ true → x ≡ t → ⊥

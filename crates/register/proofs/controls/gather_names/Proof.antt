@@ -1,6 +1,5 @@
 use borrow.Author.Needs.{needs}
 use lib.Seq.{take-length}
-use borrow.Author.Tests.{not-true}
 use Rattle.scene.specs.Laws.Rising.{variables-rising}
 use Rattle.register.proofs.Surveying.{only-features}
 use Rattle.register.proofs.Gathering.{features-sized, features-alone, all-gathered}
@@ -14,7 +13,7 @@ same-length : tie.Need-same-length
 same-length c = search needs
 
 returns : tie.Need-returns
-returns c = features-alone _ (c .before .before .before .before .before .gather-features .ensures .0) (only-features (c .before .before .before .before .before .before .before .before .before .before .pre .1) (not-true _ (c .if1 .taken)) 0)
+returns c = features-alone _ (c .before .before .before .before .before .gather-features .ensures .0) (only-features (c .before .before .before .before .before .before .before .before .before .before .pre .1) (c .if1 .taken) 0)
 
 gather-variables-requires : tie.Need-gather-variables-requires
 gather-variables-requires c κs =

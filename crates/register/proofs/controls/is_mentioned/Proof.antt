@@ -32,7 +32,7 @@ returns c =
     sym (a .loop .inv ∙ mentioned-end _ _ (a .loop .q) (c .before .before .before .before .before .before .args .i - a .loop .k) (featureBy _ (c .before .before .next-name .result)) (c .before .before .next-name .ensures .0) (c .if1 .taken))
 
 same-name-requires : tie.Need-same-name-requires Inv-loop μ-loop
-same-name-requires c κs = (let w = c .before .before .next-name .ensures .1 (not-false _ (c .if1 .left)) in omega (arith, w), c .before .before .before .before .before .before .pre)
+same-name-requires c κs = (let w = c .before .before .next-name .ensures .1 .0 (not-false _ (c .if1 .left)) in omega (arith, w), c .before .before .before .before .before .before .pre)
 
 returns-2 : tie.Need-returns-2 Inv-loop μ-loop
 returns-2 c =

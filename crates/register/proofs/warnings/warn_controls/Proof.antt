@@ -2,15 +2,14 @@ use borrow.Author.Needs.{needs}
 use mathlib.Core.Path.{refl}
 use Rattle.stream.specs.Payload.{payload}
 use Rattle.scene.specs.Laws.Index.{blank-slots, no-index}
-use Rattle.register.specs.Register.{mentioned, warningsIn}
-use Rattle.register.proofs.Surveying.{no-names}
+use Rattle.register.specs.Register.{mentioned}
+use Rattle.register.proofs.Surveying.{none-warned}
 use Rattle.register.proofs.Pushing.{none-written}
 use Rattle.register.proofs.warnings.warn_controls.Statement.{statement}
 use Rattle.register.proofs.warnings.warn_controls.Tie as tie
 
 returns : tie.Need-returns
-unfolding warningsIn
-returns c = none-written _ _ _ (rw (no-names (c .before .before .before .before .pre .3) (c .if1 .taken)) refl) refl (c .before .before .before .before .pre .2)
+returns c = none-written _ _ _ (none-warned (c .before .before .before .before .pre .3) (c .before .before .before .before .pre .4) (c .if1 .taken)) refl (c .before .before .before .before .pre .2)
 
 slice-aggregate-warn-names : tie.Need-slice-aggregate-warn-names
 slice-aggregate-warn-names c = search needs

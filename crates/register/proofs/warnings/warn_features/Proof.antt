@@ -22,7 +22,7 @@ abbrev μ-loop : tie.MeasureT-loop
 
 within : (c : tie.After-next-name Inv-loop μ-loop) → not (c .next-name .result .some) ≡ false → Within (room (c .before .before .before .before .before .before .args .s .now)) (c .before .loop .q) (c .next-name .result .at) (c .next-name .result .len) (c .next-name .result .next)
 within c h =
-    let w = c .next-name .ensures .1 (not-false _ h) in
+    let w = c .next-name .ensures .1 .0 (not-false _ h) in
     record { name = omega (arith, w); more = w .more; fits = w .fits }
 
 loop-holds : tie.Need-loop-holds Inv-loop μ-loop
@@ -47,22 +47,22 @@ resolve-requires : tie.Need-resolve-requires Inv-loop μ-loop
 resolve-requires c κs = (within (c .before .before .before) (c .before .if1 .left) .name, c .before .before .before .before .before .before .before .before .before .pre .2, c .before .before .before .before .before .before .before .before .before .pre .3, c .before .before .before .before .loop .inv .1 .marked)
 
 cast-push : tie.Need-cast-push Inv-loop μ-loop
-cast-push c = omega (arith, c .before .before .before .before .before .before .before .before .before .next-name .ensures .1 (not-false _ (c .before .before .before .before .before .before .before .if1 .left)), c .before .before .before .before .before .before .before .before .before .before .loop .inv .0 .short, c .before .before .before .before .before .before .before .before .before .before .before .before .before .before .before .pre .0)
+cast-push c = omega (arith, c .before .before .before .before .before .before .before .before .before .next-name .ensures .1 .0 (not-false _ (c .before .before .before .before .before .before .before .if1 .left)), c .before .before .before .before .before .before .before .before .before .before .loop .inv .0 .short, c .before .before .before .before .before .before .before .before .before .before .before .before .before .before .before .pre .0)
 
 push-requires : tie.Need-push-requires Inv-loop μ-loop
 push-requires c κs = c .before .before .before .before .before .before .before .before .before .before .loop .inv .0 .fits
 
 add-i : tie.Need-add-i Inv-loop μ-loop
-add-i c = omega (arith, c .before .before .before .before .before .before .before .before .next-name .ensures .1 (not-false _ (c .before .before .before .before .before .before .if1 .left)), c .before .before .before .before .before .before .before .before .before .loop .inv .0 .short)
+add-i c = omega (arith, c .before .before .before .before .before .before .before .before .next-name .ensures .1 .0 (not-false _ (c .before .before .before .before .before .before .if1 .left)), c .before .before .before .before .before .before .before .before .before .loop .inv .0 .short)
 
 loop-less : tie.Need-loop-less Inv-loop μ-loop
-loop-less c = omega (arith, c .before .before .before .before .before .before .before .before .next-name .ensures .1 (not-false _ (c .before .before .before .before .before .before .if1 .left)))
+loop-less c = omega (arith, c .before .before .before .before .before .before .before .before .next-name .ensures .1 .0 (not-false _ (c .before .before .before .before .before .before .if1 .left)))
 
 loop-again : tie.Need-loop-again Inv-loop μ-loop
 loop-again c =
     let f = featureBy _ (c .before .before .before .before .before .before .before .before .next-name .result) in
     let e = c .before .before .before .before .before .before .before .before .next-name .ensures .0 in
-    (one-told (c .before .before .before .before .before .before .before .before .before .loop .inv .0) f e (c .before .before .before .before .before .before .if1 .left) (c .before .before .before .before .before .before .before .before .next-name .ensures .1 (not-false _ (c .before .before .before .before .before .before .if1 .left)) .more) (c .before .before .before .before .resolve .ensures .0 .0) (⊎-elim (λ w. inl (w .0 .taken, sheets (w .5) (w .6) ∙ w .2 .ensures)) (λ w. inr (w .0 .left, sheets (w .1) (w .2))) (c .if2 .came)), marks-on (c .before .before .before .before .before .before .before .before .before .loop .inv .1) f e (c .before .before .before .before .before .before .if1 .left) (c .before .before .before .before .resolve .ensures .1), search needs)
+    (one-told (c .before .before .before .before .before .before .before .before .before .loop .inv .0) f e (c .before .before .before .before .before .before .if1 .left) (c .before .before .before .before .before .before .before .before .next-name .ensures .1 .0 (not-false _ (c .before .before .before .before .before .before .if1 .left)) .more) (c .before .before .before .before .resolve .ensures .0 .0) (⊎-elim (λ w. inl (w .0 .taken, sheets (w .5) (w .6) ∙ w .2 .ensures)) (λ w. inr (w .0 .left, sheets (w .1) (w .2))) (c .if2 .came)), marks-on (c .before .before .before .before .before .before .before .before .before .loop .inv .1) f e (c .before .before .before .before .before .before .if1 .left) (c .before .before .before .before .resolve .ensures .1), search needs)
 
 pub warn-features-spec : {M : Type 1} → statement M
 warn-features-spec =

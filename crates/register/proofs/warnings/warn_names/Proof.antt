@@ -1,6 +1,5 @@
 use borrow.Author.Needs.{needs}
 use lib.Seq.{take-length}
-use borrow.Author.Tests.{not-true}
 use Rattle.scene.specs.Laws.Rising.{variables-rising}
 use Rattle.register.proofs.Surveying.{only-features}
 use Rattle.register.proofs.Telling.{features-told, names-told}
@@ -17,7 +16,7 @@ same-length-2 : tie.Need-same-length-2
 same-length-2 c = search needs
 
 returns : tie.Need-returns
-returns c = (features-told _ _ (c .before .before .before .before .before .before .before .warn-features .ensures .0) (only-features (c .before .before .before .before .before .before .before .before .before .before .before .before .before .before .pre .3) (not-true _ (c .if1 .taken)) 0), c .before .before .before .before .before .before .before .warn-features .ensures .1 .0)
+returns c = (features-told _ _ (c .before .before .before .before .before .before .before .warn-features .ensures .0) (only-features (c .before .before .before .before .before .before .before .before .before .before .before .before .before .before .pre .3) (c .if1 .taken) 0), c .before .before .before .before .before .before .before .warn-features .ensures .1 .0)
 
 warn-variables-requires : tie.Need-warn-variables-requires
 warn-variables-requires c κs =

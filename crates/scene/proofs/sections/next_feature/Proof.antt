@@ -10,7 +10,7 @@ use Rattle.scene.proofs.sections.next_feature.Statement.{statement}
 use Rattle.scene.proofs.sections.next_feature.Tie as tie
 
 within : (c : tie.Else1) → Within (room (c .before .before .before .before .args .s .now)) (c .before .before .before .before .args .p) (c .before .before .next-name .result .at) (c .before .before .next-name .result .len + 16) (c .before .before .next-name .result .next)
-within c = c .before .before .next-name .ensures .1 (not-false _ (c .if1 .left))
+within c = c .before .before .next-name .ensures .1 .0 (not-false _ (c .if1 .left))
 
 next-name-requires : tie.Need-next-name-requires
 next-name-requires c κs = search needs
