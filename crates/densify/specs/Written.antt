@@ -5,9 +5,8 @@ use mathlib.Core.Bool.{true, false, cond}
 use mathlib.Core.List.{List, [], _∷_, _++_, map}
 use lib.ListN.{length, take, drop, getD}
 use lib.Dec.{leb}
-use lib.Ieee.{Float, nan, binary64, sub}
+use lib.Ieee.{Float, nan}
 use Rattle.similarity.specs.declared.projection.Projection.{Projection}
-use Rattle.elementary.specs.Functions.{hypotOf}
 use Rattle.elementary.specs.Stages.{atanFirst, atanSecond, atanThird}
 use Rattle.similarity.specs.Projection.{geoBy, stretchedOf, latitudeOf}
 use Rattle.scene.specs.declared.sections.Path.{Path}
@@ -24,10 +23,6 @@ pointIn p = record { x = getD p 0 nan; y = getD p 1 nan }
 
 abbrev pub blockIn : List (List Float) → Block
 blockIn b = record { p0 = pointIn (getD b 0 []); c1 = pointIn (getD b 1 []); c2 = pointIn (getD b 2 []); p3 = pointIn (getD b 3 []) }
-
--- the chord's length, as in `distOf`
-abbrev pub chordOf : Block → Float
-chordOf b = hypotOf (sub binary64 (b .p3 .x) (b .p0 .x)) (sub binary64 (b .p3 .y) (b .p0 .y))
 
 abbrev pub pointWith : Float → Float → Point
 pointWith x y = record { x = x; y = y }

@@ -3,7 +3,7 @@ ghost use mathlib.Core.Path.{_≡_};
 ghost use Prim.Native.Nat.{_-_, _≤_};
 ghost use lib.ListN.{length, drop};
 ghost use Rattle.densify.specs.Densify.{distOf, flatOf, midOf, firstOf, secondOf, splitOf, flattenCubicOf};
-ghost use Rattle.densify.specs.Written.{pointIn, blockIn, chordOf, Written};
+ghost use Rattle.densify.specs.Written.{pointIn, blockIn, Written};
 use crate::writing::Done;
 use crate::writing::leaf;
 use budget::Budget;
@@ -20,18 +20,8 @@ fn mid(a: [f64; 2], b: [f64; 2]) -> [f64; 2]
     [(a[0] + b[0]) / 2.0, (a[1] + b[1]) / 2.0]
 }
 
-// The chord's length, which both control points are measured by.
-fn chord(b: [[f64; 2]; 4]) -> f64
-    ensures { λ r. ⌜ r ≡ chordOf (blockIn b) ⌝ }
-{
-    let a = b[0];
-    let e = b[3];
-    hypot(e[0] - a[0], e[1] - a[1])
-}
-
-// The distance of p from the chord, whose length is len.
-fn dist(b: [[f64; 2]; 4], len: f64, p: [f64; 2]) -> f64
-    requires { ⌜ len ≡ chordOf (blockIn b) ⌝ }
+// The distance of p from the chord.
+fn dist(b: [[f64; 2]; 4], p: [f64; 2]) -> f64
     ensures { λ r. ⌜ r ≡ distOf (blockIn b) (pointIn p) ⌝ }
 {
     let a = b[0];
@@ -40,6 +30,7 @@ fn dist(b: [[f64; 2]; 4], len: f64, p: [f64; 2]) -> f64
     let vy = e[1] - a[1];
     let px = p[0] - a[0];
     let py = p[1] - a[1];
+    let len = hypot(vx, vy);
     if len == 0.0 {
         return hypot(px, py);
     }
@@ -51,8 +42,7 @@ fn is_flat(b: [[f64; 2]; 4], tol: f64) -> bool
 {
     let c1 = b[1];
     let c2 = b[2];
-    let len = chord(b);
-    max(dist(b, len, c1), dist(b, len, c2)) <= tol
+    max(dist(b, c1), dist(b, c2)) <= tol
 }
 
 // De Casteljau's points of both halves, which share the middle one.

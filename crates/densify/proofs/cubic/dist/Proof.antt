@@ -36,16 +36,19 @@ array-read-py-2 c = search needs
 hypot-requires : tie.Need-hypot-requires
 hypot-requires c κs = search needs
 
+hypot-requires-2 : tie.Need-hypot-requires-2
+hypot-requires-2 c κs = search needs
+
 returns : tie.Need-returns
 unfolding distOf
-returns c = rw (← c .before .before .before .before .pre, c .before .if1 .taken) (c .hypot .ensures)
+returns c = rw (← c .before .before .hypot .ensures, c .before .if1 .taken) (c .hypot2 .ensures)
 
 abs-requires : tie.Need-abs-requires
 abs-requires c κs = search needs
 
 returns-2 : tie.Need-returns-2
 unfolding distOf
-returns-2 c = rw (← c .before .before .before .before .pre, c .before .if1 .left, ← c .abs .ensures)
+returns-2 c = rw (← c .before .before .hypot .ensures, c .before .if1 .left, ← c .abs .ensures)
 
 pub dist-spec : {M : Type 1} → statement M
 dist-spec =
@@ -62,6 +65,7 @@ dist-spec =
     array-read-py
     array-read-py-2
     hypot-requires
+    hypot-requires-2
     returns
     abs-requires
     returns-2)

@@ -9,9 +9,6 @@ array-copy-out-c1 c = search needs
 array-copy-out-c2 : tie.Need-array-copy-out-c2
 array-copy-out-c2 c = search needs
 
-chord-requires : tie.Need-chord-requires
-chord-requires c κs = search needs
-
 dist-requires : tie.Need-dist-requires
 dist-requires c κs = search needs
 
@@ -31,7 +28,6 @@ is-flat-spec =
     (tie.spec
     array-copy-out-c1
     array-copy-out-c2
-    chord-requires
     dist-requires
     dist-requires-2
     max-requires
