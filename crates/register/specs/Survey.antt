@@ -1,4 +1,4 @@
--- What one walk over the variables tells: the `geo_` ones, whether there are names of control points, and where variables and labels stand.
+-- What one walk over host features and variables tells: the `geo_` values, how many names of control points there are, and where variables and labels stand.
 use mathlib.Core.Path.{_≡_}
 use mathlib.Core.Bool.{cond}
 use mathlib.Core.List.{List, [], _∷_}

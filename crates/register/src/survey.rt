@@ -1,4 +1,4 @@
-// What the `geo_` variables say and where things stand, in one walk over the variables.
+// What the `geo_` variables say, how many names there are and where things stand, in one walk over host features and variables.
 ghost use mathlib.Core.Path.{_≡_};
 ghost use Prim.Native.Nat.{_+_, _≤_};
 ghost use Rattle.stream.specs.Payload.{payload, room};
