@@ -1,2 +1,3 @@
 -- The laws of these definitions that callers use.
 pub mod Draws
+pub mod Samples

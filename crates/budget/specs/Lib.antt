@@ -1,5 +1,4 @@
 -- The vertex allowance.
 pub mod Budget
 pub mod Draws
-pub mod Samples
 pub mod Laws

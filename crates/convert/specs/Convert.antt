@@ -10,7 +10,7 @@ use Rattle.scene.specs.Scene.{Maybe, none, some, Point, DrawnPath, DrawnItem}
 use Rattle.register.specs.Register.{Warning, orValue}
 use Rattle.budget.specs.declared.Budget.{Budget}
 use Rattle.densify.specs.Densify.{Drawn, Made, closeRingOf, pathPointsOf, densifyPolylineOf, ellipseRingOf, boxRingOf}
-use Rattle.densify.specs.Written.{placedBy}
+use Rattle.densify.specs.Positions.{placedBy}
 use Rattle.geojson.specs.declared.Feature.{Feature}
 use Rattle.convert.specs.declared.shapes.Shape.{Shape}
 use Rattle.convert.specs.declared.shapes.Shape.the-variants.{Box, Ellipse, Circle, Dot, Points, Paths, Missing, Nothing}

@@ -1,4 +1,5 @@
 -- Items to features.
 pub mod Convert
 pub mod Space
+pub mod Contracts
 pub mod Laws

@@ -2,7 +2,7 @@
 ghost use mathlib.Core.Path.{_≡_};
 ghost use mathlib.Core.List.{List};
 ghost use Prim.Native.Nat.{ℕ};
-ghost use Rattle.scene.specs.Answers.{itemBy};
+ghost use Rattle.scene.specs.Contracts.Answers.{itemBy};
 ghost use Rattle.convert.specs.Convert.{boxOf, ellipseOf, circleOf, dotOf, shapeOf, onScreen, propsOf};
 use crate::state::Props;
 use scene::Item;

@@ -6,7 +6,8 @@ ghost use mathlib.Core.List.{List};
 ghost use Prim.Native.Nat.{ℕ};
 ghost use lib.ListN.{length};
 ghost use Rattle.convert.specs.Convert.{single, warned};
-ghost use Rattle.convert.specs.Space.{sheetBy, lacking, Fits, Played};
+ghost use Rattle.convert.specs.Space.{lacking};
+ghost use Rattle.convert.specs.Contracts.Space.{sheetBy, Fits, Played};
 use budget::Budget;
 use similarity::Projection;
 

@@ -9,7 +9,7 @@ ghost use Rattle.scene.specs.Scene.{Maybe, Point};
 ghost use Rattle.budget.specs.declared.Budget.{Budget};
 ghost use Rattle.densify.specs.Densify.{Made, closeRingOf};
 ghost use Rattle.convert.specs.Convert.{closedOutline, fillOf, polylineOrPolygonOf, ringTrace};
-ghost use Rattle.convert.specs.Space.{sheetBy, most, longest, Fits, Played, Bounds, Laid, Lays, Ringed};
+ghost use Rattle.convert.specs.Contracts.Space.{sheetBy, most, longest, Fits, Played, Bounds, Laid, Lays, Ringed};
 use crate::laying::Laying;
 use crate::positions::stroke;
 use crate::positions::unwritten;

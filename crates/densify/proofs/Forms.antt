@@ -8,10 +8,10 @@ use lib.Ieee.{Float}
 use Rattle.budget.specs.declared.Budget.{Budget}
 use Rattle.scene.specs.declared.sections.Path.{Path}
 use Rattle.scene.specs.Scene.{Point, pointAt, pointsAt, cubicsAt}
-use Rattle.scene.specs.Answers.{formBy}
+use Rattle.scene.specs.Contracts.Answers.{formBy}
 use Rattle.densify.specs.declared.writing.Done.{Done}
 use Rattle.densify.specs.Densify.{Made, plain, andThen, cubicsOf, formPoints, closedIf}
-use Rattle.densify.specs.Written.{Written}
+use Rattle.densify.specs.Contracts.Written.{Written}
 use Rattle.densify.specs.Laws.Writing.{join-short, join-done}
 use Rattle.densify.specs.Laws.Closing.{closed-short}
 

@@ -13,7 +13,7 @@ use Rattle.budget.specs.Budget.{grantOf, takeOf}
 use Rattle.scene.specs.Scene.{Point}
 use Rattle.densify.specs.declared.writing.Done.{Done}
 use Rattle.densify.specs.Densify.{Made, drawing, closeRingOf, sharpCorners, roundedCorners, quarterOf, boxRingOf}
-use Rattle.densify.specs.Written.{Written}
+use Rattle.densify.specs.Contracts.Written.{Written}
 use Rattle.densify.specs.Laws.Writing.{next-in}
 use Rattle.densify.specs.Laws.Replay.{radiusOf}
 use Rattle.densify.specs.Laws.Counts.{arc-within}

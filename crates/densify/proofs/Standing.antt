@@ -10,7 +10,7 @@ use Rattle.budget.specs.declared.Budget.{Budget}
 use Rattle.scene.specs.Scene.{Point, pointAt, pointsAt, cubicAt, cubicsAt}
 use Rattle.densify.specs.declared.writing.Done.{Done}
 use Rattle.densify.specs.Densify.{Made, plain, andThen, flattenCubicOf, cubicsOf}
-use Rattle.densify.specs.Written.{Written}
+use Rattle.densify.specs.Contracts.Written.{Written}
 use Rattle.densify.specs.Laws.Writing.{Leads, leads-next, leads-short, leads-end}
 
 module _ (l : List ℕ) (from count i : ℕ) where

@@ -8,3 +8,4 @@ pub mod Replay
 pub mod Counts
 pub mod Sizes
 pub mod Bounds
+pub mod Samples

@@ -1,5 +1,6 @@
 -- Points on the canvas.
 pub mod Densify
-pub mod Samples
-pub mod Written
+pub mod Draws
+pub mod Positions
+pub mod Contracts
 pub mod Laws

@@ -3,7 +3,7 @@ ghost use mathlib.Core.Path.{_≡_};
 ghost use Prim.Native.Nat.{_-_, _≤_};
 ghost use lib.ListN.{length, drop};
 ghost use Rattle.densify.specs.Densify.{distOf, flatOf, midOf, firstOf, secondOf, splitOf, flattenCubicOf};
-ghost use Rattle.densify.specs.Written.{pointIn, blockIn, Written};
+ghost use Rattle.densify.specs.Contracts.Written.{pointIn, blockIn, Written};
 use crate::writing::Done;
 use crate::writing::leaf;
 use budget::Budget;

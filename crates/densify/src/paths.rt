@@ -1,11 +1,12 @@
 // The points of a path, in the order in which it is drawn.
 ghost use Prim.Native.Nat.{_+_, _*_, _≤_};
 ghost use lib.ListN.{length};
-ghost use Rattle.stream.specs.Payload.{payload, room};
+ghost use Rattle.stream.specs.Payload.{payload};
+ghost use Rattle.stream.specs.Contracts.Payload.{room};
 ghost use Rattle.scene.specs.Scene.{pointsAt, cubicsAt};
-ghost use Rattle.scene.specs.Answers.{formBy};
+ghost use Rattle.scene.specs.Contracts.Answers.{formBy};
 ghost use Rattle.densify.specs.Densify.{plain, cubicsOf, formPoints, pathPointsOf};
-ghost use Rattle.densify.specs.Written.{Written, drawnBy, PathFits};
+ghost use Rattle.densify.specs.Contracts.Written.{Written, drawnBy, PathFits};
 use crate::cubic::flatten_cubic;
 use crate::writing::Done;
 use crate::writing::close_ring;

@@ -3,7 +3,7 @@ ghost use mathlib.Core.Path.{_≡_};
 ghost use Prim.Native.Nat.{suc, _≤_, _<_};
 ghost use lib.ListN.{length};
 ghost use Rattle.densify.specs.Densify.{plain, roundTo, ellipsePoint, ellipseRingOf, sharpCorners, cornerPoint, roundedCorners, quarterOf, boxRingOf};
-ghost use Rattle.densify.specs.Written.{pointIn, Written};
+ghost use Rattle.densify.specs.Contracts.Written.{pointIn, Written};
 use crate::counts::arc_vertices;
 use crate::writing::Done;
 use crate::writing::close_ring;

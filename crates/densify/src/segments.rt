@@ -3,7 +3,7 @@ ghost use mathlib.Core.Path.{_≡_};
 ghost use Prim.Native.Nat.{_+_, _≤_, _<_};
 ghost use lib.ListN.{length};
 ghost use Rattle.densify.specs.Densify.{plain, segmentWant, alongOf, samplesTo, densifyPolylineOf};
-ghost use Rattle.densify.specs.Written.{pointIn, pointsIn, placing, Written};
+ghost use Rattle.densify.specs.Contracts.Written.{pointIn, pointsIn, placing, Written};
 use crate::counts::parts;
 use crate::placing::place_points;
 use crate::writing::Done;

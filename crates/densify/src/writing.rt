@@ -3,7 +3,7 @@ ghost use Prim.Native.Nat.{_≤_};
 ghost use lib.ListN.{length};
 ghost use mathlib.Core.List.{[], _∷_};
 ghost use Rattle.densify.specs.Densify.{plain, leafOf};
-ghost use Rattle.densify.specs.Written.{pointIn, closingIn, Written};
+ghost use Rattle.densify.specs.Contracts.Written.{pointIn, closingIn, Written};
 use budget::Budget;
 use budget::draw;
 

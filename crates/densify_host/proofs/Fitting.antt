@@ -8,11 +8,11 @@ use native.Mathlib.Nat.{mul-le-mul-right}
 use lib.ListN.{length}
 use lib.Dec.{leb}
 use borrow.Author.Tests.{le-leb, lt-leb, leb-true, leb-false, not-true, not-false}
-use Rattle.stream.specs.Payload.{room}
+use Rattle.stream.specs.Contracts.Payload.{room}
 use Rattle.records.specs.Laws.Tests.{and-left, and-right}
 use Rattle.scene.specs.declared.sections.Path.{Path}
-use Rattle.densify.specs.Written.{PathFits}
-use Rattle.densify_host.specs.Drawings.{pathFits}
+use Rattle.densify.specs.Contracts.Written.{PathFits}
+use Rattle.densify_host.specs.Contracts.Drawings.{pathFits}
 
 -- a path's points are far fewer bytes than a number counts
 pub few : (width count : ℕ) → width ≤ 48 → count < 65536 → width * count < 3145728

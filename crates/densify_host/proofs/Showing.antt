@@ -9,9 +9,9 @@ use Rattle.budget.specs.declared.Budget.{Budget}
 use Rattle.scene.specs.Scene.{Point}
 use Rattle.densify.specs.declared.writing.Done.{Done}
 use Rattle.densify.specs.Densify.{Made, densifyPolylineOf}
-use Rattle.densify.specs.Written.{Written, placing}
+use Rattle.densify.specs.Contracts.Written.{Written, placing}
 use Rattle.densify_host.specs.declared.Drawing.{Drawing}
-use Rattle.densify_host.specs.Drawings.{doneBy, Shown}
+use Rattle.densify_host.specs.Contracts.Drawings.{doneBy, Shown}
 
 abbrev pub Told : Done → Drawing → Type 0
 Told d r = (r .ok ≡ d .ok) × (r .at ≡ d .at) × (r .left ≡ d .budget .left) × (r .hit ≡ d .budget .hit)

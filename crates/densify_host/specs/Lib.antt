@@ -1,2 +1,2 @@
 -- What the comparison asks.
-pub mod Drawings
+pub mod Contracts

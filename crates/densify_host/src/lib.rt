@@ -1,15 +1,16 @@
 // The producers of points as C symbols, for the comparison.
 ghost use mathlib.Core.Path.{_≡_};
 ghost use mathlib.Core.Bool.{true, false};
-ghost use Rattle.stream.specs.Payload.{payload, room};
+ghost use Rattle.stream.specs.Payload.{payload};
+ghost use Rattle.stream.specs.Contracts.Payload.{room};
 ghost use Rattle.similarity.specs.Projection.{projectionOf};
 ghost use lib.ListN.{length};
 ghost use Prim.Native.Nat.{_+_, _*_, _≤_, _<_};
 ghost use lib.Dec.{leb};
 ghost use Rattle.budget.specs.Budget.{takeOf};
 ghost use Rattle.densify.specs.Densify.{arcVerticesOf, segmentWant, pathPointsOf, densifyPolylineOf, ellipseRingOf, boxRingOf};
-ghost use Rattle.densify.specs.Written.{drawnBy, pointsIn, placing};
-ghost use Rattle.densify_host.specs.Drawings.{fresh, Shown, pathFits};
+ghost use Rattle.densify.specs.Contracts.Written.{drawnBy, pointsIn, placing};
+ghost use Rattle.densify_host.specs.Contracts.Drawings.{fresh, Shown, pathFits};
 use budget::Budget;
 use budget::draw;
 use densify::Done;

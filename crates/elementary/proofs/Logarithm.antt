@@ -16,7 +16,7 @@ use lib.Ieee.Exact.{HasValue, round-exact}
 use lib.Ieee.Fits.{up-pos, down-pos, round-fits, and-i, and-l, eq→eqb}
 use lib.Ieee.Positive.{positive}
 use lib.Ieee.Scale.{finite, round-same}
-use Rattle.float.specs.Split.{unitsAt, Split}
+use Rattle.float.specs.Contracts.Split.{unitsAt, Split}
 use Rattle.float.specs.Laws.Exact.{same-value}
 use Rattle.float.specs.Laws.Integers.{whole-sub, minus-shift}
 use Rattle.float.specs.Laws.Tests.{yes, no}

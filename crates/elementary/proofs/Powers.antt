@@ -13,7 +13,8 @@ use lib.Ieee.Bits.{is-true, is-false, nanBits-above}
 use lib.Ieee.Exact.{HasValue}
 use Rattle.float.specs.Laws.Integers.{moved, whole-add, minus-shift}
 use Rattle.float.specs.Laws.Patterns.{normal}
-use Rattle.elementary.specs.Functions.{Small, twoTo}
+use Rattle.elementary.specs.Functions.{twoTo}
+use Rattle.elementary.specs.Contracts.Powers.{Small}
 use Rattle.elementary.specs.Laws.Powers.{two-to-is}
 
 -- the field is 1023 + k

@@ -1,9 +1,8 @@
 -- The elementary functions of document 01, for every f64, operation by operation.
-use mathlib.Core.Bool.{Bool, true, false}
-use Prim.Native.Nat.{ℕ, zero, suc, _-_, _*_, _/_, _^_, _≤_}
-use lib.IntN.{ℤ, pos, negℤ}
+use mathlib.Core.Bool.{true, false}
+use Prim.Native.Nat.{zero, suc, _-_, _*_, _/_, _^_, _≤_}
+use lib.IntN.{pos, negℤ}
 use lib.Ieee.{Float, nan, inf, fin, binary64, up, down, minus, size, round, ofInt, isNan, neg, add, sub, mul, div, rem, lt, eq}
-use lib.Ieee.Exact.{HasValue}
 use Rattle.float.specs.Functions.{pick, absOf, minOf, truncOf, roundOf}
 use Rattle.root.specs.Root.{rootOf}
 use Rattle.elementary.specs.Constants as K
@@ -85,13 +84,6 @@ twoTo nan = nan
 twoTo (inf s) = nan
 twoTo (fin true m e) = fin false 1 (negℤ (pos (m * up e / down e)))
 twoTo (fin false m e) = fin false 1 (pos (m * up e / down e))
-
--- k is a whole number, at most 1010 in size: so 2 ^ k is a value of the format, and no subnormal one
-pub record Small (k : Float) : Type 0 where
-  pub minus : Bool
-  pub size : ℕ
-  pub whole : HasValue k minus size 1
-  pub most : size ≤ 1010
 
 -- v is held already, and k is the whole number nearest to v / LN_2
 unfoldable pub expAt : Float → Float → Float

@@ -11,3 +11,4 @@ pub mod Sine
 pub mod Tangent
 pub mod Mercator
 pub mod Ordinate
+pub mod Samples

@@ -2,6 +2,5 @@
 pub mod Constants
 pub mod Series
 pub mod Functions
-pub mod Stages
-pub mod Samples
+pub mod Contracts
 pub mod Laws

@@ -14,8 +14,8 @@ use lib.Ieee.Exact.{HasValue}
 use lib.Ieee.Back.{round-whole}
 use lib.Ieee.Compare.{differs-from-itself}
 use lib.Ieee.Bits.{nanBits-is, ofBits-fits, ofBits-toBits, toBits-lt}
-use Rattle.float.specs.Split.{unitsAt}
-use Rattle.float.specs.Pointed.{Pointed, Weighs, signOf, fieldOf, digitsOf, unitOf}
+use Rattle.float.specs.Contracts.Split.{unitsAt}
+use Rattle.float.specs.Contracts.Pointed.{Pointed, Weighs, signOf, fieldOf, digitsOf, unitOf}
 use Rattle.float.specs.Functions.{wholeAt, truncOf, ceilOf, roundOf}
 use Rattle.float.specs.Laws.Tests.{yes, nan-test}
 use Rattle.float.specs.Laws.Fields.{of-fields, pattern-value, pattern-reads}

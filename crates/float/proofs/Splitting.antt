@@ -6,7 +6,7 @@ use native.Mathlib.Omega.{arith}
 use lib.Pow.{pow-add, pow-pos, pow-mono}
 use lib.Dec.{lit≤}
 use lib.Count.{leadingZeros, leading-top}
-use Rattle.float.specs.Split.{unitsAt, Split}
+use Rattle.float.specs.Contracts.Split.{unitsAt, Split}
 
 pow-back : (i p : ℕ) → 2 ^ i < 2 ^ p → i < p
 pow-back i p h = lt-of-not-le (λ (g : p ≤ i). lt-irrefl (2 ^ i) (lt-of-lt-of-le h (pow-mono g)))

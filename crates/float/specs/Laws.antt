@@ -19,3 +19,5 @@ pub mod Tests
 pub mod Comparisons
 pub mod Spans
 pub mod Numbers
+pub mod Horner
+pub mod Samples

@@ -2,7 +2,7 @@
 ghost use mathlib.Core.Path.{_≡_};
 ghost use Prim.Native.Nat.{ℕ, _+_, _*_, _<_, _≤_, _%_, _^_, _/_};
 ghost use Rattle.float.specs.Functions.{wholeAt, truncOf, ceilOf, roundOf};
-ghost use Rattle.float.specs.Pointed.{Pointed, Weighs, unitOf, signOf, digitsOf};
+ghost use Rattle.float.specs.Contracts.Pointed.{Pointed, Weighs, unitOf, signOf, digitsOf};
 
 // What one weighs among the digits of the pattern b, some of which are behind the point.
 fn unit(b: u64) -> u64

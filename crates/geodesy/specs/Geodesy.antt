@@ -32,13 +32,3 @@ mercatorInverseOf m =
       lon = normalizeLonOf (toDegreesOf (div binary64 (m .x) radius));
       lat = toDegreesOf (sub binary64 (mul binary64 K.two (atanOf (expOf (div binary64 (m .y) radius)))) K.fracPi2);
     }
-
--- ---- the inverse in stages: the longitude of an abscissa, the exponential of an ordinate, and the latitude of that exponential's arc tangent
-unfoldable pub longitudeOf : Float → Float
-longitudeOf x = normalizeLonOf (toDegreesOf (div binary64 x radius))
-
-unfoldable pub stretchOf : Float → Float
-stretchOf y = expOf (div binary64 y radius)
-
-unfoldable pub northOf : Float → Float
-northOf a = toDegreesOf (sub binary64 (mul binary64 K.two a) K.fracPi2)

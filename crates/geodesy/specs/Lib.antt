@@ -1,4 +1,4 @@
 -- Web Mercator.
 pub mod Geodesy
-pub mod Samples
+pub mod Contracts
 pub mod Laws

@@ -1,6 +1,7 @@
 // Web Mercator, EPSG:3857, after the source's geodesy.rs.
 ghost use mathlib.Core.Path.{_≡_};
-ghost use Rattle.geodesy.specs.Geodesy.{normalizeLonOf, mercatorForwardOf, mercatorInverseOf, longitudeOf, stretchOf, northOf};
+ghost use Rattle.geodesy.specs.Geodesy.{normalizeLonOf, mercatorForwardOf, mercatorInverseOf};
+ghost use Rattle.geodesy.specs.Contracts.Stages.{longitudeOf, stretchOf, northOf};
 use elementary::atan;
 use elementary::exp;
 use elementary::ln;

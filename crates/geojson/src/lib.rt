@@ -3,7 +3,7 @@ ghost use mathlib.Core.Path.{_≡_};
 ghost use Prim.Native.Nat.{_+_, _≤_};
 ghost use lib.ListN.{length};
 ghost use lib.Dec.{leb};
-ghost use Rattle.geojson.specs.Lines.{Lined};
+ghost use Rattle.geojson.specs.Contracts.Lined.{Lined};
 
 // A feature line. Geometry: 0 a point, 1 a line, 2 a polygon. Role: 1 a separate fill. Placement: 1 on the screen. Part: 0, or 1 and the path's index. Count: its positions.
 pub struct Feature {

@@ -8,8 +8,8 @@ use Rattle.scene.specs.Scene.{Point, Scene, sceneOf}
 use Rattle.similarity.specs.Projection.{geoOf}
 use Rattle.register.specs.Register.{registrationOf}
 use Rattle.budget.specs.Draws.{leftAfter, Claim}
-use Rattle.densify.specs.Written.{placedBy}
-use Rattle.densify.specs.Laws.Replay.{drawsOf, Granted, fellShort}
+use Rattle.densify.specs.Positions.{placedBy}
+use Rattle.densify.specs.Draws.{drawsOf, Granted, fellShort}
 use Rattle.convert.specs.Convert.{drawsIn, EachFeature}
 use Rattle.convert.specs.Laws.Features.{Sane}
 use Rattle.geopic.specs.Geopic.{fresh, ctxOf, traceOf, Lent, conditions, firstFrom, answerOf}

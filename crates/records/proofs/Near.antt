@@ -11,7 +11,7 @@ use Rattle.records.specs.declared.records.Record.{Record}
 use Rattle.records.specs.declared.records.Record.the-variants.{Rescale, Choice, Feature, Variable, Place, Item, Points, Path}
 use Rattle.records.specs.Records.{choiceWidth, valuesWidth}
 use Rattle.records.specs.Limits.{number, near, million, choiceFloats, limitedAt}
-use Rattle.records.specs.Floats.{fine, fines}
+use Rattle.records.specs.Contracts.Floats.{fine, fines}
 
 none : (canvas : Bool) → false ≡ fine canvas NotFinite
 unfolding number near

@@ -7,7 +7,8 @@ use native.Mathlib.Omega.{arith}
 use lib.ListN.{length}
 use lib.Dec.{leb}
 use borrow.Author.Tests.{leb-true, eqb-true}
-use Rattle.stream.specs.Blocks.{sized, allChecked, blocksOf}
+use Rattle.stream.specs.Blocks.{sized, allChecked}
+use Rattle.stream.specs.Contracts.Blocks.{blocksOf}
 use Rattle.stream.specs.Payload.{payload}
 use Rattle.stream.specs.declared.Blocks.the-variants.{Fine, Size, Check}
 use Rattle.stream.specs.declared.Float64.{Float64}

@@ -13,7 +13,8 @@ use Rattle.records.specs.declared.records.Record.the-variants.{Rescale, 
 use Rattle.records.specs.declared.order.State.{State}
 use Rattle.records.specs.declared.order.Turn.{Turn}
 use Rattle.records.specs.Layout.{Pass, Next, stop, turn, before, hasRole, nameOf, stepOf}
-use Rattle.records.specs.Order.{part, passOf, nextOf, turnOf, withTag, tagOf, Kept, KeptAfter}
+use Rattle.records.specs.Contracts.Order.{passOf, nextOf, turnOf, withTag, tagOf, Kept, KeptAfter}
+use Rattle.records.specs.Records.{part}
 
 -- ---- roles
 pub role-some : (roles role : ℕ) → (role ≡ 0 → ⊥) → eqb (roles / 2) 1 ≡ hasRole roles role

@@ -5,3 +5,4 @@ pub mod Walk
 pub mod Search
 pub mod Refusals
 pub mod Names
+pub mod Samples

@@ -2,12 +2,16 @@
 use Prim.Native.Nat.{ℕ, zero, suc, _+_, _*_, _/_, _%_}
 use mathlib.Core.List.{List, [], _∷_}
 use mathlib.Core.Bool.{Bool, true, false, _&&_, _||_, cond}
-use lib.ListN.{length, getD}
+use lib.ListN.{length, getD, take, drop}
 use lib.Dec.{eqb, leb, ltb}
 use Rattle.stream.specs.Numbers.{u16At}
 use Rattle.records.specs.declared.records.Record.the-variants.{Rescale, Choice, Feature, Variable, Place, Item, Points, Path}
 use Rattle.records.specs.declared.records.Step.{Step}
 use Rattle.records.specs.declared.records.Step.the-variants.{Got, End, Bad}
+
+-- n bytes from p on
+unfoldable pub part : List ℕ → ℕ → ℕ → List ℕ
+part l p n = take n (drop p l)
 
 -- `if`, as a function of the test's answer and both arms
 abbrev pub pick : Bool → Step → Step → Step

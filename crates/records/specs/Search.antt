@@ -2,13 +2,12 @@
 use Prim.Native.Nat.{ℕ}
 use mathlib.Core.Bool.{Bool, true, false, _&&_, cond}
 use mathlib.Core.List.{List, [], _∷_}
-use lib.ListN.{drop}
 use lib.Dec.{eqb, ltb}
 use Rattle.records.specs.declared.records.Record.{Record}
 use Rattle.records.specs.declared.records.Record.the-variants.{Rescale, Choice, Feature, Variable, Place, Item, Points, Path}
 use Rattle.records.specs.declared.search.Turn.{Turn}
 use Rattle.records.specs.declared.search.Turn.the-variants.{Here, On, Past}
-use Rattle.records.specs.Walk.{Entry, entries, tagOf}
+use Rattle.records.specs.Walk.{Entry, tagOf}
 
 abbrev pub keyOf : Record → ℕ
 keyOf Rescale = 0
@@ -40,7 +39,3 @@ sought Past l more = []
 unfoldable pub recordsOf : ℕ → ℕ → List Entry → List (List ℕ)
 recordsOf t k [] = []
 recordsOf t k (e ∷ es) = sought (turnOf t k (e .head)) (e .bytes) (recordsOf t k es)
-
--- from position p of a payload on
-abbrev pub recordsAt : List ℕ → ℕ → ℕ → ℕ → List (List ℕ)
-recordsAt l p t k = recordsOf t k (entries (drop p l) 0)

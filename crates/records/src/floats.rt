@@ -2,11 +2,12 @@
 ghost use mathlib.Core.Path.{_≡_};
 ghost use Prim.Native.Nat.{_+_, _*_, _≤_};
 ghost use lib.ListN.{length};
-ghost use Rattle.stream.specs.Payload.{payload, room, rest};
+ghost use Rattle.stream.specs.Payload.{payload};
+ghost use Rattle.stream.specs.Contracts.Payload.{room, rest};
 ghost use Rattle.records.specs.Records.{recordOf};
 ghost use Rattle.records.specs.declared.records.Step.{Step};
 ghost use Rattle.records.specs.Limits.{limitedAt, limited};
-ghost use Rattle.records.specs.Floats.{fine, fines};
+ghost use Rattle.records.specs.Contracts.Floats.{fine, fines};
 use crate::records::Record;
 use crate::records::Step;
 use crate::records::choice_width;

@@ -2,12 +2,13 @@
 ghost use mathlib.Core.Path.{_≡_};
 ghost use Prim.Native.Nat.{_+_, _≤_};
 ghost use lib.ListN.{drop};
-ghost use Rattle.stream.specs.Payload.{payload, room};
-ghost use Rattle.records.specs.Records.{recordOf};
+ghost use Rattle.stream.specs.Payload.{payload};
+ghost use Rattle.stream.specs.Contracts.Payload.{room};
+ghost use Rattle.records.specs.Records.{recordOf, part};
 ghost use Rattle.records.specs.declared.records.Record.{Record};
 ghost use Rattle.records.specs.declared.records.Step.{Step};
 ghost use Rattle.records.specs.Layout.{before, hasRole, stepOf, laidOut};
-ghost use Rattle.records.specs.Order.{part, passOf, nextOf, turnOf, tagOf, Kept, KeptAfter};
+ghost use Rattle.records.specs.Contracts.Order.{passOf, nextOf, turnOf, tagOf, Kept, KeptAfter};
 use crate::records::Record;
 use crate::records::Step;
 use crate::records::next_record;

@@ -2,9 +2,8 @@
 ghost use mathlib.Core.Path.{_≡_};
 ghost use Prim.Native.Nat.{_+_, _<_, _≤_};
 ghost use lib.ListN.{length, drop};
-ghost use Rattle.stream.specs.Payload.{room, rest};
-ghost use Rattle.records.specs.Records.{plain, plains, named, labelled, namedThen, counted, allZero, choiceWidth, choiceFits, valuesWidth, itemBegins};
-ghost use Rattle.records.specs.Records.{endOf, rescaleOf, choiceOf, featureOf, variableOf, placeOf, itemOf, pointsOf, pathWith, pathOf, recordOf};
+ghost use Rattle.stream.specs.Contracts.Payload.{room, rest};
+ghost use Rattle.records.specs.Records.{plain, plains, named, labelled, namedThen, counted, allZero, choiceWidth, choiceFits, valuesWidth, itemBegins, endOf, rescaleOf, choiceOf, featureOf, variableOf, placeOf, itemOf, pointsOf, pathWith, pathOf, recordOf};
 use stream::byte;
 use stream::left;
 use stream::long;

@@ -11,19 +11,19 @@ use lib.Seq.{take-nil, take-length}
 use lib.Dec.{eqb, ltb}
 use lib.Ieee.{Float}
 use borrow.Author.Tests.{lt-ltb, le-ltb, not-true, not-false}
-use Rattle.records.specs.Order.{part}
+use Rattle.records.specs.Records.{part}
 use Rattle.similarity.specs.declared.fit.Control.{Control}
 use Rattle.scene.specs.declared.numbers.Value.{Value}
 use Rattle.scene.specs.declared.sections.Feature.{Feature}
 use Rattle.scene.specs.Scene.{Maybe, none, some, Point, Scene, NamedFeature, NamedValue, sceneOf}
 use Rattle.scene.specs.Labels.{same}
-use Rattle.scene.specs.Answers.{valueBy, featuresAt, featuresBy, variablesAt}
+use Rattle.scene.specs.Contracts.Answers.{valueBy, featuresAt, featuresBy, variablesAt}
 use Rattle.scene.specs.Laws.Answers.{scene-lists}
 use Rattle.register.specs.declared.controls.Candidate.{Candidate}
 use Rattle.register.specs.declared.controls.Gathered.{Gathered}
-use Rattle.register.specs.Warned.{fateOf}
+use Rattle.register.specs.Contracts.Warned.{fateOf}
 use Rattle.register.specs.Register.{Warning, Event, control, warn, placed, resolved, mentioned, eventOf, suffixLat, var, stem, isLon, lonEvent, onto, variableEvents, featureEvent, featureEvents, events}
-use Rattle.register.specs.Gathered.{noControls, putOf, takenOf, after, unnamed, named, paired, gathered}
+use Rattle.register.specs.Contracts.Gathered.{noControls, putOf, takenOf, after, unnamed, named, paired, gathered}
 
 -- ---- one more
 pub both : (a b : Bool) {r : Bool} → ((a ≡ true) × (r ≡ b)) ⊎ ((a ≡ false) × (r ≡ false)) → r ≡ (a && b)

@@ -7,8 +7,9 @@ use native.Mathlib.Omega.{arith}
 use lib.ListN.{length, take, length-drop, take-append-drop}
 use lib.Seq.{take-append-seam, drop-append-seam, take-append-add, length-take-le}
 use borrow.Author.Tests.{not-true, not-false}
-use Rattle.stream.specs.Payload.{payload, room}
-use Rattle.records.specs.Order.{part}
+use Rattle.stream.specs.Payload.{payload}
+use Rattle.stream.specs.Contracts.Payload.{room}
+use Rattle.records.specs.Records.{part}
 use Rattle.records.specs.Laws.Tests.{and-left}
 use Rattle.scene.specs.Labels.{same}
 use Rattle.scene.specs.Laws.Names.{same-lengths}

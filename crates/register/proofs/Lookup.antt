@@ -13,7 +13,7 @@ use Rattle.records.specs.Layout.{before}
 use Rattle.scene.specs.Scene.{NamedValue}
 use Rattle.scene.specs.Labels.{variableOf}
 use Rattle.scene.specs.Laws.Rising.{Rising, before-trans, before-some, lookup-on}
-use Rattle.register.specs.Runs.{commonOf, runsOf}
+use Rattle.register.specs.Contracts.Runs.{commonOf, runsOf}
 use Rattle.register.specs.Laws.Names.{run-law, common-take}
 
 -- ---- the runs

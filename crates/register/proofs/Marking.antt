@@ -9,17 +9,17 @@ use lib.ListN.{length, take, drop, getD, set}
 use lib.Seq.{getD-set-same, getD-set-other}
 use lib.Dec.{eqb}
 use borrow.Author.Tests.{eqb-true, eqb-false, not-true, not-false}
-use Rattle.records.specs.Order.{part}
+use Rattle.records.specs.Records.{part}
 use Rattle.scene.specs.declared.numbers.Spot.{Spot}
 use Rattle.scene.specs.declared.sections.Feature.{Feature}
 use Rattle.scene.specs.Scene.{some, Scene, NamedFeature, sceneOf}
 use Rattle.scene.specs.Labels.{same, pointOfLabel}
-use Rattle.scene.specs.Answers.{spotBy, featuresAt, featuresBy, placesAt, itemsAt}
-use Rattle.scene.specs.Index.{slotOf}
+use Rattle.scene.specs.Contracts.Answers.{spotBy, featuresAt, featuresBy, placesAt, itemsAt}
+use Rattle.scene.specs.Contracts.Index.{slotOf}
 use Rattle.scene.specs.Laws.Index.{slot-less}
 use Rattle.scene.specs.Laws.Rising.{same-eq}
 use Rattle.register.specs.Register.{isSome, resolved, mentioned}
-use Rattle.register.specs.Marks.{Marked, MarkedWith}
+use Rattle.register.specs.Contracts.Marks.{Marked, MarkedWith}
 
 -- ---- after the question for one name
 module _ (sc : Scene) (marks : List ℕ) (fs : List NamedFeature) (m : Marked sc marks fs) (name : List ℕ) where

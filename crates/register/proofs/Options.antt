@@ -7,9 +7,9 @@ use native.Mathlib.Omega.{arith}
 use lib.Ieee.{Float, binary64, mul, div, lt}
 use Rattle.scene.specs.Scene.{Maybe, some, given, Point, Scene}
 use Rattle.scene.specs.declared.numbers.Value.{Value}
-use Rattle.scene.specs.Answers.{valueBy}
+use Rattle.scene.specs.Contracts.Answers.{valueBy}
 use Rattle.register.specs.Register.{f0, orValue, bothOf, pxMode, declaredBearing, scaleValue, above0, effectiveScale}
-use Rattle.register.specs.Outcome.{checkedOf, declaredOutcome}
+use Rattle.register.specs.Contracts.Outcome.{checkedOf, declaredOutcome}
 
 -- longitude and latitude, the first of them set
 pub both : (b : Bool) (x y : Float) → given b (record { x = x; y = y }) ≡ bothOf (some x) (given b y)

@@ -6,16 +6,16 @@ use Prim.Native.Nat.{ℕ, _-_}
 use lib.ListN.{length, getD, replicate}
 use borrow.Author.Tests.{not-true}
 use Rattle.stream.specs.Payload.{payload}
-use Rattle.records.specs.Order.{part}
+use Rattle.records.specs.Records.{part}
 use Rattle.scene.specs.declared.sections.Variable.{Variable}
 use Rattle.scene.specs.Scene.{sceneOf}
 use Rattle.scene.specs.Labels.{variableOf}
-use Rattle.scene.specs.Answers.{featuresAt, variablesAt, variablesBy, Variables}
+use Rattle.scene.specs.Contracts.Answers.{featuresAt, variablesAt, variablesBy, Variables}
 use Rattle.scene.specs.Laws.Answers.{scene-lists}
 use Rattle.scene.specs.Laws.Rising.{Rising}
 use Rattle.register.specs.declared.controls.Gathered.{Gathered}
 use Rattle.register.specs.Register.{suffixLat, variableEvents}
-use Rattle.register.specs.Gathered.{paired, gathered}
+use Rattle.register.specs.Contracts.Gathered.{paired, gathered}
 use Rattle.register.proofs.Gathering.{paired-length, other-next, lon-next}
 use Rattle.register.proofs.Turning.{Along, along, Turn, hereOf, is-here, turned, is-other, is-lon, stem-is, same-run}
 

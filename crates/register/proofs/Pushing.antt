@@ -14,11 +14,11 @@ use Rattle.scene.specs.declared.numbers.Spot.{Spot}
 use Rattle.scene.specs.declared.numbers.Value.{Value}
 use Rattle.scene.specs.Scene.{Maybe, none, some, given, Point, Scene, sceneOf}
 use Rattle.scene.specs.Labels.{pointOfLabel}
-use Rattle.scene.specs.Answers.{valueBy, spotBy, featuresAt, placesAt, itemsAt}
+use Rattle.scene.specs.Contracts.Answers.{valueBy, spotBy, featuresAt, placesAt, itemsAt}
 use Rattle.scene.specs.Laws.Answers.{scene-lists}
 use Rattle.register.specs.declared.warnings.Warned.{Warned}
 use Rattle.register.specs.Register.{Warning, Event, control, warn, resolved, mentioned, eventOf, lonEvent, warningsIn, isSome, var, geoLon, geoLat, onlyOne, halfAnchor, halfWarnings, only, ignored, ignoredWith, anyDeclared, anchorOf}
-use Rattle.register.specs.Warned.{Sheet, pushed, allPushed, fateOf}
+use Rattle.register.specs.Contracts.Warned.{Sheet, pushed, allPushed, fateOf}
 
 abbrev pub sheet : List ℕ → Warned → Sheet
 sheet out w = record { out = out; said = w }

@@ -7,7 +7,7 @@ use native.Mathlib.Omega.{arith}
 use lib.ListN.{length, getD, take, drop, set, replicate, drop-of-length-le, replicate-append-replicate}
 use lib.Seq.{drop-cons, take-all, take-suc-set}
 use borrow.Author.Tests.{eq-eqb, ne-eqb}
-use Rattle.register.specs.Runs.{commonOf, runsOf}
+use Rattle.register.specs.Contracts.Runs.{commonOf, runsOf}
 
 -- ---- the bytes that two names begin with
 common-none : (a : List ℕ) → commonOf a [] ≡ 0

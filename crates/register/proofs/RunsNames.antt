@@ -8,12 +8,12 @@ use lib.ListN.{length, drop, length-append}
 use lib.Seq.{take-add, drop-drop}
 use lib.Dec.{eqb}
 use borrow.Author.Tests.{not-true, not-false, le-ltb}
-use Rattle.records.specs.Order.{part}
+use Rattle.records.specs.Records.{part}
 use Rattle.records.specs.Layout.{before}
 use Rattle.scene.specs.declared.sections.Variable.{Variable}
 use Rattle.scene.specs.Scene.{none, some, NamedValue}
 use Rattle.scene.specs.Labels.{same, variableOf}
-use Rattle.scene.specs.Answers.{variablesAt, variablesBy}
+use Rattle.scene.specs.Contracts.Answers.{variablesAt, variablesBy}
 use Rattle.records.specs.Laws.Names.{part-length}
 use Rattle.scene.specs.Laws.Names.{same-lengths}
 use Rattle.scene.specs.Laws.Answers.{listed}

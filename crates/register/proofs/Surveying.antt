@@ -7,19 +7,19 @@ use native.Mathlib.Omega.{arith}
 use lib.ListN.{length, length-append}
 use lib.Ieee.{Float}
 use borrow.Author.Tests.{not-true, not-false}
-use Rattle.records.specs.Order.{part}
-use Rattle.records.specs.Hits.{Later}
+use Rattle.records.specs.Records.{part}
+use Rattle.records.specs.Contracts.Hits.{Later}
 use Rattle.scene.specs.declared.numbers.Value.{Value}
 use Rattle.scene.specs.declared.sections.Feature.{Feature}
 use Rattle.scene.specs.declared.sections.Variable.{Variable}
 use Rattle.scene.specs.Scene.{Maybe, none, some, given, Scene, NamedFeature, NamedValue, sceneOf, variableAt, placeAt, itemAt}
 use Rattle.scene.specs.Labels.{same, pick, variableOf, orElse}
-use Rattle.scene.specs.Answers.{valueBy, featuresAt, featuresBy, variablesAt, variablesBy, Labels, Variables}
+use Rattle.scene.specs.Contracts.Answers.{valueBy, featuresAt, featuresBy, variablesAt, variablesBy, Labels, Variables}
 use Rattle.scene.specs.Laws.Answers.{scene-lists}
 use Rattle.register.specs.declared.survey.Geo.{Geo}
 use Rattle.register.specs.declared.survey.Survey.{Survey}
 use Rattle.register.specs.Register.{f0, var, Event, control, warn, isLon, onto, variableEvents, featureEvents, events, controlsIn, warningsIn, controlsOf}
-use Rattle.register.specs.Survey.{Each, Says, keptOf, notedOf, lonsIn, Numbered, Surveyed}
+use Rattle.register.specs.Contracts.Survey.{Each, Says, keptOf, notedOf, lonsIn, Numbered, Surveyed}
 
 -- ---- a value looked for among all of them: it is found, or stands in the rest
 abbrev Ahead : List NamedValue → List NamedValue → List ℕ → Value → Type 0

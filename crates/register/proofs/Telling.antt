@@ -10,16 +10,16 @@ use lib.ListN.{length, take, getD, replicate}
 use lib.Ieee.{Float}
 use borrow.Author.Tests.{not-true, not-false}
 use Rattle.stream.specs.Payload.{payload}
-use Rattle.records.specs.Order.{part}
+use Rattle.records.specs.Records.{part}
 use Rattle.scene.specs.declared.sections.Feature.{Feature}
 use Rattle.scene.specs.declared.sections.Variable.{Variable}
 use Rattle.scene.specs.Scene.{Maybe, Scene, NamedFeature, NamedValue, sceneOf}
 use Rattle.scene.specs.Labels.{variableOf}
-use Rattle.scene.specs.Answers.{featuresAt, featuresBy, variablesAt, variablesBy, Variables}
+use Rattle.scene.specs.Contracts.Answers.{featuresAt, featuresBy, variablesAt, variablesBy, Variables}
 use Rattle.scene.specs.Laws.Answers.{scene-lists}
 use Rattle.scene.specs.Laws.Rising.{Rising}
 use Rattle.register.specs.Register.{suffixLat, stem, var, isLon, resolved, mentioned, featureEvent, featureEvents, lonEvent, variableEvents, events, warningsIn, controlsOf, viewWarnings, halfWarnings, ignoredWith, registerWarnings}
-use Rattle.register.specs.Warned.{Sheet, pushed, allPushed, fateOf}
+use Rattle.register.specs.Contracts.Warned.{Sheet, pushed, allPushed, fateOf}
 use Rattle.register.proofs.Turning.{Along, along, Turn, hereOf, is-here, turned, is-other, is-lon, stem-is, same-run}
 use Rattle.register.proofs.Pushing.{Fits, push-fits, one-kept, all-fit, all-kept, pushed-append, warnings-append, event-pushed, fate-warns, fate-control}
 

@@ -6,15 +6,16 @@ use Prim.Native.Nat.{ℕ, _+_, _-_, _≤_}
 use native.Mathlib.Omega.{arith}
 use lib.ListN.{length, getD, replicate}
 use borrow.Author.Tests.{not-false}
-use Rattle.stream.specs.Payload.{payload, room}
-use Rattle.records.specs.Order.{part}
+use Rattle.stream.specs.Payload.{payload}
+use Rattle.stream.specs.Contracts.Payload.{room}
+use Rattle.records.specs.Records.{part}
 use Rattle.scene.specs.declared.sections.Variable.{Variable}
 use Rattle.scene.specs.Scene.{NamedValue, sceneOf}
 use Rattle.scene.specs.Labels.{variableOf}
-use Rattle.scene.specs.Answers.{Within, variablesAt, variablesBy, Variables}
+use Rattle.scene.specs.Contracts.Answers.{Within, variablesAt, variablesBy, Variables}
 use Rattle.scene.specs.Laws.Rising.{Rising}
 use Rattle.register.specs.Register.{suffixLon, suffixLat, stem, var, isLon}
-use Rattle.register.specs.Runs.{commonOf, runsOf}
+use Rattle.register.specs.Contracts.Runs.{commonOf, runsOf}
 use Rattle.records.specs.Laws.Names.{name-length}
 use Rattle.register.proofs.Lons.{stem-at, ending-at, lon-ends, lon-long, lon-near}
 use Rattle.register.proofs.Lookup.{Passed, none-passed, one-passed}

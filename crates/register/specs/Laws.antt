@@ -3,3 +3,4 @@ pub mod Names
 pub mod Outcomes
 pub mod Near
 pub mod Sound
+pub mod Samples

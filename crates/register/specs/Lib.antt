@@ -1,10 +1,4 @@
 -- Registration.
 pub mod Register
-pub mod Survey
-pub mod Marks
-pub mod Runs
-pub mod Gathered
-pub mod Outcome
-pub mod Warned
-pub mod Samples
+pub mod Contracts
 pub mod Laws

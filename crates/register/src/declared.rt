@@ -2,9 +2,9 @@
 ghost use mathlib.Core.Path.{_≡_};
 ghost use Rattle.stream.specs.Payload.{payload};
 ghost use Rattle.scene.specs.Scene.{sceneOf};
-ghost use Rattle.scene.specs.Answers.{valueBy, spotBy};
+ghost use Rattle.scene.specs.Contracts.Answers.{valueBy, spotBy};
 ghost use Rattle.scene.specs.Labels.{orElse};
-ghost use Rattle.register.specs.Survey.{Surveyed};
+ghost use Rattle.register.specs.Contracts.Survey.{Surveyed};
 ghost use Rattle.register.specs.Register.{isMercator, var, geoFrame, pxMode, declaredScale, declaredBearing, anchorOf};
 use crate::survey::Survey;
 use scene::Spot;

@@ -1,9 +1,10 @@
 // What the `geo_` variables say, how many names there are and where things stand, in one walk over host features and variables.
 ghost use mathlib.Core.Path.{_≡_};
 ghost use Prim.Native.Nat.{_+_, _≤_};
-ghost use Rattle.stream.specs.Payload.{payload, room};
-ghost use Rattle.records.specs.Order.{part};
-ghost use Rattle.register.specs.Survey.{keptOf, notedOf, Numbered, Surveyed};
+ghost use Rattle.stream.specs.Payload.{payload};
+ghost use Rattle.stream.specs.Contracts.Payload.{room};
+ghost use Rattle.records.specs.Records.{part};
+ghost use Rattle.register.specs.Contracts.Survey.{keptOf, notedOf, Numbered, Surveyed};
 use crate::controls::is_lon;
 use scene::Value;
 use scene::Variable;

@@ -13,9 +13,9 @@ use Rattle.similarity.specs.declared.fit.Control.{Control}
 use Rattle.similarity.specs.declared.projection.Registration.{Registration}
 use Rattle.register.specs.declared.outcome.Outcome.{Outcome}
 use Rattle.register.specs.Register.{controlsOf, anchorOf, registrationBy, registrationOf, registerRefusal, registerWarnings}
-use Rattle.register.specs.Outcome.{accepted, refusedBy, pickOutcome, outcomeOf}
-use Rattle.register.specs.Warned.{Sheet, allPushed}
-use Rattle.register_host.specs.Answer.{answerOf, warnedOf, nothing}
+use Rattle.register.specs.Contracts.Outcome.{accepted, refusedBy, pickOutcome, outcomeOf}
+use Rattle.register.specs.Contracts.Warned.{Sheet, allPushed}
+use Rattle.register_host.specs.Contracts.Answer.{answerOf, warnedOf, nothing}
 
 counted : (sc : Scene) (a : Maybe Point) (cs : List Control) → registrationBy sc a cs .controls ≡ length cs
 unfolding registrationBy

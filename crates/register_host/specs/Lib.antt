@@ -1,2 +1,2 @@
 -- The comparison's questions.
-pub mod Answer
+pub mod Contracts

@@ -1,8 +1,8 @@
 // Registration as C symbols, for the comparison.
 ghost use mathlib.Core.Path.{_≡_};
 ghost use Rattle.similarity.specs.Projection.{toLonLatOf};
-ghost use Rattle.register_host.specs.Answer.{answerOf, warnedOf};
-ghost use Rattle.register.specs.Warned.{Sheet};
+ghost use Rattle.register_host.specs.Contracts.Answer.{answerOf, warnedOf};
+ghost use Rattle.register.specs.Contracts.Warned.{Sheet};
 use geodesy::LonLat;
 use register::Outcome;
 use register::Warned;

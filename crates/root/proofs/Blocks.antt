@@ -6,9 +6,8 @@ use native.Mathlib.Nat.{le-trans, le-of-lt, lt-of-lt-of-le, lt-of-le-of-lt, mul-
 use native.Mathlib.Omega.{arith}
 use lib.Dec.{T, ltb, ltb→lt, nltb→le}
 use mir.Val.{boolByte}
-use Rattle.root.specs.Root.{IsRoot}
-use Rattle.root.specs.Whole.{sq-le-root, sq-lt-back}
-use Rattle.root.specs.Blocks.{Remains, Guess, Ready}
+use Rattle.root.specs.Laws.Whole.{IsRoot, sq-le-root, sq-lt-back}
+use Rattle.root.specs.Contracts.Blocks.{Remains, Guess, Ready}
 
 -- ---- the root is `top`, or one less where `have` is below `need`
 pub record Settled (top have need over root : ℕ) : Type 0 where

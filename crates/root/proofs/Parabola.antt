@@ -6,7 +6,7 @@ use native.Mathlib.Omega.{arith}
 use lib.Dec.{T, leb, leb→le}
 use lib.Ieee.Fits.{and-l, and-r}
 use Rattle.float.specs.Laws.Every.{every, every-at}
-use Rattle.root.specs.Blocks.{Near}
+use Rattle.root.specs.Contracts.Blocks.{Near}
 
 abbrev parabola : ℕ → ℕ
 parabola x = 4225 + x * (1712 - x) * 5 / 256

@@ -6,9 +6,9 @@ use Prim.Native.Nat.{ℕ, _+_, _≤_, _<_}
 use native.Mathlib.Omega.{arith}
 use lib.ListN.{length, getD, drop}
 use borrow.Author.Tests.{lt-ltb}
-use Rattle.records.specs.Order.{part}
+use Rattle.records.specs.Records.{part}
 use Rattle.scene.specs.Labels.{same, carries}
-use Rattle.scene.specs.Answers.{labelBy}
+use Rattle.scene.specs.Contracts.Answers.{labelBy}
 use Rattle.scene.specs.Laws.Names.{same-lengths, same-ends, same-step, same-fails}
 
 module _ (a b : List ℕ) {n m : ℕ} (la : length a ≡ n) (lb : length b ≡ m) where

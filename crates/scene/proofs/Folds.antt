@@ -11,14 +11,14 @@ use lib.Seq.{getD-drop}
 use borrow.Author.Tests.{not-true, not-false}
 use Rattle.stream.specs.Payload.{payload}
 use Rattle.records.specs.declared.search.Hit.{Hit}
-use Rattle.records.specs.Order.{part}
+use Rattle.records.specs.Records.{part}
 use Rattle.scene.specs.declared.labels.Best as code-best
 use Rattle.scene.specs.declared.numbers.Spot.{Spot}
 use Rattle.scene.specs.declared.sections.Item.{Item}
 use Rattle.scene.specs.declared.sections.Place.{Place}
 use Rattle.scene.specs.Scene.{Maybe, none, some, given, Point, NamedPlace, placeAt, DrawnItem, itemWith, itemAt}
 use Rattle.scene.specs.Labels.{same, pick, Key, Best, consider, considerAt, itemKey, bestPlace, carries, referencePoint, bestItem, pointOf, pointOfLabel}
-use Rattle.scene.specs.Answers.{considerPlace, considerItem, spotBy, placesAt, placesBy, labelBy, itemBy, itemsAt, itemsBy, bestBy}
+use Rattle.scene.specs.Contracts.Answers.{considerPlace, considerItem, spotBy, placesAt, placesBy, labelBy, itemBy, itemsAt, itemsBy, bestBy}
 use Rattle.scene.specs.Laws.Shift.{part-drop}
 use Rattle.scene.proofs.Found.{Answer, One, none-listed, one-listed, found-again}
 

@@ -12,13 +12,14 @@ use lib.Seq.{getD-drop}
 use borrow.Author.Tests.{eq-eqb, not-true, not-false}
 use Rattle.stream.specs.Numbers.{u16At}
 use Rattle.stream.specs.Laws.Numbers.{u16-drop}
-use Rattle.stream.specs.Payload.{payload, room}
+use Rattle.stream.specs.Payload.{payload}
+use Rattle.stream.specs.Contracts.Payload.{room}
 use Rattle.stream.specs.Laws.Payload.{payload-length}
 use Rattle.records.specs.declared.search.Hit.{Hit}
 use Rattle.records.specs.Records.{choiceWidth}
-use Rattle.records.specs.Search.{keyOf, turnOf, recordsAt}
+use Rattle.records.specs.Search.{keyOf, turnOf}
+use Rattle.records.specs.Contracts.Hits.{recordsAt, Standing, hitsOf, Later}
 use Rattle.records.specs.Walk.{tagOf}
-use Rattle.records.specs.Hits.{Standing, hitsOf, Later}
 use Rattle.records.specs.Laws.Search.{search-got, passed-over, standing-less, standing-fits, choice-within, NameFound, PointsFound, PathFound}
 use Rattle.scene.specs.Scene.{none, some, first}
 

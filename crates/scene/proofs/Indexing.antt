@@ -10,11 +10,12 @@ use lib.ListN.{length, getD, set, drop, length-set, drop-of-length-le}
 use lib.Seq.{drop-cons, getD-drop, getD-set-same, getD-set-other, ext-getD}
 use lib.Dec.{eqb, ltb}
 use borrow.Author.Tests.{eq-eqb, ne-eqb, eqb-true, eqb-false, lt-ltb, le-ltb, not-true, not-false}
-use Rattle.stream.specs.Payload.{payload, room, Straight}
+use Rattle.stream.specs.Payload.{payload}
+use Rattle.stream.specs.Contracts.Payload.{room, Straight}
 use Rattle.records.specs.declared.search.Hit.{Hit}
-use Rattle.records.specs.Order.{part}
-use Rattle.records.specs.Search.{turnOf, recordsAt}
-use Rattle.records.specs.Hits.{Standing}
+use Rattle.records.specs.Records.{part}
+use Rattle.records.specs.Search.{turnOf}
+use Rattle.records.specs.Contracts.Hits.{recordsAt, Standing}
 use Rattle.records.specs.Laws.Names.{part-length, part-at, name-length, name-at}
 use Rattle.records.specs.Laws.Records.{stands}
 use Rattle.records.specs.Laws.Search.{search-got, standing-less, standing-fits}
@@ -22,8 +23,8 @@ use Rattle.scene.specs.declared.sections.Item.{Item}
 use Rattle.scene.specs.declared.sections.Place.{Place}
 use Rattle.scene.specs.Scene.{Maybe, none, some, given, Point, placeAt, itemWith, itemAt}
 use Rattle.scene.specs.Labels.{same, pick, carries, referencePoint, pointOfLabel}
-use Rattle.scene.specs.Answers.{placesAt, placesBy, labelBy, itemsAt, itemBy, itemsBy}
-use Rattle.scene.specs.Index.{slotFrom, slotOf, Held, nobody, place, item, met, heldPlaces, heldItems, heldOf, meantBy, numberOf, Stood, Knows, Indexed}
+use Rattle.scene.specs.Contracts.Answers.{placesAt, placesBy, labelBy, itemsAt, itemBy, itemsBy}
+use Rattle.scene.specs.Contracts.Index.{slotFrom, slotOf, Held, nobody, place, item, met, heldPlaces, heldItems, heldOf, meantBy, numberOf, Stood, Knows, Indexed}
 use Rattle.scene.specs.Laws.Shift.{part-drop}
 use Rattle.scene.specs.Laws.Index.{slot-less, held-nobody, held-place, held-item}
 use Rattle.scene.proofs.Found.{One, one-listed}

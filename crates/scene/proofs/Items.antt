@@ -8,7 +8,8 @@ use native.Mathlib.Omega.{arith}
 use lib.ListN.{drop, getD}
 use lib.Seq.{getD-drop}
 use lib.Ieee.{Float}
-use Rattle.stream.specs.Payload.{payload, room}
+use Rattle.stream.specs.Payload.{payload}
+use Rattle.stream.specs.Contracts.Payload.{room}
 use Rattle.stream.specs.Laws.Payload.{payload-length}
 use Rattle.stream.specs.Numbers.{u32At}
 use Rattle.stream.specs.Laws.Numbers.{u32-drop}
@@ -19,7 +20,7 @@ use Rattle.records.specs.Laws.Walk.{entries-on}
 use Rattle.records.specs.Laws.Search.{standing-fits, standing-tells}
 use Rattle.scene.specs.declared.sections.Item.{Item}
 use Rattle.scene.specs.Scene.{Maybe, given, numberAt, bit, pointAt, behind, itemWith, itemAt}
-use Rattle.scene.specs.Answers.{Within, valueBy, spotBy, ItemStands, itemBy, itemsAt, itemsBy}
+use Rattle.scene.specs.Contracts.Answers.{Within, valueBy, spotBy, ItemStands, itemBy, itemsAt, itemsBy}
 use Rattle.scene.specs.Laws.Shift.{part-drop, number-drop, point-drop}
 use Rattle.scene.proofs.Found.{nothing, One, one-listed}
 

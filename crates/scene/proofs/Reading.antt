@@ -12,14 +12,15 @@ use lib.Ieee.{Float}
 use borrow.Author.Tests.{not-true, not-false}
 use Rattle.stream.specs.Numbers.{u16At, u32At}
 use Rattle.stream.specs.Laws.Numbers.{u16-drop, u32-drop}
-use Rattle.stream.specs.Payload.{payload, room}
+use Rattle.stream.specs.Payload.{payload}
+use Rattle.stream.specs.Contracts.Payload.{room}
 use Rattle.records.specs.declared.search.Hit.{Hit}
-use Rattle.records.specs.Order.{part}
+use Rattle.records.specs.Records.{part}
 use Rattle.records.specs.Laws.Search.{standing-tells}
 use Rattle.scene.specs.declared.sections.FeatureName.{FeatureName}
 use Rattle.scene.specs.declared.sections.Path.{Path}
 use Rattle.scene.specs.Scene.{numberAt, pointAt, pointsAt, featureAt, variableAt, placeAt, formAt, pathAt}
-use Rattle.scene.specs.Answers.{Within, PathWithin, featuresAt, featuresBy, featureBy, variablesAt, placesAt, pointsFrom, pointsBy, pathsFrom, pathsBy}
+use Rattle.scene.specs.Contracts.Answers.{Within, PathWithin, featuresAt, featuresBy, featureBy, variablesAt, placesAt, pointsFrom, pointsBy, pathsFrom, pathsBy}
 use Rattle.scene.specs.Laws.Shift.{part-drop, number-drop, point-drop, points-drop, cubics-drop}
 use Rattle.scene.proofs.Found.{nothing, One, Named, one-listed, one-first, points-end, cubics-end, polyline-ends}
 

@@ -10,7 +10,7 @@ use Rattle.scene.specs.declared.sections.Path.{Path}
 use Rattle.scene.specs.declared.sections.Points.{Points}
 use Rattle.scene.specs.Scene.{Maybe, none, some, Point, pointAt, pointsAt, DrawnPath}
 use Rattle.scene.specs.Labels.{startOf, firstStart, meanPoint, meanOrStart, referencePoint}
-use Rattle.scene.specs.Answers.{spotBy, pointsFrom, pointsBy, pathsFrom, pathsBy, itemBy}
+use Rattle.scene.specs.Contracts.Answers.{spotBy, pointsFrom, pointsBy, pathsFrom, pathsBy, itemBy}
 
 -- ---- the first path's start
 module _ (l : List ℕ) (p : ℕ) (c : Path) (e : pathsFrom l p 0 ≡ pathsBy l 0 c) where

@@ -7,7 +7,8 @@ use native.Mathlib.Omega.{arith}
 use lib.Dec.{eqb}
 use lib.Ieee.{Float, binary64, ofBits}
 use borrow.Author.Tests.{not-true, not-false}
-use Rattle.stream.specs.Payload.{payload, rest}
+use Rattle.stream.specs.Payload.{payload}
+use Rattle.stream.specs.Contracts.Payload.{rest}
 use Rattle.stream.specs.Numbers.{floatAt}
 use Rattle.stream.specs.declared.Float64.{Float64}
 use Rattle.stream.specs.declared.Float64.the-variants.{Finite, NotFinite}

@@ -6,3 +6,4 @@ pub mod Shift
 pub mod Widths
 pub mod Answers
 pub mod Rising
+pub mod Samples

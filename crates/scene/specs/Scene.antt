@@ -8,9 +8,8 @@ use lib.Ieee.{Float, binary64, ofBits}
 use Rattle.stream.specs.Numbers.{u16At, u32At, floatAt}
 use Rattle.stream.specs.declared.Float64.{Float64}
 use Rattle.stream.specs.declared.Float64.the-variants.{Finite, NotFinite}
-use Rattle.records.specs.Records.{valuesWidth}
+use Rattle.records.specs.Records.{valuesWidth, part}
 use Rattle.records.specs.Walk.{Entry, entries}
-use Rattle.records.specs.Order.{part}
 use Rattle.records.specs.Search.{recordsOf}
 use Rattle.records.specs.Values.{flattenIn}
 

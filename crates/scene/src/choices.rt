@@ -2,9 +2,9 @@
 ghost use mathlib.Core.Path.{_≡_};
 ghost use Prim.Native.Nat.{_≤_};
 ghost use Rattle.stream.specs.Payload.{payload};
-ghost use Rattle.records.specs.Search.{recordsAt};
+ghost use Rattle.records.specs.Contracts.Hits.{recordsAt};
 ghost use Rattle.scene.specs.Scene.{sceneOf, numberAt, first};
-ghost use Rattle.scene.specs.Answers.{valueBy, spotBy, frameBy};
+ghost use Rattle.scene.specs.Contracts.Answers.{valueBy, spotBy, frameBy};
 use crate::numbers::Spot;
 use crate::numbers::Value;
 use crate::numbers::number;

@@ -2,12 +2,13 @@
 ghost use mathlib.Core.Path.{_≡_};
 ghost use Prim.Native.Nat.{_+_, _≤_, _<_};
 ghost use lib.ListN.{length, getD, set, drop};
-ghost use Rattle.stream.specs.Payload.{payload, room};
-ghost use Rattle.records.specs.Order.{part};
+ghost use Rattle.stream.specs.Payload.{payload};
+ghost use Rattle.stream.specs.Contracts.Payload.{room};
+ghost use Rattle.records.specs.Records.{part};
 ghost use Rattle.scene.specs.Scene.{some, none, placeAt, itemAt};
 ghost use Rattle.scene.specs.Labels.{same, pick, carries, referencePoint, pointOfLabel};
-ghost use Rattle.scene.specs.Answers.{spotBy, placesAt, itemsAt};
-ghost use Rattle.scene.specs.Index.{slotOf, nobody, heldPlaces, numberOf, Stood, Knows, Indexed, IndexOrNone};
+ghost use Rattle.scene.specs.Contracts.Answers.{spotBy, placesAt, itemsAt};
+ghost use Rattle.scene.specs.Contracts.Index.{slotOf, nobody, heldPlaces, numberOf, Stood, Knows, Indexed, IndexOrNone};
 use crate::labels::point_of_label;
 use crate::labels::reference_point;
 use crate::names::is_labelled;

@@ -2,11 +2,12 @@
 ghost use mathlib.Core.Path.{_≡_};
 ghost use mathlib.Core.Bool.{true, false};
 ghost use Prim.Native.Nat.{_+_, _*_, _≤_};
-ghost use Rattle.stream.specs.Payload.{payload, room};
-ghost use Rattle.records.specs.Order.{part};
+ghost use Rattle.stream.specs.Payload.{payload};
+ghost use Rattle.stream.specs.Contracts.Payload.{room};
+ghost use Rattle.records.specs.Records.{part};
 ghost use Rattle.scene.specs.Scene.{some, none, pointsAt};
 ghost use Rattle.scene.specs.Labels.{meanPoint, firstStart, meanOrStart, referencePoint, greater, consider, considerAt, itemKey, bestPlace, bestItem, pointOfLabel};
-ghost use Rattle.scene.specs.Answers.{considerPlace, considerItem, pointBy, spotBy, keyBy, bestBy, pointsFrom, pathsFrom, placesAt, itemsAt, itemBy};
+ghost use Rattle.scene.specs.Contracts.Answers.{considerPlace, considerItem, pointBy, spotBy, keyBy, bestBy, pointsFrom, pathsFrom, placesAt, itemsAt, itemBy};
 use crate::names::bears;
 use crate::names::is_called;
 use crate::numbers::Point;

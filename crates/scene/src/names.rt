@@ -2,10 +2,11 @@
 ghost use mathlib.Core.Path.{_≡_};
 ghost use Prim.Native.Nat.{_+_, _≤_};
 ghost use lib.ListN.{getD};
-ghost use Rattle.stream.specs.Payload.{payload, room};
-ghost use Rattle.records.specs.Order.{part};
+ghost use Rattle.stream.specs.Payload.{payload};
+ghost use Rattle.stream.specs.Contracts.Payload.{room};
+ghost use Rattle.records.specs.Records.{part};
 ghost use Rattle.scene.specs.Labels.{same, carries};
-ghost use Rattle.scene.specs.Answers.{labelBy};
+ghost use Rattle.scene.specs.Contracts.Answers.{labelBy};
 use records::wide;
 use stream::byte;
 

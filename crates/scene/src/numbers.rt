@@ -2,9 +2,10 @@
 ghost use mathlib.Core.Path.{_≡_};
 ghost use mathlib.Core.Bool.{true, false};
 ghost use Prim.Native.Nat.{_+_, _*_, _≤_};
-ghost use Rattle.stream.specs.Payload.{payload, room};
+ghost use Rattle.stream.specs.Payload.{payload};
+ghost use Rattle.stream.specs.Contracts.Payload.{room};
 ghost use Rattle.scene.specs.Scene.{given, bit, numberAt, pointAt};
-ghost use Rattle.scene.specs.Answers.{valueBy, spotBy, pointBy};
+ghost use Rattle.scene.specs.Contracts.Answers.{valueBy, spotBy, pointBy};
 use stream::Float64;
 
 #[repr(C)]

@@ -2,11 +2,12 @@
 ghost use mathlib.Core.Path.{_≡_};
 ghost use mathlib.Core.Bool.{true, false};
 ghost use Prim.Native.Nat.{_+_, _*_, _≤_};
-ghost use Rattle.stream.specs.Payload.{payload, room};
+ghost use Rattle.stream.specs.Payload.{payload};
+ghost use Rattle.stream.specs.Contracts.Payload.{room};
 ghost use lib.ListN.{drop};
-ghost use Rattle.records.specs.Hits.{Later};
+ghost use Rattle.records.specs.Contracts.Hits.{Later};
 ghost use Rattle.scene.specs.Scene.{itemAt};
-ghost use Rattle.scene.specs.Answers.{Within, PathWithin, featuresAt, featuresBy, featureBy, variablesAt, variablesBy, placesAt, placesBy, ItemStands, itemsAt, itemBy, itemsBy, pointsFrom, pointsBy, pathsFrom, pathsBy};
+ghost use Rattle.scene.specs.Contracts.Answers.{Within, PathWithin, featuresAt, featuresBy, featureBy, variablesAt, variablesBy, placesAt, placesBy, ItemStands, itemsAt, itemBy, itemsBy, pointsFrom, pointsBy, pathsFrom, pathsBy};
 use crate::numbers::Spot;
 use crate::numbers::Value;
 use crate::numbers::has_bit;

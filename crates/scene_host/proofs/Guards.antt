@@ -5,13 +5,14 @@ use Prim.Native.Nat.{ℕ, _+_, _*_, _≤_, _<_}
 use native.Mathlib.Omega.{arith}
 use lib.ListN.{length}
 use borrow.Author.Tests.{le-leb, lt-leb}
-use Rattle.stream.specs.Payload.{payload, room}
+use Rattle.stream.specs.Payload.{payload}
+use Rattle.stream.specs.Contracts.Payload.{room}
 use Rattle.stream.specs.Laws.Payload.{payload-length}
-use Rattle.records.specs.Order.{part}
+use Rattle.records.specs.Records.{part}
 use Rattle.scene.specs.Scene.{Maybe, none, some, Point, pointAt, sceneOf}
 use Rattle.scene.specs.Labels.{pointOfLabel}
-use Rattle.scene.specs.Answers.{placesAt, itemsAt}
-use Rattle.scene_host.specs.Guarded.{spotIn, labelIn}
+use Rattle.scene.specs.Contracts.Answers.{placesAt, itemsAt}
+use Rattle.scene_host.specs.Contracts.Guarded.{spotIn, labelIn}
 
 module _ (s : List ℕ) (at i : ℕ) {m : Maybe Point} where
   pub no-spot : m ≡ none → room s < at + 16 * i + 16 → m ≡ spotIn (payload s) at i

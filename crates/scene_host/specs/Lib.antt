@@ -1,3 +1,3 @@
 -- The comparison's questions, and refusals computed on whole streams.
-pub mod Guarded
-pub mod Sheets
+pub mod Contracts
+pub mod Laws

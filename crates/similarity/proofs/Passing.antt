@@ -28,7 +28,7 @@ use denote.Steps.{owned, nothing}
 use denote.Triple.Statement.{Contract}
 use denote.Triple.Spec.{tripleOf}
 use denote.Triple.Walked.{says}
-use Rattle.similarity.specs.Passes.{stepOf, passed}
+use Rattle.similarity.specs.Contracts.Passes.{stepOf, passed}
 use Rattle.similarity.specs.declared.fit.Control.{Control}
 use Rattle.similarity.specs.declared.fit.Pass.{Pass}
 use Rattle.similarity.proofs.fit.Control as T

@@ -3,3 +3,4 @@ pub mod Project
 pub mod Bearing
 pub mod Fitted
 pub mod Passes
+pub mod Projects

@@ -1,5 +1,5 @@
 -- The similarity that places a drawing on the Earth.
 pub mod Projection
 pub mod Fit
-pub mod Passes
+pub mod Contracts
 pub mod Laws

@@ -1,11 +1,10 @@
 -- Canvas points to the Earth: `plane_offset` and `to_lonlat` of the source's register.rs, operation by operation.
-use mathlib.Core.Path.{_≡_, refl}
 use lib.Ieee.{Float, binary64, ofBits, neg, add, sub, mul, div}
 use Rattle.float.specs.Functions.{roundOf}
 use Rattle.elementary.specs.Functions.{toRadiansOf, sinOf, cosOf}
 use Rattle.geodesy.specs.declared.LonLat.{LonLat}
 use Rattle.geodesy.specs.declared.Metres.{Metres}
-use Rattle.geodesy.specs.Geodesy.{mercatorForwardOf, mercatorInverseOf, longitudeOf, stretchOf, northOf}
+use Rattle.geodesy.specs.Geodesy.{mercatorForwardOf, mercatorInverseOf}
 use Rattle.similarity.specs.declared.projection.Registration.{Registration}
 use Rattle.similarity.specs.declared.projection.Projection.{Projection}
 
@@ -46,10 +45,6 @@ projectOf p x y =
     let n = add binary64 (mul binary64 (neg dx) (p .sin)) (mul binary64 dy (p .cos)) in
     mercatorInverseOf (record { x = add binary64 (p .east) e; y = add binary64 (p .north) n })
 
-pub projects : (r : Registration) (x y : Float) → projectOf (projectionOf r) x y ≡ toLonLatOf r x y
-unfolding projectOf projectionOf toLonLatOf planeOffsetOf
-projects r x y = refl
-
 -- ---- `round9` and `geo` of the source's convert.rs: the position that is given out
 abbrev pub billion : Float
 billion = ofBits binary64 0x41cdcd6500000000
@@ -62,23 +57,3 @@ geoOf r x y = let p = toLonLatOf r x y in record { lon = round9Of (p .lon); lat 
 
 unfoldable pub geoBy : Projection → Float → Float → LonLat
 geoBy t x y = let p = projectOf t x y in record { lon = round9Of (p .lon); lat = round9Of (p .lat) }
-
-pub geo-projects : (r : Registration) (x y : Float) → geoBy (projectionOf r) x y ≡ geoOf r x y
-unfolding geoBy geoOf
-geo-projects r x y = rw projects
-
--- ---- `geoBy` in stages: the longitude that is given out with the exponential of the ordinate, and the latitude of its arc tangent
--- the point's position on the plane
-unfoldable pub planeOf : Projection → Float → Float → Metres
-planeOf p x y =
-    let dx = mul binary64 (sub binary64 x (p .x)) (p .scale) in
-    let dy = mul binary64 (sub binary64 y (p .y)) (p .scale) in
-    let e = add binary64 (mul binary64 dx (p .cos)) (mul binary64 dy (p .sin)) in
-    let n = add binary64 (mul binary64 (neg dx) (p .sin)) (mul binary64 dy (p .cos)) in
-    record { x = add binary64 (p .east) e; y = add binary64 (p .north) n }
-
-unfoldable pub stretchedOf : Projection → Float → Float → LonLat
-stretchedOf p x y = let m = planeOf p x y in record { lon = round9Of (longitudeOf (m .x)); lat = stretchOf (m .y) }
-
-unfoldable pub latitudeOf : Float → Float
-latitudeOf a = round9Of (northOf a)

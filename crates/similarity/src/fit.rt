@@ -3,7 +3,7 @@ ghost use mathlib.Core.Path.{_≡_};
 ghost use Prim.Native.Nat.{_≤_};
 ghost use lib.ListN.{length, take, drop};
 ghost use Rattle.similarity.specs.Fit.{markOf, noSums, added, dividedBy, noMoments, momented, degenerate, fitAt, solvedOf, fitOf};
-ghost use Rattle.similarity.specs.Passes.{firstSums, anchorAt, stepOf, passed, aboutCentroids, aboutAnchor, fitOfPass};
+ghost use Rattle.similarity.specs.Contracts.Passes.{firstSums, anchorAt, stepOf, passed, aboutCentroids, aboutAnchor, fitOfPass};
 use elementary::atan2;
 use elementary::hypot;
 use elementary::to_degrees;

@@ -1,7 +1,8 @@
 // Canvas points to the Earth.
 ghost use mathlib.Core.Path.{_≡_};
-ghost use Rattle.similarity.specs.Projection.{projectionOf, projectOf, round9Of, geoBy, planeOf, stretchedOf, latitudeOf};
-ghost use Rattle.elementary.specs.Stages.{atanThird};
+ghost use Rattle.similarity.specs.Projection.{projectionOf, projectOf, round9Of, geoBy};
+ghost use Rattle.similarity.specs.Contracts.Stages.{planeOf, stretchedOf, latitudeOf};
+ghost use Rattle.elementary.specs.Contracts.Stages.{atanThird};
 use elementary::atan_third;
 use elementary::cos;
 use elementary::sin;

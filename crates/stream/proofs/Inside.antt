@@ -6,7 +6,8 @@ use native.Mathlib.Omega.{arith}
 use lib.ListN.{length, getD}
 use lib.Seq.{getD-drop}
 use Rattle.stream.specs.Numbers.{u16At, u32At, u64At}
-use Rattle.stream.specs.Payload.{payload, room, placeOf, rest, Straight}
+use Rattle.stream.specs.Payload.{payload}
+use Rattle.stream.specs.Contracts.Payload.{room, placeOf, rest, Straight}
 use Rattle.stream.specs.Laws.Payload.{payload-at, within}
 
 -- q is where byte i of the rest stands

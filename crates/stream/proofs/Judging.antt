@@ -10,7 +10,8 @@ use native.Mathlib.Omega.{arith}
 use borrow.Author.Tests.{lt-leb, le-leb, eq-eqb, ne-eqb}
 use lib.ListN.{length}
 use Rattle.stream.specs.Numbers.{u32At}
-use Rattle.stream.specs.Blocks.{wordSum, checked, allChecked, sized, blocksOf}
+use Rattle.stream.specs.Blocks.{wordSum, checked, allChecked, sized}
+use Rattle.stream.specs.Contracts.Blocks.{blocksOf}
 use Rattle.stream.specs.declared.Blocks.the-variants.{Fine, Size, Check}
 
 pub wordSum-more : (s : List ℕ) (p k : ℕ) → wordSum s p (k + 1) ≡ wordSum s p k + u32At s (p + 4 * k)

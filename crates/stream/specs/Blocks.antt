@@ -1,12 +1,10 @@
 -- The blocks of a stream: 512 bytes each, 127 words and a word that checks them. Conditions 1 and 2.
 use Prim.Native.Nat.{ℕ, zero, suc, _+_, _*_, _/_, _%_, _^_}
 use mathlib.Core.List.{List}
-use mathlib.Core.Bool.{Bool, true, _&&_, cond}
+use mathlib.Core.Bool.{Bool, true, _&&_}
 use lib.ListN.{length}
 use lib.Dec.{eqb, leb}
 use Rattle.stream.specs.Numbers.{u32At}
-use Rattle.stream.specs.declared.Blocks.{Blocks}
-use Rattle.stream.specs.declared.Blocks.the-variants.{Fine, Size, Check}
 
 -- condition 1: not empty, whole blocks, not too many
 unfoldable pub sized : List ℕ → Bool
@@ -25,12 +23,3 @@ checked s i = eqb ((wordSum s (512 * i) 127 + i) % 2 ^ 32) (u32At s (512 * i + 5
 unfoldable pub allChecked : List ℕ → ℕ → Bool
 allChecked s zero = true
 allChecked s (suc n) = allChecked s n && checked s n
-
-unfoldable pub blocksOf : List ℕ → Blocks
-blocksOf s = cond (sized s) (cond (allChecked s (length s / 512)) (Fine (length s / 512)) Check) Size
-
--- the number of the refusal, 0 for none
-abbrev pub refusalOf : Blocks → ℕ
-refusalOf (Fine n) = 0
-refusalOf Size = 1
-refusalOf Check = 2

@@ -1,3 +1,4 @@
 -- The laws of these definitions that callers use.
 pub mod Numbers
 pub mod Payload
+pub mod Samples

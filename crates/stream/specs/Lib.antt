@@ -2,5 +2,5 @@
 pub mod Numbers
 pub mod Blocks
 pub mod Payload
-pub mod Samples
+pub mod Contracts
 pub mod Laws

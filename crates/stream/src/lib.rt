@@ -4,8 +4,9 @@ ghost use mathlib.Core.Bool.{Bool, true, false};
 ghost use Prim.Native.Nat.{_+_, _*_, _<_, _≤_};
 ghost use lib.ListN.{length, getD};
 ghost use Rattle.stream.specs.Numbers.{u16At, u32At, u64At, floatAt};
-ghost use Rattle.stream.specs.Blocks.{checked, blocksOf};
-ghost use Rattle.stream.specs.Payload.{room, placeOf, rest, partFrom, Straight};
+ghost use Rattle.stream.specs.Blocks.{checked};
+ghost use Rattle.stream.specs.Contracts.Blocks.{blocksOf};
+ghost use Rattle.stream.specs.Contracts.Payload.{room, placeOf, rest, partFrom, Straight};
 
 mod numbers;
 

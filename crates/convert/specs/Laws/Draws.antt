@@ -13,8 +13,8 @@ use Rattle.scene.specs.Scene.{Maybe, none, some, Point, DrawnPath, DrawnItem}
 use Rattle.register.specs.Register.{Warning, orValue}
 use Rattle.densify.specs.Densify.{Drawn, Made, closeRingOf, densifyPolylineOf}
 use Rattle.densify.specs.Laws.Bounds.{each-append}
-use Rattle.densify.specs.Laws.Replay.{drawsOf, replayed, Granted, Replays, replayed-append, granted-append, replayed-left, fellShort, replayed-hit}
-use Rattle.densify.specs.Laws.Replay.{path-replays, densify-replays, ellipse-replays, box-replays}
+use Rattle.densify.specs.Laws.Replay.{replayed, Replays, replayed-append, granted-append, replayed-left, replayed-hit, path-replays, densify-replays, ellipse-replays, box-replays}
+use Rattle.densify.specs.Draws.{drawsOf, Granted, fellShort}
 use Rattle.convert.specs.declared.shapes.Shape.{Shape}
 use Rattle.convert.specs.declared.shapes.Shape.the-variants.{Box, Ellipse, Circle, Dot, Points, Paths, Missing, Nothing}
 use Rattle.convert.specs.declared.state.Ctx.{Ctx}

@@ -10,7 +10,7 @@ use borrow.Author.Tests.{le-leb, lt-leb, leb-true, leb-false, eqb-false}
 use Rattle.scene.specs.Scene.{Point}
 use Rattle.register.specs.Register.{Warning}
 use Rattle.budget.specs.declared.Budget.{Budget}
-use Rattle.densify.specs.Written.{flats, put}
+use Rattle.densify.specs.Positions.{flats, put}
 use Rattle.densify.specs.Laws.Writing.{put-length}
 use Rattle.geojson.specs.declared.Feature.{Feature}
 use Rattle.geojson.specs.Lines.{wordsOf}
@@ -18,7 +18,8 @@ use Rattle.geojson.specs.Laws.Words.{putWords-length}
 use Rattle.convert.specs.declared.state.Props.{Props}
 use Rattle.convert.specs.declared.state.State.{State}
 use Rattle.convert.specs.Convert.{Event, need, feature, warned, single, featureOf}
-use Rattle.convert.specs.Space.{Sheet, sheetBy, lacking, withFeature, withWarning, played, playAll, most, Fits, Played, lineBy, Finished}
+use Rattle.convert.specs.Space.{Sheet, lacking, withFeature, withWarning, played, playAll}
+use Rattle.convert.specs.Contracts.Space.{sheetBy, most, Fits, Played, lineBy, Finished}
 
 -- ---- what `lack` and `with_budget` say of the state r: that it is st with another number or budget
 abbrev pub Restated : State → ℕ → Budget → State → Type 0

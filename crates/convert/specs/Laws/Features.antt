@@ -15,7 +15,8 @@ use Rattle.elementary.specs.Constants as K
 use Rattle.geodesy.specs.declared.LonLat.{LonLat}
 use Rattle.geodesy.specs.Laws.Finite.{m180, m90, c90, OnEarth}
 use Rattle.similarity.specs.declared.projection.Registration.{Registration}
-use Rattle.similarity.specs.Projection.{projectionOf, geo-projects}
+use Rattle.similarity.specs.Projection.{projectionOf}
+use Rattle.similarity.specs.Laws.Projects.{geo-projects}
 use Rattle.similarity.specs.Laws.Project.{Sound, geo-in}
 use Rattle.similarity.specs.Laws.Fitted.{each-map}
 use Rattle.records.specs.Laws.Tests.{and-right}
@@ -25,7 +26,7 @@ use Rattle.register.specs.Laws.Near as R
 use Rattle.register.specs.Laws.Near.{Holds, NearItem}
 use Rattle.budget.specs.declared.Budget.{Budget}
 use Rattle.densify.specs.Densify.{Drawn, Made, closeRingOf, pathPointsOf, densifyPolylineOf, ellipseRingOf, boxRingOf}
-use Rattle.densify.specs.Written.{placedBy}
+use Rattle.densify.specs.Positions.{placedBy}
 use Rattle.densify.specs.Laws.Bounds.{Near, NearPoint, NearCubic, NearForm, InPoint, close-each, near-in, nears-in, half-near, zero-near, path-near, densify-in, ellipse-in, box-in}
 use Rattle.densify.specs.Laws.Counts.{densify-least, ring-least, ellipse-ring, box-ring}
 use Rattle.geojson.specs.declared.Feature.{Feature}

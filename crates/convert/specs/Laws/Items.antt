@@ -13,7 +13,8 @@ use Rattle.budget.specs.declared.Budget.{Budget}
 use Rattle.scene.specs.Scene.{Maybe, none, some, Point, DrawnPath, DrawnItem}
 use Rattle.densify.specs.declared.writing.Done.{Done}
 use Rattle.densify.specs.Densify.{Made, ellipseRingOf, boxRingOf}
-use Rattle.densify.specs.Written.{flats, Written}
+use Rattle.densify.specs.Contracts.Written.{Written}
+use Rattle.densify.specs.Positions.{flats}
 use Rattle.densify.specs.Laws.Writing.{flats-length, next-in}
 use Rattle.densify.specs.Laws.Replay.{ellipse-replays, box-replays}
 use Rattle.densify.specs.Laws.Counts.{ring-least, ellipse-ring, box-ring}
@@ -24,7 +25,8 @@ use Rattle.convert.specs.declared.state.Ctx.{Ctx}
 use Rattle.convert.specs.declared.state.Props.{Props}
 use Rattle.convert.specs.declared.state.State.{State}
 use Rattle.convert.specs.Convert.{Trace, missing, polylineOrPolygonOf, ringTrace, pathsOf, shapeOf, onScreen, propsOf, pointsTrace, pathsTrace, drawnOf, itemOf}
-use Rattle.convert.specs.Space.{Sheet, most, longest, sheetBy, Fits, Played, Small, Ringed}
+use Rattle.convert.specs.Space.{Sheet}
+use Rattle.convert.specs.Contracts.Space.{most, longest, sheetBy, Fits, Played, Small, Ringed}
 
 -- from a work slice of the same length
 pub played-from : {a : Trace} {j k : ℕ} {ps : List Float} {fs v : List ℕ} (st : State) {u : Sheet} {b : Budget} → j ≡ k

@@ -11,12 +11,13 @@ use borrow.Author.Tests.{le-leb, lt-leb, leb-true, leb-false}
 use Rattle.budget.specs.declared.Budget.{Budget}
 use Rattle.scene.specs.declared.sections.Path.{Path}
 use Rattle.scene.specs.Scene.{Maybe, none, some, Point, pointAt, pointsAt, cubicsAt, curve, polyline, DrawnPath}
-use Rattle.scene.specs.Answers.{formBy}
+use Rattle.scene.specs.Contracts.Answers.{formBy}
 use Rattle.scene.specs.Laws.Points.{points-length}
 use Rattle.register.specs.Register.{orValue}
 use Rattle.densify.specs.declared.writing.Done.{Done}
 use Rattle.densify.specs.Densify.{Made, plain, closeRingOf, closedIf, pathPointsOf}
-use Rattle.densify.specs.Written.{flats, pointsOf, pointsIn, closingIn, Written, drawnBy}
+use Rattle.densify.specs.Contracts.Written.{pointsIn, closingIn, Written, drawnBy}
+use Rattle.densify.specs.Positions.{flats, pointsOf}
 use Rattle.densify.specs.Laws.Writing.{flats-length, written-room, next-in, written-all, written-none, join-done, andThen-none}
 use Rattle.densify.specs.Laws.Placing.{written-points}
 use Rattle.densify.specs.Laws.Closing.{closed-done}
@@ -25,7 +26,7 @@ use Rattle.densify.specs.Laws.Replay.{path-replays}
 use Rattle.densify.specs.Laws.Sizes.{left-falls, sizeOf, path-sized}
 use Rattle.convert.specs.declared.laying.Laying.{Laying}
 use Rattle.convert.specs.Convert.{closedOutline, workOf}
-use Rattle.convert.specs.Space.{most, Outlined, Laid, Bounds, Lays, Small, LaysPath}
+use Rattle.convert.specs.Contracts.Space.{most, Outlined, Laid, Bounds, Lays, Small, LaysPath}
 
 -- ---- points of slices that agree up to n
 module _ (a b : List Float) (n : ℕ) (e : take n a ≡ take n b) where

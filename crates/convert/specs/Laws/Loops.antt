@@ -11,16 +11,17 @@ use borrow.Author.Tests.{not-true, not-false}
 use Rattle.scene.specs.declared.sections.Item.{Item}
 use Rattle.scene.specs.declared.sections.Path.{Path}
 use Rattle.scene.specs.Scene.{Maybe, none, some, given, Point, DrawnPath, DrawnItem}
-use Rattle.scene.specs.Answers.{pathsFrom, pathsBy, itemBy, itemsAt, itemsBy, PathWithin}
+use Rattle.scene.specs.Contracts.Answers.{pathsFrom, pathsBy, itemBy, itemsAt, itemsBy, PathWithin}
 use Rattle.budget.specs.declared.Budget.{Budget}
 use Rattle.densify.specs.Densify.{pathPointsOf}
-use Rattle.densify.specs.Written.{drawnBy, PathFits}
+use Rattle.densify.specs.Contracts.Written.{drawnBy, PathFits}
 use Rattle.convert.specs.declared.laying.Laying.{Laying}
 use Rattle.convert.specs.declared.state.Ctx.{Ctx}
 use Rattle.convert.specs.declared.state.Props.{Props}
 use Rattle.convert.specs.declared.state.State.{State}
 use Rattle.convert.specs.Convert.{Trace, quiet, single, warned, thenTrace, polylineOrPolygonOf, headOf, tailOf, outlineOf, pathOf, withPart, pathsOf, itemOf, itemsOf, spentOf, convertOf}
-use Rattle.convert.specs.Space.{Sheet, sheetBy, most, Fits, Played, Bounds, Lays, LaysPath, outlineBy}
+use Rattle.convert.specs.Space.{Sheet}
+use Rattle.convert.specs.Contracts.Space.{sheetBy, most, Fits, Played, Bounds, Lays, LaysPath, outlineBy}
 use Rattle.convert.specs.Laws.Playing.{played-quiet, played-stuck, played-then, played-drawn, Onward, onward-next}
 use Rattle.convert.specs.Laws.Laying.{laid-bounds}
 

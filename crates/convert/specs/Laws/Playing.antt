@@ -7,7 +7,8 @@ use borrow.Author.Tests.{ne-eqb, eqb-true, eqb-false}
 use Rattle.budget.specs.declared.Budget.{Budget}
 use Rattle.densify.specs.Densify.{Drawn, Made}
 use Rattle.convert.specs.Convert.{Event, drew, Trace, quiet, thenTrace, drawsTrace}
-use Rattle.convert.specs.Space.{Sheet, pickSheet, played, playAll, Fits, Played}
+use Rattle.convert.specs.Space.{Sheet, pickSheet, played, playAll}
+use Rattle.convert.specs.Contracts.Space.{Fits, Played}
 
 pub play-append : (es fs : List Event) (t : Sheet) → playAll (es ++ fs) t ≡ playAll fs (playAll es t)
 unfolding playAll

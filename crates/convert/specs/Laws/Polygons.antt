@@ -15,7 +15,8 @@ use Rattle.scene.specs.Scene.{Maybe, none, some, Point}
 use Rattle.register.specs.Register.{orValue}
 use Rattle.densify.specs.declared.writing.Done.{Done}
 use Rattle.densify.specs.Densify.{Made, plain, samePoint, closeRingOf}
-use Rattle.densify.specs.Written.{flats, put, pointOf, pointsOf, pointsIn, closing, closingIn, Written}
+use Rattle.densify.specs.Contracts.Written.{pointsIn, closing, closingIn, Written}
+use Rattle.densify.specs.Positions.{flats, put, pointOf, pointsOf}
 use Rattle.densify.specs.Laws.Writing.{flats-length, written-all, next-in}
 use Rattle.densify.specs.Laws.Closing.{closed-done}
 use Rattle.densify.specs.Laws.Placing.{written-points}
@@ -23,7 +24,8 @@ use Rattle.convert.specs.declared.laying.Laying.{Laying}
 use Rattle.convert.specs.declared.state.Ctx.{Ctx}
 use Rattle.convert.specs.declared.state.Props.{Props}
 use Rattle.convert.specs.Convert.{Trace, need, quiet, single, thenTrace, pickTrace, strokeOf, unwrittenOf, fillOf, shapeTrace, closedOutline, workOf, polylineOrPolygonOf, ringTrace}
-use Rattle.convert.specs.Space.{Sheet, lacking, most, longest, Fits, Played, Outlined, Laid, Bounds, Lays, Ringed}
+use Rattle.convert.specs.Space.{Sheet, lacking}
+use Rattle.convert.specs.Contracts.Space.{most, longest, Fits, Played, Outlined, Laid, Bounds, Lays, Ringed}
 use Rattle.convert.specs.Laws.Playing.{played-quiet, played-stuck, played-then, played-drawn}
 use Rattle.convert.specs.Laws.Events.{need-fits, need-lacks}
 use Rattle.convert.specs.Laws.Laying.{points-kept}

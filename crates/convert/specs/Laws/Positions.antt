@@ -15,7 +15,8 @@ use Rattle.scene.specs.Scene.{Point}
 use Rattle.budget.specs.declared.Budget.{Budget}
 use Rattle.densify.specs.declared.writing.Done.{Done}
 use Rattle.densify.specs.Densify.{Made, lastOf, densifyPolylineOf}
-use Rattle.densify.specs.Written.{flats, put, pointsIn, placing, Written}
+use Rattle.densify.specs.Contracts.Written.{pointsIn, placing, Written}
+use Rattle.densify.specs.Positions.{flats, put}
 use Rattle.densify.specs.Laws.Writing.{flats-append, flats-length, put-length, put-next, written-room}
 use Rattle.densify.specs.Laws.Placing.{points-between, placed-count}
 use Rattle.densify.specs.Laws.Counts.{densify-least}
@@ -25,7 +26,7 @@ use Rattle.convert.specs.declared.state.Ctx.{Ctx}
 use Rattle.convert.specs.declared.state.Props.{Props}
 use Rattle.convert.specs.declared.state.State.{State}
 use Rattle.convert.specs.Convert.{single, endWith, sealed, positionsOf, featureOf, strokeOf}
-use Rattle.convert.specs.Space.{sheetBy, most, longest, sealedIn, Fits, Played, Finished}
+use Rattle.convert.specs.Contracts.Space.{sheetBy, most, longest, sealedIn, Fits, Played, Finished}
 use Rattle.convert.specs.Laws.Playing.{played-drawn}
 use Rattle.convert.specs.Laws.Events.{Restated, written-lacks, written-finished}
 

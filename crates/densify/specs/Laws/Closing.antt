@@ -13,7 +13,8 @@ use borrow.Author.Tests.{le-leb, lt-leb}
 use Rattle.scene.specs.Scene.{Point}
 use Rattle.densify.specs.declared.writing.Done.{Done}
 use Rattle.densify.specs.Densify.{Drawn, Made, plain, samePoint, lastOf, closeRingOf}
-use Rattle.densify.specs.Written.{flats, pointOf, closing, closingIn, put, Written}
+use Rattle.densify.specs.Contracts.Written.{closing, closingIn, Written}
+use Rattle.densify.specs.Positions.{flats, pointOf, put}
 use Rattle.densify.specs.Laws.Writing.{written-room, join-short, join-done, written-as}
 
 -- ---- closingIn, by the code's tests

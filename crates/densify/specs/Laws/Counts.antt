@@ -16,8 +16,7 @@ use Rattle.budget.specs.declared.Budget.{Budget}
 use Rattle.budget.specs.Budget.{grantOf, takeOf}
 use Rattle.scene.specs.Scene.{Point, Cubic, Form, curve, polyline, DrawnPath}
 use Rattle.densify.specs.Densify.{Made, drawing, andThen, clamped, tiny, Block, flatOf, firstOf, secondOf, leafOf, pickMade, splitOf, flattenCubicOf, cubicsOf, formPoints}
-use Rattle.densify.specs.Densify.{samePoint, lastOf, closeRingOf, closedIf, pathPointsOf, partsOf, alongOf, samplesTo, segmentOf, segmentsOf, densifyPolylineOf}
-use Rattle.densify.specs.Densify.{arcVerticesOf, roundTo, ellipseRingOf, sharpCorners, roundedCorners, quarterOf, boxRingOf}
+use Rattle.densify.specs.Densify.{samePoint, lastOf, closeRingOf, closedIf, pathPointsOf, partsOf, alongOf, samplesTo, segmentOf, segmentsOf, densifyPolylineOf, arcVerticesOf, roundTo, ellipseRingOf, sharpCorners, roundedCorners, quarterOf, boxRingOf}
 use Rattle.densify.specs.Laws.Replay.{grantsOf, grantsOf-append, blockOf, radiusOf}
 
 -- ---- numbers

@@ -11,13 +11,15 @@ use lib.Ieee.{Float, nan}
 use borrow.Author.Tests.{leb-false}
 use Rattle.scene.specs.Scene.{Point}
 use Rattle.geodesy.specs.declared.LonLat.{LonLat}
-use Rattle.elementary.specs.Stages.{atanFirst, atanSecond, atanThird}
+use Rattle.elementary.specs.Contracts.Stages.{atanFirst, atanSecond, atanThird}
 use Rattle.similarity.specs.declared.projection.Projection.{Projection}
-use Rattle.similarity.specs.Projection.{geoBy, stretchedOf, latitudeOf}
+use Rattle.similarity.specs.Projection.{geoBy}
+use Rattle.similarity.specs.Contracts.Stages.{stretchedOf, latitudeOf}
 use Rattle.similarity.specs.Laws.Project.{geo-staged}
 use Rattle.densify.specs.declared.writing.Done.{Done}
 use Rattle.densify.specs.Densify.{Made}
-use Rattle.densify.specs.Written.{flats, pointOf, pointsOf, pointsIn, put, Written, placedBy, placing, stretchedBy, stageOf, onY, inPlace}
+use Rattle.densify.specs.Contracts.Written.{pointsIn, Written, placing, stretchedBy, stageOf, onY, inPlace}
+use Rattle.densify.specs.Positions.{flats, pointOf, pointsOf, put, placedBy}
 use Rattle.densify.specs.declared.placing.Stage.the-variants.{First, Second, Last}
 use Rattle.densify.specs.Laws.Writing.{flats-length, put-before, put-none, put-next, written-short, written-all, written-room}
 

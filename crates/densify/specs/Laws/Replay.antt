@@ -3,7 +3,7 @@ use Prim.Native.Nat.{ℕ, zero, suc, _+_, _-_, _≤_}
 use native.Mathlib.Omega.{arith}
 use mathlib.Core.Path.{_≡_, refl, ap, ap₂, subst, _∙_}
 use mathlib.Core.Bool.{Bool, true, false, _||_, or-false, or-assoc}
-use mathlib.Core.List.{List, [], _∷_, _++_, map}
+use mathlib.Core.List.{List, [], _∷_, _++_}
 use lib.Dec.{ltb}
 use lib.Ieee.{Float, binary64, div, le}
 use Rattle.float.specs.Functions.{maxOf, minOf}
@@ -15,25 +15,11 @@ use Rattle.budget.specs.Laws.Draws.{claim}
 use Rattle.scene.specs.Scene.{Point, Cubic, Form, curve, polyline, DrawnPath}
 use Rattle.densify.specs.Densify.{Drawn, Made, plain, drawing, andThen, tiny, Block, flatOf, firstOf, secondOf, leafOf, pickMade, splitOf, flattenCubicOf, cubicsOf}
 use Rattle.densify.specs.Densify.{formPoints, closedIf, pathPointsOf, segmentOf, segmentsOf, densifyPolylineOf, ellipseRingOf, boxRingOf}
-
-abbrev pub drawOf : Drawn → Draw
-drawOf d = record { want = d .want; floor = d .floor }
-
-abbrev pub drawsOf : List Drawn → List Draw
-drawsOf ds = map drawOf ds
-
--- the budget after one draw: the mark first, then `take`
-abbrev pub drawn : Budget → Drawn → Budget
-drawn b d = takeOf (record { left = b .left; hit = b .hit || d .cut }) (d .want) (d .floor) .budget
+use Rattle.densify.specs.Draws.{drawsOf, drawn, Granted, fellShort}
 
 unfoldable pub replayed : Budget → List Drawn → Budget
 replayed b [] = b
 replayed b (d ∷ ds) = replayed (drawn b d) ds
-
--- each draw is granted what `take` grants at its turn
-abbrev pub Granted : Budget → List Drawn → Type 0
-Granted b [] = Unit {0}
-Granted b (d ∷ ds) = (d .granted ≡ grantOf (b .left) (d .want) (d .floor)) × Granted (drawn b d) ds
 
 pub record Replays (b : Budget) (m : Made) : Type 0 where
   pub after-is : m .after ≡ replayed b (m .draws)
@@ -75,11 +61,6 @@ pub grantsOf-is : (b : Budget) (ds : List Drawn) → Granted b ds → grantsOf d
 unfolding grantsOf granted takeOf
 grantsOf-is b [] g = refl
 grantsOf-is b (d ∷ ds) g = ap₂ _+_ (g .0) (grantsOf-is (drawn b d) ds (g .1))
-
--- a grant fell short, or a piece was cut
-unfoldable pub fellShort : List Drawn → Bool
-fellShort [] = false
-fellShort (d ∷ ds) = d .cut || ltb (d .granted) (d .want) || fellShort ds
 
 pub replayed-hit : (b : Budget) (ds : List Drawn) → Granted b ds → replayed b ds .hit ≡ b .hit || fellShort ds
 unfolding replayed fellShort takeOf

@@ -12,7 +12,8 @@ use Rattle.budget.specs.declared.Budget.{Budget}
 use Rattle.scene.specs.Scene.{Point}
 use Rattle.densify.specs.declared.writing.Done.{Done}
 use Rattle.densify.specs.Densify.{plain, roundTo}
-use Rattle.densify.specs.Written.{flats, Written}
+use Rattle.densify.specs.Contracts.Written.{Written}
+use Rattle.densify.specs.Positions.{flats}
 use Rattle.densify.specs.Laws.Writing.{flats-length, written-short, written-none, join-short, join-done}
 use Rattle.densify.specs.Laws.Counts.{round-length}
 

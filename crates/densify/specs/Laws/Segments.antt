@@ -13,7 +13,8 @@ use Rattle.budget.specs.Budget.{grantOf, takeOf}
 use Rattle.scene.specs.Scene.{Point}
 use Rattle.densify.specs.declared.writing.Done.{Done}
 use Rattle.densify.specs.Densify.{Made, plain, andThen, alongOf, samplesTo, segmentWant, segmentOf, segmentsOf, densifyPolylineOf}
-use Rattle.densify.specs.Written.{flats, pointOf, pointsOf, pointsIn, Written}
+use Rattle.densify.specs.Contracts.Written.{pointsIn, Written}
+use Rattle.densify.specs.Positions.{flats, pointOf, pointsOf}
 use Rattle.densify.specs.Laws.Writing.{flats-length, written-short, join-short, join-done, written-as, Leads, leads-next, leads-short, leads-end}
 use Rattle.densify.specs.Laws.Counts.{parts-within, samples-length}
 

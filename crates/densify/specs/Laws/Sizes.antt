@@ -18,7 +18,8 @@ use Rattle.budget.specs.Draws.{Draw, leftAfter}
 use Rattle.scene.specs.Scene.{Point, Cubic, Form, curve, polyline, DrawnPath}
 use Rattle.densify.specs.Densify.{Made, drawing, andThen, tiny, Block, flatOf, firstOf, secondOf, leafOf, pickMade, splitOf, flattenCubicOf, cubicsOf, formPoints, closedIf, pathPointsOf}
 use Rattle.densify.specs.Densify.{segmentOf, segmentsOf, densifyPolylineOf, arcVerticesOf, ellipseRingOf, quarterOf, boxRingOf}
-use Rattle.densify.specs.Laws.Replay.{Replays, drawsOf, grantsOf, blockOf, radiusOf}
+use Rattle.densify.specs.Laws.Replay.{Replays, grantsOf, blockOf, radiusOf}
+use Rattle.densify.specs.Draws.{drawsOf}
 use Rattle.densify.specs.Laws.Counts.{Within, samples-length, close-within, arc-within, ellipse-ring, box-ring}
 
 -- what holds of both holds of the one that a test picks

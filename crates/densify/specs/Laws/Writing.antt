@@ -14,7 +14,8 @@ use Rattle.budget.specs.declared.Budget.{Budget}
 use Rattle.scene.specs.Scene.{Point}
 use Rattle.densify.specs.declared.writing.Done.{Done}
 use Rattle.densify.specs.Densify.{Made, plain, andThen}
-use Rattle.densify.specs.Written.{flats, put, Written}
+use Rattle.densify.specs.Contracts.Written.{Written}
+use Rattle.densify.specs.Positions.{flats, put}
 
 -- ---- flats
 pub flats-append : (a b : List Point) → flats (a ++ b) ≡ flats a ++ flats b

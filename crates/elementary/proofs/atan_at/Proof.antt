@@ -1,7 +1,7 @@
 use borrow.Author.Needs.{needs}
 use mathlib.Core.Path.{ap, _∙_}
 use Rattle.elementary.specs.Functions.{halvedOf, atanAt}
-use Rattle.elementary.specs.Stages.{quadrupled}
+use Rattle.elementary.specs.Contracts.Stages.{quadrupled}
 use Rattle.elementary.proofs.atan_at.Statement.{statement}
 use Rattle.elementary.proofs.atan_at.Tie as tie
 

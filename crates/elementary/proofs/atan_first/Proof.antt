@@ -2,7 +2,7 @@ use borrow.Author.Needs.{needs}
 use mathlib.Core.Path.{ap, _∙_}
 use lib.Ieee.{neg}
 use Rattle.float.specs.Laws.Tests.{taken, left}
-use Rattle.elementary.specs.Stages.{atanFirst}
+use Rattle.elementary.specs.Contracts.Stages.{atanFirst}
 use Rattle.elementary.proofs.atan_first.Statement.{statement}
 use Rattle.elementary.proofs.atan_first.Tie as tie
 

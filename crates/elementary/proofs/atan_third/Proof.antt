@@ -4,7 +4,7 @@ use lib.Ieee.{Float, binary64, sub}
 use Rattle.float.specs.Laws.Tests.{taken, left}
 use Rattle.elementary.specs.Constants as K
 use Rattle.elementary.specs.Functions.{heldOf}
-use Rattle.elementary.specs.Stages.{atanThird}
+use Rattle.elementary.specs.Contracts.Stages.{atanThird}
 use Rattle.elementary.proofs.atan_third.Statement.{statement}
 use Rattle.elementary.proofs.atan_third.Tie as tie
 

@@ -8,7 +8,8 @@ use Rattle.float.specs.Functions.{roundOf}
 use Rattle.float.specs.Laws.Tests.{yes, nan-test}
 use Rattle.elementary.specs.Constants as K
 use Rattle.elementary.specs.Series.{seriesOf, exponentialTable}
-use Rattle.elementary.specs.Functions.{heldOf, Small, expAt, expOf}
+use Rattle.elementary.specs.Functions.{heldOf, expAt, expOf}
+use Rattle.elementary.specs.Contracts.Powers.{Small}
 use Rattle.elementary.specs.Laws.Exponential.{exponent-small, exp-nan}
 use Rattle.elementary.proofs.exp.Statement.{statement}
 use Rattle.elementary.proofs.exp.Tie as tie

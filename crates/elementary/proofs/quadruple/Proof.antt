@@ -3,7 +3,7 @@ use mathlib.Core.Path.{ap, _∙_}
 use lib.Ieee.{Float, binary64, mul}
 use Rattle.elementary.specs.Constants as K
 use Rattle.elementary.specs.Functions.{heldOf}
-use Rattle.elementary.specs.Stages.{quadrupled}
+use Rattle.elementary.specs.Contracts.Stages.{quadrupled}
 use Rattle.elementary.proofs.quadruple.Statement.{statement}
 use Rattle.elementary.proofs.quadruple.Tie as tie
 

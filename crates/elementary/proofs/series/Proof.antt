@@ -3,7 +3,8 @@ use mathlib.Core.Path.{_≡_, sym, _∙_}
 use Prim.Native.Nat.{_-_, _≤_, _<_}
 use native.Mathlib.Omega.{arith}
 use lib.ListN.{length, drop}
-use Rattle.float.specs.Horner.{horner, horner-step}
+use Rattle.float.specs.Horner.{horner}
+use Rattle.float.specs.Laws.Horner.{horner-step}
 use Rattle.elementary.specs.Series.{seriesOf}
 use Rattle.elementary.proofs.Horner.{empty, first, last}
 use Rattle.elementary.proofs.series.Statement.{statement}

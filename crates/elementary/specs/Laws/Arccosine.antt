@@ -15,7 +15,7 @@ use Rattle.float.specs.Laws.Order.{le-total}
 use Rattle.float.specs.Laws.Intervals.{iv, Between, in-finite}
 use Rattle.float.specs.Laws.Expressions.{Expr, var, lit, plus, less, times, over}
 use Rattle.root.specs.Root.{rootOf}
-use Rattle.root.specs.Laws.{root-from-zero}
+use Rattle.root.specs.Laws.Root.{root-from-zero}
 use Rattle.elementary.specs.Constants as K
 use Rattle.elementary.specs.Functions.{atanOf, acosOf}
 use Rattle.elementary.specs.Laws.Codes.{encloses, enclosed}

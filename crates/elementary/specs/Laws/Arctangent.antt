@@ -18,7 +18,7 @@ use Rattle.float.specs.Laws.Intervals.{Iv, iv, Between, in-finite}
 use Rattle.float.specs.Laws.Expressions.{Expr, var, lit, plus, less, times, over, bind}
 use Rattle.float.specs.Laws.Comparisons.{lt→le, neither}
 use Rattle.root.specs.Root.{rootOf}
-use Rattle.root.specs.Laws.{minusOne, rootTwo, unit-root}
+use Rattle.root.specs.Laws.Root.{minusOne, rootTwo, unit-root}
 use Rattle.elementary.specs.Constants as K
 use Rattle.elementary.specs.Series.{oddOf, arctangentTable}
 use Rattle.elementary.specs.Functions.{heldOf, halvedOf, atanAt, atanUp, atanOf}

@@ -23,7 +23,8 @@ use Rattle.float.specs.Laws.Every.{every, every-at, split-at}
 use Rattle.float.specs.Laws.Whole.{round-cuts, whole-value}
 use Rattle.elementary.specs.Constants as K
 use Rattle.elementary.specs.Series.{seriesOf, exponentialTable}
-use Rattle.elementary.specs.Functions.{heldOf, Small, twoTo, expAt, expOf}
+use Rattle.elementary.specs.Functions.{heldOf, twoTo, expAt, expOf}
+use Rattle.elementary.specs.Contracts.Powers.{Small}
 use Rattle.elementary.specs.Laws.Codes.{encloses, enclosed, plain-code, plain-range}
 use Rattle.elementary.specs.Laws.Held.{held-in, held-keeps}
 use Rattle.elementary.specs.Laws.Powers.{power, two-to-in}

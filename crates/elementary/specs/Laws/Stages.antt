@@ -19,7 +19,7 @@ use Rattle.float.specs.Laws.Order.{le-trans}
 use Rattle.float.specs.Laws.Expressions.{var, lit, over}
 use Rattle.elementary.specs.Constants as K
 use Rattle.elementary.specs.Functions.{heldOf, expOf, halvedOf, atanAt, atanUp, atanOf}
-use Rattle.elementary.specs.Stages.{atanFirst, atanSecond, quadrupled, atanThird}
+use Rattle.elementary.specs.Contracts.Stages.{atanFirst, atanSecond, quadrupled, atanThird}
 use Rattle.elementary.specs.Laws.Codes.{encloses, enclosed}
 use Rattle.elementary.specs.Laws.Powers.{power}
 use Rattle.elementary.specs.Laws.Exponential.{exp-least, exp-most, exp-nan, exp-in}

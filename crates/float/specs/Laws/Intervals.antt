@@ -10,7 +10,7 @@ use lib.Ieee.{Float, nan, inf, fin, binary64, neg, add, sub, mul, div, le}
 use lib.Ieee.Fits.{up-pos, and-l, and-r}
 use lib.Ieee.Scale.{finite}
 unfoldable pub use Rattle.float.specs.Horner.{horner}
-pub use Rattle.float.specs.Horner.{horner-step}
+pub use Rattle.float.specs.Laws.Horner.{horner-step}
 use Rattle.float.specs.Laws.Signed.{P, N, neg-le}
 use Rattle.float.specs.Laws.Operations.{add-mono, finite-neg}
 use Rattle.float.specs.Laws.Quick.{Same, qneg, qadd, qsub, qmul, qdiv, neg-is, add-same, sub-same, mul-same, div-same}

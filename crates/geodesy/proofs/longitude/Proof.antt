@@ -1,5 +1,5 @@
 use borrow.Author.Needs.{needs}
-use Rattle.geodesy.specs.Geodesy.{longitudeOf}
+use Rattle.geodesy.specs.Contracts.Stages.{longitudeOf}
 use Rattle.geodesy.proofs.longitude.Statement.{statement}
 use Rattle.geodesy.proofs.longitude.Tie as tie
 

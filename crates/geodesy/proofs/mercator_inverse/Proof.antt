@@ -1,5 +1,6 @@
 use borrow.Author.Needs.{needs}
-use Rattle.geodesy.specs.Geodesy.{mercatorInverseOf, longitudeOf, stretchOf, northOf}
+use Rattle.geodesy.specs.Geodesy.{mercatorInverseOf}
+use Rattle.geodesy.specs.Contracts.Stages.{longitudeOf, stretchOf, northOf}
 use Rattle.geodesy.proofs.mercator_inverse.Statement.{statement}
 use Rattle.geodesy.proofs.mercator_inverse.Tie as tie
 

@@ -1,5 +1,5 @@
 use borrow.Author.Needs.{needs}
-use Rattle.geodesy.specs.Geodesy.{northOf}
+use Rattle.geodesy.specs.Contracts.Stages.{northOf}
 use Rattle.geodesy.proofs.north.Statement.{statement}
 use Rattle.geodesy.proofs.north.Tie as tie
 

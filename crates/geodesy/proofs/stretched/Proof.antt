@@ -1,5 +1,5 @@
 use borrow.Author.Needs.{needs}
-use Rattle.geodesy.specs.Geodesy.{stretchOf}
+use Rattle.geodesy.specs.Contracts.Stages.{stretchOf}
 use Rattle.geodesy.proofs.stretched.Statement.{statement}
 use Rattle.geodesy.proofs.stretched.Tie as tie
 

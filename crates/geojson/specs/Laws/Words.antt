@@ -8,7 +8,8 @@ use lib.ListN.{length, take, drop, set, length-append, length-drop}
 use lib.Seq.{sets, sets-eq, length-take-le}
 use borrow.Author.Tests.{le-leb, lt-leb}
 use Rattle.geojson.specs.declared.Feature.{Feature}
-use Rattle.geojson.specs.Lines.{putWords, wordsOf, Lined}
+use Rattle.geojson.specs.Lines.{putWords, wordsOf}
+use Rattle.geojson.specs.Contracts.Lined.{Lined}
 
 pub putWords-length : (w : List ℕ) (at : ℕ) (vs : List ℕ) → at + length vs ≤ length w → length (putWords w at vs) ≡ length w
 unfolding putWords

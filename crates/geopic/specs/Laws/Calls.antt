@@ -11,7 +11,7 @@ use borrow.Author.Tests.{le-leb, lt-leb, leb-true, leb-false, eq-eqb, ne-eqb, eq
 use Rattle.stream.specs.Payload.{payload}
 use Rattle.records.specs.Refusals.{refusalOf}
 use Rattle.scene.specs.Scene.{Maybe, Point, Scene, sceneOf}
-use Rattle.scene.specs.Answers.{itemsAt}
+use Rattle.scene.specs.Contracts.Answers.{itemsAt}
 use Rattle.scene.specs.Laws.Answers.{scene-lists}
 use Rattle.similarity.specs.declared.fit.Control.{Control}
 use Rattle.similarity.specs.declared.projection.Projection.{Projection}
@@ -20,15 +20,16 @@ use Rattle.similarity.specs.Projection.{projectionOf}
 use Rattle.register.specs.declared.warnings.Warned.{Warned}
 use Rattle.register.specs.declared.outcome.Outcome.{Outcome}
 use Rattle.register.specs.Register.{Warning, f0, controlsOf, anchorOf, registrationBy, registrationOf, registerRefusal, registerWarnings}
-use Rattle.register.specs.Outcome.{accepted, refusedBy, pickOutcome, outcomeOf}
-use Rattle.register.specs.Warned.{pushed, allPushed}
-use Rattle.register.specs.Warned as register
+use Rattle.register.specs.Contracts.Outcome.{accepted, refusedBy, pickOutcome, outcomeOf}
+use Rattle.register.specs.Contracts.Warned.{pushed, allPushed}
+use Rattle.register.specs.Contracts.Warned as register
 use Rattle.budget.specs.declared.Budget.{Budget}
 use Rattle.geojson.specs.Lines.{putWords}
 use Rattle.geojson.specs.Laws.Words.{pair-put}
 use Rattle.geopic.specs.declared.Answer.{Answer}
 use Rattle.convert.specs.Convert.{warned, Trace, onScreen, convertOf}
-use Rattle.convert.specs.Space.{Sheet, lacking, withWarning, sheetBy, Fits, Played}
+use Rattle.convert.specs.Space.{Sheet, lacking, withWarning}
+use Rattle.convert.specs.Contracts.Space.{sheetBy, Fits, Played}
 use Rattle.geopic.specs.Geopic.{maxStep, fresh, ctxOf, traceOf, Lent, blank, sheetOf, numberOf, refusal, acceptance, answerOf, clear, sliceBy, lentAfter}
 use Rattle.convert.specs.Laws.Playing.{played-quiet, played-stuck, played-then}
 use Rattle.convert.specs.Laws.Events.{warned-fits, warned-lacks}

@@ -18,7 +18,7 @@ use Rattle.records.specs.Refusals.{valuesRefusal, refusalOf}
 use Rattle.scene.specs.Scene.{Scene, sceneOf}
 use Rattle.similarity.specs.Fit.{fitOf}
 use Rattle.register.specs.Register.{var, geoFrame, f0, maxScale, isMercator, controlsOf, allPlaced, anchorOf, anchorPlaced, isSome, scaleValue, pxMode, above0, registrationOf, registerRefusal}
-use Rattle.densify.specs.Written.{flats}
+use Rattle.densify.specs.Positions.{flats}
 use Rattle.convert.specs.Convert.{Event, drew, need, feature, warned}
 use Rattle.convert.specs.Space.{Sheet, pickSheet, lacking, withFeature, withWarning, played, playAll}
 use Rattle.geopic.specs.declared.Answer.{Answer}

@@ -8,14 +8,15 @@ use borrow.Author.Tests.{eq-eqb, eqb-true, eqb-false}
 use Rattle.stream.specs.Payload.{payload}
 use Rattle.records.specs.Refusals.{refusalOf}
 use Rattle.scene.specs.Scene.{Point, Scene, sceneOf}
-use Rattle.similarity.specs.Projection.{geoOf, geo-projects}
+use Rattle.similarity.specs.Projection.{geoOf}
+use Rattle.similarity.specs.Laws.Projects.{geo-projects}
 use Rattle.register.specs.Register.{Warning, registrationOf, registerRefusal, registerWarnings}
 use Rattle.register.specs.Laws.Sound.{accepted-tame, accepted-sound}
 use Rattle.budget.specs.Draws.{leftAfter, Claim}
 use Rattle.budget.specs.Laws.Draws.{claim}
 use Rattle.densify.specs.Densify.{Drawn}
-use Rattle.densify.specs.Written.{placedBy}
-use Rattle.densify.specs.Laws.Replay.{drawsOf, Granted, fellShort}
+use Rattle.densify.specs.Positions.{placedBy}
+use Rattle.densify.specs.Draws.{drawsOf, Granted, fellShort}
 use Rattle.geojson.specs.declared.Feature.{Feature}
 use Rattle.convert.specs.Convert.{Event, warned, onScreen, convertOf, drawsIn, EachFeature}
 use Rattle.convert.specs.Laws.Draws.{trace-left, trace-hit, convert-replays}

@@ -5,9 +5,10 @@ use Prim.Native.Nat.{ℕ, _+_, _≤_, _<_}
 use native.Mathlib.Omega.{arith}
 use lib.ListN.{length, getD, length-drop, length-take}
 use lib.Seq.{getD-take, getD-drop}
-use Rattle.stream.specs.Payload.{payload, room, rest}
+use Rattle.stream.specs.Payload.{payload}
+use Rattle.stream.specs.Contracts.Payload.{room, rest}
 use Rattle.stream.specs.Laws.Payload.{payload-length}
-use Rattle.records.specs.Order.{part}
+use Rattle.records.specs.Records.{part}
 
 pub part-length : (l : List ℕ) (p n : ℕ) → p + n ≤ length l → length (part l p n) ≡ n
 unfolding part

@@ -8,7 +8,8 @@ use lib.ListN.{length}
 use lib.Dec.{eqb, leb}
 use borrow.Author.Tests.{leb-true}
 use Rattle.stream.specs.Blocks.{sized, allChecked}
-use Rattle.stream.specs.Payload.{payload, room}
+use Rattle.stream.specs.Payload.{payload}
+use Rattle.stream.specs.Contracts.Payload.{room}
 use Rattle.records.specs.Layout.{laidOut}
 use Rattle.records.specs.Limits.{limited}
 use Rattle.records.specs.Refusals.{valuesRefusal, refusalOf}

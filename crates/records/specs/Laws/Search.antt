@@ -19,8 +19,8 @@ use Rattle.records.specs.declared.search.Turn.{Turn}
 use Rattle.records.specs.declared.search.Turn.the-variants.{Here, On, Past}
 use Rattle.records.specs.Records.{pick, allZero, endOf, choiceWidth, valuesWidth, byTag, recordOf}
 use Rattle.records.specs.Walk.{more, entries, tagOf}
-use Rattle.records.specs.Search.{keyOf, past, pickTurn, turnOf, sought, recordsOf, recordsAt}
-use Rattle.records.specs.Hits.{Standing}
+use Rattle.records.specs.Search.{keyOf, past, pickTurn, turnOf, sought, recordsOf}
+use Rattle.records.specs.Contracts.Hits.{recordsAt, Standing}
 use Rattle.records.specs.Laws.Tests.{and-left, and-right, or-cases}
 use Rattle.records.specs.Laws.Records.{Name, Stands, stands, cubics-size, polyline-size}
 use Rattle.records.specs.Laws.Walk.{entries-bad, entries-end, entries-on}

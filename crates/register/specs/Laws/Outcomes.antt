@@ -14,15 +14,15 @@ use lib.Ieee.{lt, le}
 use lib.Ieee.Scale.{finite}
 use Rattle.scene.specs.Scene.{Maybe, none, some, Point, Scene}
 use Rattle.scene.specs.declared.numbers.Spot.{Spot}
-use Rattle.scene.specs.Answers.{spotBy}
+use Rattle.scene.specs.Contracts.Answers.{spotBy}
 use Rattle.similarity.specs.declared.fit.Control.{Control}
 use Rattle.similarity.specs.declared.projection.Registration.{Registration}
 use Rattle.similarity.specs.Fit.{fitOf}
 use Rattle.register.specs.declared.controls.Gathered.{Gathered}
 use Rattle.register.specs.declared.outcome.Outcome.{Outcome}
 use Rattle.register.specs.Register.{f0, maxScale, var, geoFrame, isMercator, placed, allPlaced, anchorPlaced, anchorOf, Event, control, warn, events, controlsIn, controlsOf, scaleValue, pxMode, above0, declaredAt, fitted, registrationBy, registrationOf, registerRefusal}
-use Rattle.register.specs.Gathered.{noControls, putOf, after, gathered}
-use Rattle.register.specs.Outcome.{accepted, refusedBy, pickOutcome, outcomeOf, checkedOf, declaredOutcome, fittedOutcome}
+use Rattle.register.specs.Contracts.Gathered.{noControls, putOf, after, gathered}
+use Rattle.register.specs.Contracts.Outcome.{accepted, refusedBy, pickOutcome, outcomeOf, checkedOf, declaredOutcome, fittedOutcome}
 
 -- ---- what has been gathered
 pub record Holds (cs : List Control) (g : Gathered) : Type 0 where

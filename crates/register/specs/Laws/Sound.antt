@@ -42,8 +42,7 @@ use Rattle.records.specs.Refusals.{valuesRefusal, refusalOf}
 use Rattle.records.specs.Laws.Tests.{and-left, and-right}
 use Rattle.records.specs.Laws.Refusals.{is-short, is-limited}
 use Rattle.scene.specs.Scene.{Maybe, none, some, first, valueOf, numberAt, Point, NamedFeature, NamedValue, variableAt, Scene, sceneOf}
-use Rattle.scene.specs.Labels.{same, pick, variableOf}
-use Rattle.scene.specs.Labels.{orElse}
+use Rattle.scene.specs.Labels.{same, pick, variableOf, orElse}
 use Rattle.register.specs.Register.{geoBearing, geoFrame, suffixLat, f0, f1, maxScale, orValue, isSome, var, isMercator, pxMode, declaredBearing}
 use Rattle.register.specs.Register.{Warning, Event, control, warn, resolved, mentioned, eventOf, featureEvent, featureEvents, stem, isLon, lonEvent, onto, variableEvents, events, controlsIn, controlsOf}
 use Rattle.register.specs.Register.{anchorOf, placed, allPlaced, anchorPlaced, scaleValue, above0, effectiveScale, declaredAt, fitted, registrationBy, registrationOf, registerRefusal}

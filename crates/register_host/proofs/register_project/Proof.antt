@@ -1,7 +1,8 @@
 use borrow.Author.Needs.{needs}
 use mathlib.Core.Path.{ap, _∙_}
 use Rattle.similarity.specs.declared.projection.Projection.{Projection}
-use Rattle.similarity.specs.Projection.{projectOf, projects}
+use Rattle.similarity.specs.Projection.{projectOf}
+use Rattle.similarity.specs.Laws.Projects.{projects}
 use Rattle.register_host.proofs.register_project.Statement.{statement}
 use Rattle.register_host.proofs.register_project.Tie as tie
 

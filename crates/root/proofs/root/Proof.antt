@@ -10,8 +10,8 @@ use lib.Ieee.{Float, nan, inf, fin, binary64, div, ne, fits, isNan, ofBits, toBi
 use lib.Ieee.Bits.{ofBits-toBits, toBits-lt}
 use lib.Ieee.Compare.{differs-from-itself}
 use Rattle.root.specs.Root.{rootOf}
-use Rattle.root.specs.Patterns.{Evened, at-zero, at-infinity, at-minus, m-in, p-hi, pattern-read, pattern-no-nan}
-use Rattle.root.specs.Laws.{root-nan}
+use Rattle.root.specs.Laws.Patterns.{Evened, at-zero, at-infinity, at-minus, m-in, p-hi, pattern-read, pattern-no-nan}
+use Rattle.root.specs.Laws.Root.{root-nan}
 use Rattle.root.proofs.root.Statement.{statement}
 use Rattle.root.proofs.root.Tie as tie
 

@@ -2,7 +2,7 @@
 use Prim.Native.Nat.{ℕ, _/_, _^_}
 use native.Mathlib.Omega.{arith}
 use borrow.Author.Needs.{needs}
-use Rattle.root.specs.Blocks.{Remains}
+use Rattle.root.specs.Contracts.Blocks.{Remains}
 use Rattle.root.proofs.Blocks.{ready-guess, ready, renamed, whole-of}
 use Rattle.root.proofs.whole_root.Statement.{statement}
 use Rattle.root.proofs.whole_root.Tie as tie

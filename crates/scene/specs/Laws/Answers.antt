@@ -5,7 +5,7 @@ use mathlib.Core.List.{List, []}
 use Prim.Native.Nat.{ℕ}
 use Rattle.scene.specs.Scene.{Maybe, none, some, given, Point, sceneOf}
 use Rattle.scene.specs.Labels.{pointOfLabel}
-use Rattle.scene.specs.Answers.{Labels, featuresAt, variablesAt, placesAt, itemsAt}
+use Rattle.scene.specs.Contracts.Answers.{Labels, featuresAt, variablesAt, placesAt, itemsAt}
 
 -- the list of an answer r, as in featuresBy: `listed (r .some) _ e h`
 module _ {A : Type 0} {xs : List A} (b : Bool) (ys : List A) (e : xs ≡ cond b ys []) where

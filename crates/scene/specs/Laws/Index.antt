@@ -10,7 +10,7 @@ use borrow.Author.Tests.{eq-eqb, eqb-true}
 use Rattle.records.specs.Laws.Tests.{and-left, and-right}
 use Rattle.scene.specs.Scene.{Maybe, none, some, Point, NamedPlace, DrawnItem}
 use Rattle.scene.specs.Labels.{same, pick, carries, Key, Best, consider, considerAt, placeKey, itemKey, bestPlace, bestItem, pointOf, referencePoint, pointOfLabel}
-use Rattle.scene.specs.Index.{slotFrom, slotOf, Held, nobody, place, item, many, joined, inSlot, met, heldPlaces, heldItems, heldOf, meantBy, Knows, IndexOrNone}
+use Rattle.scene.specs.Contracts.Index.{slotFrom, slotOf, Held, nobody, place, item, many, joined, inSlot, met, heldPlaces, heldItems, heldOf, meantBy, Knows, IndexOrNone}
 
 -- ---- slots
 slot-from : (h : ℕ) (name : List ℕ) → h < 4096 → slotFrom h name < 4096

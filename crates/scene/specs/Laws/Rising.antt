@@ -11,16 +11,15 @@ use Rattle.records.specs.declared.records.Record.{Record}
 use Rattle.records.specs.declared.records.Record.the-variants.{Rescale, Choice, Feature, Variable, Place, Item, Points, Path}
 use Rattle.records.specs.declared.records.Step.{Step}
 use Rattle.records.specs.declared.records.Step.the-variants.{Got, End, Bad}
-use Rattle.records.specs.Records.{recordOf}
+use Rattle.records.specs.Records.{recordOf, part}
 use Rattle.records.specs.Walk.{Entry, more, entries, ends}
-use Rattle.records.specs.Order.{part}
 use Rattle.records.specs.Layout.{before, nameOf, Pass, start, turn, follows, tagged, onto, stepOf, inOrder, laidOutFrom, laidOut}
 use Rattle.records.specs.Search.{past, turnOf, sought, recordsOf}
 use Rattle.records.specs.Laws.Tests.{and-left, and-right, or-cases}
 use Rattle.records.specs.Laws.Records.{Fields, stands}
 use Rattle.scene.specs.Scene.{none, NamedValue, variableAt}
 use Rattle.scene.specs.Labels.{same, variableOf}
-use Rattle.scene.specs.Answers.{variablesAt}
+use Rattle.scene.specs.Contracts.Answers.{variablesAt}
 
 -- each name comes after the one before it, the first after u
 abbrev pub Rising : List ℕ → List NamedValue → Type 0

@@ -6,7 +6,7 @@ use native.Mathlib.Nat.{add-assoc}
 use lib.ListN.{drop}
 use lib.Seq.{drop-drop}
 use Rattle.stream.specs.Laws.Numbers.{float-drop}
-use Rattle.records.specs.Order.{part}
+use Rattle.records.specs.Records.{part}
 use Rattle.scene.specs.Scene.{numberAt, pointAt, pointsAt, cubicAt, cubicsAt}
 
 module _ (k : ℕ) (l : List ℕ) where

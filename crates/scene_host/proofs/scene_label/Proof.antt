@@ -1,7 +1,7 @@
 use borrow.Author.Needs.{needs}
 use Prim.Native.Nat.{_+_, _≤_}
 use native.Mathlib.Omega.{arith}
-use Rattle.stream.specs.Payload.{room}
+use Rattle.stream.specs.Contracts.Payload.{room}
 use Rattle.stream.specs.Laws.Payload.{rest-length}
 use Rattle.scene_host.proofs.Guards.{no-label, a-label}
 use Rattle.scene_host.proofs.scene_label.Statement.{statement}

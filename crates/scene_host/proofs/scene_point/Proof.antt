@@ -2,7 +2,7 @@ use borrow.Author.Needs.{needs}
 use mathlib.Core.Path.{ap}
 use Prim.Native.Nat.{_+_, _*_, _≤_}
 use native.Mathlib.Omega.{arith}
-use Rattle.stream.specs.Payload.{room}
+use Rattle.stream.specs.Contracts.Payload.{room}
 use Rattle.stream.specs.Laws.Payload.{rest-length}
 use Rattle.scene.specs.Scene.{some}
 use Rattle.scene_host.proofs.Guards.{no-spot, a-spot}

@@ -17,7 +17,7 @@ use Rattle.float.specs.Laws.Order.{le-trans, div-rounds}
 use Rattle.float.specs.Laws.Intervals.{iv, Between}
 use Rattle.float.specs.Laws.Expressions.{Expr, var, lit, minus, less, times, over}
 use Rattle.root.specs.Root.{rootOf}
-use Rattle.root.specs.Laws.{root-nan, root-infinity, root-below-zero}
+use Rattle.root.specs.Laws.Root.{root-nan, root-infinity, root-below-zero}
 use Rattle.elementary.specs.Constants as K
 use Rattle.elementary.specs.Functions.{toDegreesOf, hypotOf, atanOf, angleOf, sidedOf, atan2Of}
 use Rattle.elementary.specs.Laws.Codes.{encloses, enclosed}

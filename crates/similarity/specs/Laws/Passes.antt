@@ -10,7 +10,7 @@ use Rattle.similarity.specs.declared.fit.Mark.{Mark}
 use Rattle.similarity.specs.declared.fit.Moments.{Moments}
 use Rattle.similarity.specs.declared.fit.Pass.{Pass}
 use Rattle.similarity.specs.Fit.{markOf, noSums, added, sumsOf, meansOf, noMoments, momentsOf, degenerate, solvedOf, roundOf, again, fitMarks, fitOf}
-use Rattle.similarity.specs.Passes.{firstSums, anchorAt, stepBy, stepOf, passed, aboutCentroids, aboutAnchor, fitOfPass}
+use Rattle.similarity.specs.Contracts.Passes.{firstSums, anchorAt, stepBy, stepOf, passed, aboutCentroids, aboutAnchor, fitOfPass}
 
 -- a pass that sums about the anchor a
 abbrev summing : Bool → Metres → Mark → Moments → Pass

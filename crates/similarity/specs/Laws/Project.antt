@@ -16,17 +16,19 @@ use Rattle.float.specs.Laws.Numbers.{half-within}
 use Rattle.float.specs.Laws.Spans.{plus2^, minus2^, within-between, between-within, ends-spans, spans-ends, mul-spans, div-spans, whole-spans}
 use Rattle.elementary.specs.Constants as K
 use Rattle.elementary.specs.Functions.{toRadiansOf, sinOf, cosOf}
-use Rattle.elementary.specs.Stages.{atanFirst, atanSecond, atanThird}
+use Rattle.elementary.specs.Contracts.Stages.{atanFirst, atanSecond, atanThird}
 use Rattle.elementary.specs.Laws.Stages.{stages-exp}
 use Rattle.elementary.specs.Laws.Codes.{encloses, enclosed}
 use Rattle.elementary.specs.Laws.Sine.{bound, low-bound, UnitSize, sin-unit, cos-unit}
 use Rattle.elementary.specs.Laws.Mercator.{c89·5, m89·5}
 use Rattle.geodesy.specs.declared.LonLat.{LonLat}
-use Rattle.geodesy.specs.Geodesy.{mercatorForwardOf, mercatorInverseOf, longitudeOf, stretchOf, northOf}
+use Rattle.geodesy.specs.Geodesy.{mercatorForwardOf, mercatorInverseOf}
+use Rattle.geodesy.specs.Contracts.Stages.{longitudeOf, stretchOf, northOf}
 use Rattle.geodesy.specs.Laws.Finite.{m180, c90, OnEarth, inverse-in, forward-east, forward-anchor}
 use Rattle.similarity.specs.declared.projection.Registration.{Registration}
 use Rattle.similarity.specs.declared.projection.Projection.{Projection}
-use Rattle.similarity.specs.Projection.{anchorOf, planeOffsetOf, toLonLatOf, projectOf, billion, round9Of, geoOf, geoBy, planeOf, stretchedOf, latitudeOf}
+use Rattle.similarity.specs.Projection.{anchorOf, planeOffsetOf, toLonLatOf, projectOf, billion, round9Of, geoOf, geoBy}
+use Rattle.similarity.specs.Contracts.Stages.{planeOf, stretchedOf, latitudeOf}
 
 -- 1,000,000 and 1,000,000,000
 abbrev pub million : Float

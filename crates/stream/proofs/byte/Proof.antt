@@ -1,5 +1,5 @@
 use Prim.Native.Nat.{_+_, _≤_}
-use Rattle.stream.specs.Payload.{room}
+use Rattle.stream.specs.Contracts.Payload.{room}
 use native.Mathlib.Omega.{arith}
 use Rattle.stream.specs.Laws.Payload.{within}
 use Rattle.stream.proofs.Inside as inside

@@ -1,7 +1,7 @@
 use borrow.Author.Tests.{leb-true}
 use Prim.Native.Nat.{_+_, _≤_}
 use native.Mathlib.Omega.{arith}
-use Rattle.stream.specs.Payload.{room}
+use Rattle.stream.specs.Contracts.Payload.{room}
 use Rattle.stream.specs.Laws.Payload.{within}
 use Rattle.stream.proofs.Inside as inside
 use Rattle.stream.proofs.run_at.Statement.{statement}

@@ -8,7 +8,8 @@ use native.Mathlib.Omega.{arith}
 use lib.ListN.{length, getD, take, drop, length-append, length-take, length-drop, List·getD-append, List·getD-eq-default}
 use lib.Seq.{getD-drop, getD-take, getD-append-add, drop-append-add, drop-drop, length-take-le, take-all}
 use Rattle.stream.specs.Laws.Numbers.{Bytes}
-use Rattle.stream.specs.Payload.{payloads, payload, room, placeOf, rest, partFrom}
+use Rattle.stream.specs.Payload.{payloads, payload}
+use Rattle.stream.specs.Contracts.Payload.{room, placeOf, rest, partFrom}
 
 -- ---- of the first n blocks
 payloads-length : (n : ℕ) (s : List ℕ) → 512 * n ≤ length s → length (payloads n s) ≡ 508 * n

@@ -5,11 +5,12 @@ use mathlib.Core.List.{[]}
 use Prim.Native.Nat.{_-_}
 use native.Mathlib.Omega.{arith}
 use lib.ListN.{length}
-use Rattle.stream.specs.Payload.{payload, room}
-use Rattle.scene.specs.Answers.{pathsFrom, PathWithin}
-use Rattle.densify.specs.Written.{drawnBy}
+use Rattle.stream.specs.Payload.{payload}
+use Rattle.stream.specs.Contracts.Payload.{room}
+use Rattle.scene.specs.Contracts.Answers.{pathsFrom, PathWithin}
+use Rattle.densify.specs.Contracts.Written.{drawnBy}
 use Rattle.convert.specs.Convert.{pathsOf}
-use Rattle.convert.specs.Space.{sheetBy, outlineBy}
+use Rattle.convert.specs.Contracts.Space.{sheetBy, outlineBy}
 use Rattle.convert.specs.Laws.Loops.{path-fits, path-ready, path-played, Loop, none-done, no-more, all-paths, one-path}
 use Rattle.convert.proofs.items.draw_each.Statement.{statement}
 use Rattle.convert.proofs.items.draw_each.Tie as tie

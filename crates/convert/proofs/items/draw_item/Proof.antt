@@ -1,6 +1,6 @@
 use mathlib.Core.Path.{refl}
 use borrow.Author.Needs.{needs}
-use Rattle.scene.specs.Answers.{itemBy}
+use Rattle.scene.specs.Contracts.Answers.{itemBy}
 use Rattle.convert.specs.Convert.{propsOf, drawnOf}
 use Rattle.convert.specs.Laws.Playing.{played-quiet}
 use Rattle.convert.specs.Laws.Items.{item-drawn}

@@ -3,10 +3,11 @@ use borrow.Author.Tests.{not-false}
 use Prim.Native.Nat.{_-_}
 use native.Mathlib.Omega.{arith}
 use lib.ListN.{length}
-use Rattle.stream.specs.Payload.{payload, room}
-use Rattle.scene.specs.Answers.{itemsAt, Within}
+use Rattle.stream.specs.Payload.{payload}
+use Rattle.stream.specs.Contracts.Payload.{room}
+use Rattle.scene.specs.Contracts.Answers.{itemsAt, Within}
 use Rattle.convert.specs.Convert.{onScreen, itemsOf}
-use Rattle.convert.specs.Space.{sheetBy}
+use Rattle.convert.specs.Contracts.Space.{sheetBy}
 use Rattle.convert.specs.Laws.Loops.{Loop, none-done, no-more, all-items, one-item}
 use Rattle.convert.proofs.items.draw_items.Statement.{statement}
 use Rattle.convert.proofs.items.draw_items.Tie as tie

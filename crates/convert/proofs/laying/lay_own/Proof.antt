@@ -4,7 +4,7 @@ use mathlib.Core.Logic.{⊎-elim}
 use native.Mathlib.Omega.{arith}
 use borrow.Author.Needs.{needs}
 use borrow.Author.Tests.{not-true, not-false}
-use Rattle.densify.specs.Written.{Written}
+use Rattle.densify.specs.Contracts.Written.{Written}
 use Rattle.densify.specs.Laws.Writing.{next-in}
 use Rattle.convert.specs.Laws.Laying.{closer, closer-marked, closer-done, closer-none, own-short, ring-short, own-full, own-laid}
 use Rattle.convert.proofs.laying.lay_own.Statement.{statement}

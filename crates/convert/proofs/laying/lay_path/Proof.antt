@@ -5,9 +5,9 @@ use Rattle.budget.specs.declared.Budget.{Budget}
 use Rattle.stream.specs.Payload.{payload}
 use Rattle.scene.specs.Scene.{none, some}
 use Rattle.densify.specs.Densify.{pathPointsOf}
-use Rattle.densify.specs.Written.{drawnBy}
+use Rattle.densify.specs.Contracts.Written.{drawnBy}
 use Rattle.densify.specs.Laws.Writing.{next-in}
-use Rattle.convert.specs.Space.{most, outlineBy, LaysPath, Small}
+use Rattle.convert.specs.Contracts.Space.{most, outlineBy, LaysPath, Small}
 use Rattle.convert.specs.Laws.Laying.{end-in, outline-in, path-short, path-small}
 use Rattle.convert.proofs.laying.lay_path.Statement.{statement}
 use Rattle.convert.proofs.laying.lay_path.Tie as tie

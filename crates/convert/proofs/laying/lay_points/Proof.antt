@@ -4,7 +4,7 @@ use Rattle.stream.specs.Payload.{payload}
 use Rattle.scene.specs.Scene.{none, pointsAt}
 use Rattle.densify.specs.Densify.{plain}
 use Rattle.densify.specs.Laws.Writing.{next-in}
-use Rattle.convert.specs.Space.{Lays, Small}
+use Rattle.convert.specs.Contracts.Space.{Lays, Small}
 use Rattle.convert.specs.Laws.Laying.{end-in, outline-in, lays-more, points-small}
 use Rattle.convert.proofs.laying.lay_points.Statement.{statement}
 use Rattle.convert.proofs.laying.lay_points.Tie as tie

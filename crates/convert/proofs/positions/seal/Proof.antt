@@ -2,7 +2,7 @@ use mathlib.Core.Path.{refl}
 use native.Mathlib.Omega.{arith}
 use lib.ListN.{length-set}
 use borrow.Author.Needs.{needs}
-use Rattle.convert.specs.Space.{sealedIn}
+use Rattle.convert.specs.Contracts.Space.{sealedIn}
 use Rattle.convert.proofs.positions.seal.Statement.{statement}
 use Rattle.convert.proofs.positions.seal.Tie as tie
 

@@ -4,7 +4,8 @@ use borrow.Author.Needs.{needs}
 use borrow.Author.Tests.{leb-false, not-true, not-false}
 use Rattle.scene.specs.Scene.{Point}
 use Rattle.densify.specs.Densify.{plain}
-use Rattle.densify.specs.Written.{placedBy, Written}
+use Rattle.densify.specs.Contracts.Written.{Written}
+use Rattle.densify.specs.Positions.{placedBy}
 use Rattle.densify.specs.Laws.Writing.{written-room}
 use Rattle.densify.specs.Laws.Placing.{placed-is}
 use Rattle.convert.specs.Convert.{pointOf}

@@ -8,9 +8,9 @@ use borrow.Author.Needs.{needs}
 use borrow.Author.Tests.{not-true, not-false}
 use borrow.Rule.Slice.PartMut.{putMid}
 use Rattle.densify.specs.Densify.{Made}
-use Rattle.densify.specs.Written.{pointsIn, Written}
+use Rattle.densify.specs.Contracts.Written.{pointsIn, Written}
 use Rattle.densify.specs.Laws.Writing.{flats-length, next-in}
-use Rattle.convert.specs.Space.{most, longest}
+use Rattle.convert.specs.Contracts.Space.{most, longest}
 use Rattle.convert.specs.Laws.Playing.{played-stuck}
 use Rattle.convert.specs.Laws.Positions.{tail-written, strokeMade, stroke-some, stroke-few, Stands, line-stands, ring-stands, stands-length, stroke-lacks, stroke-finished}
 use Rattle.convert.proofs.positions.stroke.Statement.{statement}

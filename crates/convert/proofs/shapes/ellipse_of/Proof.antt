@@ -1,5 +1,5 @@
 use borrow.Author.Tests.{not-true, not-false}
-use Rattle.scene.specs.Answers.{itemBy}
+use Rattle.scene.specs.Contracts.Answers.{itemBy}
 use Rattle.convert.specs.Convert.{ellipseOf}
 use Rattle.convert.proofs.shapes.ellipse_of.Statement.{statement}
 use Rattle.convert.proofs.shapes.ellipse_of.Tie as tie

@@ -1,7 +1,7 @@
 use mathlib.Core.Path.{sym, _∙_}
 use mathlib.Core.Logic.{⊎-elim}
 use borrow.Author.Needs.{needs}
-use Rattle.scene.specs.Answers.{itemBy}
+use Rattle.scene.specs.Contracts.Answers.{itemBy}
 use Rattle.convert.specs.Convert.{propsOf}
 use Rattle.convert.proofs.shapes.props_of.Statement.{statement}
 use Rattle.convert.proofs.shapes.props_of.Tie as tie

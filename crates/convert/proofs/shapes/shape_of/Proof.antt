@@ -3,7 +3,7 @@ use mathlib.Core.Bool.{true, false}
 use borrow.Author.Needs.{needs}
 use borrow.Author.Tests.{ne-eqb}
 use Rattle.scene.specs.Scene.{DrawnItem}
-use Rattle.scene.specs.Answers.{itemBy}
+use Rattle.scene.specs.Contracts.Answers.{itemBy}
 use Rattle.convert.specs.Convert.{boxOf, circleOf, ellipseOf, dotOf, onScreen, shapeOf}
 use Rattle.convert.proofs.shapes.shape_of.Statement.{statement}
 use Rattle.convert.proofs.shapes.shape_of.Tie as tie

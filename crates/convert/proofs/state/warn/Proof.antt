@@ -3,7 +3,7 @@ use Prim.Native.Nat.{_+_, _≤_}
 use lib.ListN.{length, length-set}
 use borrow.Author.Needs.{needs}
 use Rattle.geojson.specs.Laws.Words.{pair-put}
-use Rattle.convert.specs.Space.{sheetBy}
+use Rattle.convert.specs.Contracts.Space.{sheetBy}
 use Rattle.convert.specs.Laws.Playing.{played-stuck}
 use Rattle.convert.specs.Laws.Events.{state-is, warned-fits, warned-lacks}
 use Rattle.convert.proofs.state.warn.Statement.{statement}

@@ -7,7 +7,7 @@ use borrow.Author.Needs.{needs}
 use borrow.Author.Tests.{not-true, not-false}
 use lib.ListN.{length}
 use Rattle.convert.specs.Convert.{polylineOrPolygonOf}
-use Rattle.convert.specs.Space.{sheetBy, Fits, Bounds}
+use Rattle.convert.specs.Contracts.Space.{sheetBy, Fits, Bounds}
 use Rattle.convert.specs.Laws.Playing.{played-stuck}
 use Rattle.convert.specs.Laws.Events.{state-is}
 use Rattle.convert.specs.Laws.Polygons.{fits-spent, shape-lacks, shape-few, shape-ring, shape-line, shape-unwritten}

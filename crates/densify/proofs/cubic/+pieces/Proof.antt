@@ -8,7 +8,7 @@ use borrow.Fn.Kinds.{In}
 use borrow.Fn.PlainCycle.{Measures, is, falls, and}
 use Rattle.budget.specs.declared.Budget.{Budget}
 use Rattle.densify.specs.Densify.{Made, andThen, firstOf, secondOf, splitOf}
-use Rattle.densify.specs.Written.{blockIn, Written}
+use Rattle.densify.specs.Contracts.Written.{blockIn, Written}
 use Rattle.densify.specs.Laws.Writing.{next-in, join-short, join-done}
 use Rattle.densify.proofs.Splits.{ends-deep, ends-flat, ends-left, halved, deeper}
 use Rattle.densify.proofs.cubic.pieces.Reads as pieces

@@ -2,7 +2,7 @@ use mathlib.Core.Path.{_≡_, refl}
 use mathlib.Core.List.{List, [], _∷_}
 use lib.ListN.{drop, getD}
 use lib.Ieee.{Float}
-use Rattle.densify.specs.Written.{blockIn}
+use Rattle.densify.specs.Contracts.Written.{blockIn}
 use borrow.Author.Needs.{needs}
 use Rattle.densify.proofs.cubic.second_half.Statement.{statement}
 use Rattle.densify.proofs.cubic.second_half.Tie as tie

@@ -6,7 +6,7 @@ use native.Mathlib.Numerals.{unary-clauses}
 use lib.ListN.{length}
 use Rattle.stream.specs.Payload.{payload}
 use Rattle.scene.specs.Scene.{cubicsAt}
-use Rattle.scene.specs.Answers.{pointBy}
+use Rattle.scene.specs.Contracts.Answers.{pointBy}
 use Rattle.densify.specs.Densify.{cubicsOf}
 use Rattle.densify.specs.Laws.Writing.{next-in, Leads}
 use Rattle.densify.proofs.Standing.{cubics-short, cubics-next, cubics-end}

@@ -1,5 +1,5 @@
 use borrow.Author.Needs.{needs}
-use Rattle.densify.specs.Written.{stageOf}
+use Rattle.densify.specs.Contracts.Written.{stageOf}
 use Rattle.densify.proofs.placing.stage_of.Statement.{statement}
 use Rattle.densify.proofs.placing.stage_of.Tie as tie
 

@@ -6,7 +6,7 @@ use lib.ListN.{getD}
 use lib.Ieee.{nan}
 use borrow.Author.Needs.{needs}
 use borrow.Author.Tests.{not-false}
-use Rattle.densify.specs.Written.{stageOf, onY}
+use Rattle.densify.specs.Contracts.Written.{stageOf, onY}
 use Rattle.densify.specs.Laws.Placing.{Passed, pass-start, pass-end, pass-none, pass-turn-y}
 use Rattle.densify.proofs.placing.stage_points.Statement.{statement}
 use Rattle.densify.proofs.placing.stage_points.Tie as tie

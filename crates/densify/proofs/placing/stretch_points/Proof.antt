@@ -7,8 +7,9 @@ use lib.Ieee.{nan}
 use borrow.Author.Needs.{needs}
 use borrow.Author.Tests.{not-false}
 use Rattle.scene.specs.Scene.{Point}
-use Rattle.similarity.specs.Projection.{stretchedOf}
-use Rattle.densify.specs.Written.{pointOf, stretchedBy}
+use Rattle.similarity.specs.Contracts.Stages.{stretchedOf}
+use Rattle.densify.specs.Contracts.Written.{stretchedBy}
+use Rattle.densify.specs.Positions.{pointOf}
 use Rattle.densify.specs.Laws.Placing.{Passed, pass-start, pass-end, pass-none, pass-turn, stretched-is}
 use Rattle.densify.proofs.placing.stretch_points.Statement.{statement}
 use Rattle.densify.proofs.placing.stretch_points.Tie as tie

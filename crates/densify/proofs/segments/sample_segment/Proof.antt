@@ -6,7 +6,7 @@ use native.Mathlib.Omega.{arith}
 use borrow.Author.Needs.{needs}
 use borrow.Author.Tests.{not-true, not-false}
 use Rattle.densify.specs.Densify.{plain, alongOf, samplesTo}
-use Rattle.densify.specs.Written.{pointIn, Written}
+use Rattle.densify.specs.Contracts.Written.{pointIn, Written}
 use Rattle.densify.specs.Laws.Writing.{written-none, next-in}
 use Rattle.densify.specs.Laws.Segments.{sampled, sample-next, sample-short}
 use Rattle.densify.proofs.segments.sample_segment.Statement.{statement}

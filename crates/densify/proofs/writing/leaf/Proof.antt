@@ -5,7 +5,8 @@ use native.Mathlib.Omega.{arith}
 use lib.ListN.{length-set}
 use lib.Dec.{ltb}
 use Rattle.densify.specs.Densify.{leafOf}
-use Rattle.densify.specs.Written.{flats, pointIn}
+use Rattle.densify.specs.Contracts.Written.{pointIn}
+use Rattle.densify.specs.Positions.{flats}
 use Rattle.densify.specs.Laws.Writing.{put-point, written-short, written-all}
 use borrow.Author.Needs.{needs}
 use Rattle.densify.proofs.writing.leaf.Statement.{statement}

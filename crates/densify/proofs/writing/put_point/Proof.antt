@@ -4,7 +4,7 @@ use native.Mathlib.Omega.{arith}
 use lib.ListN.{length-set}
 use Rattle.scene.specs.Scene.{Point}
 use Rattle.densify.specs.Densify.{plain}
-use Rattle.densify.specs.Written.{flats}
+use Rattle.densify.specs.Positions.{flats}
 use Rattle.densify.specs.Laws.Writing.{put-point, written-short, written-all}
 use borrow.Author.Needs.{needs}
 use Rattle.densify.proofs.writing.put_point.Statement.{statement}

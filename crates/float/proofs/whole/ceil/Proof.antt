@@ -2,7 +2,7 @@ use borrow.Author.Needs.{needs}
 use mathlib.Core.Path.{_≡_, _∙_}
 use mathlib.Core.Bool.{true}
 use lib.Ieee.{binary64, fits, toBits}
-use Rattle.float.specs.Pointed.{Pointed}
+use Rattle.float.specs.Contracts.Pointed.{Pointed}
 use Rattle.float.specs.Laws.Whole.{ceil-cuts}
 use Rattle.float.proofs.Cutting.{above-number, large-own, small-ceil, cut-ceil, up-to-zero}
 use Rattle.float.proofs.whole.ceil.Statement.{statement}

@@ -4,7 +4,7 @@ use Prim.Native.Nat.{_-_}
 use native.Mathlib.Omega.{arith}
 use lib.Pow.{pow-pos}
 use lib.Ieee.{binary64, fits, toBits}
-use Rattle.float.specs.Pointed.{Pointed, fieldOf}
+use Rattle.float.specs.Contracts.Pointed.{Pointed, fieldOf}
 use Rattle.float.specs.Laws.Whole.{trunc-cuts}
 use Rattle.float.proofs.Cutting.{nan-own, a-number, wide, large-own, small-trunc, zero-no-nan, cut-trunc}
 use Rattle.float.proofs.whole.trunc.Statement.{statement}

@@ -3,11 +3,11 @@ use mathlib.Core.Path.{_≡_, refl, sym, ap, _∙_}
 use mathlib.Core.Bool.{true}
 use Prim.Native.Nat.{_-_, _≤_}
 use native.Mathlib.Omega.{arith}
-use Rattle.stream.specs.Payload.{rest}
+use Rattle.stream.specs.Contracts.Payload.{rest}
 use Rattle.stream.specs.Laws.Numbers.{float-read}
 use Rattle.stream.specs.Laws.Payload.{rest-length}
 use Rattle.records.specs.Records.{allTo}
-use Rattle.records.specs.Floats.{fine, fines}
+use Rattle.records.specs.Contracts.Floats.{fine, fines}
 use Rattle.records.proofs.Tests.{was-true, was-false, allTo-more, allTo-fails}
 use Rattle.records.proofs.floats.all_fine.Statement.{statement}
 use Rattle.records.proofs.floats.all_fine.Tie as tie

@@ -3,12 +3,13 @@ use mathlib.Core.Path.{_≡_, refl, sym, ap, subst, _∙_}
 use Prim.Native.Nat.{_-_, _≤_}
 use native.Mathlib.Omega.{arith}
 use lib.ListN.{drop}
-use Rattle.stream.specs.Payload.{payload, room}
+use Rattle.stream.specs.Payload.{payload}
+use Rattle.stream.specs.Contracts.Payload.{room}
 use Rattle.stream.specs.Laws.Payload.{part-room}
 use Rattle.records.specs.declared.order.Turn.{Turn}
-use Rattle.records.specs.Records.{recordOf}
+use Rattle.records.specs.Records.{recordOf, part}
 use Rattle.records.specs.Layout.{laidOut, laidOutFrom}
-use Rattle.records.specs.Order.{part, passOf, nextOf, Kept, KeptAfter}
+use Rattle.records.specs.Contracts.Order.{passOf, nextOf, Kept, KeptAfter}
 use Rattle.records.specs.Laws.Walk.{found, got-room}
 use Rattle.records.proofs.Passes.{order-bad, order-end, order-stop, order-go}
 use Rattle.records.proofs.order.layout.Statement.{statement}

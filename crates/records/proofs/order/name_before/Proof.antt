@@ -6,7 +6,7 @@ use lib.ListN.{drop}
 use Rattle.stream.specs.Payload.{payload}
 use Rattle.stream.specs.Laws.Payload.{rest-length}
 use Rattle.records.specs.Layout.{before}
-use Rattle.records.specs.Order.{part}
+use Rattle.records.specs.Records.{part}
 use Rattle.records.proofs.Names.{end-a, end-b, is-less, is-greater, is-same}
 use Rattle.records.proofs.order.name_before.Statement.{statement}
 use Rattle.records.proofs.order.name_before.Tie as tie

@@ -4,7 +4,7 @@ use native.Mathlib.Omega.{arith}
 use mathlib.Core.Bool.{true}
 use mathlib.Core.Path.{_∙_, _≡_, ap, refl, sym}
 use Rattle.stream.specs.Laws.Payload.{rest-length}
-use Rattle.stream.specs.Payload.{rest}
+use Rattle.stream.specs.Contracts.Payload.{rest}
 use Rattle.records.specs.Records.{allTo, plain, plains}
 use Rattle.records.proofs.Tests.{was-true, was-false, allTo-fails, allTo-more}
 use Rattle.records.proofs.records.apart_plain.Statement.{statement}

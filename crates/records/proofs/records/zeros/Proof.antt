@@ -3,7 +3,7 @@ use Prim.Native.Nat.{_-_, _≤_}
 use lib.ListN.{drop}
 use native.Mathlib.Omega.{arith}
 use mathlib.Core.Path.{_∙_, _≡_, sym}
-use Rattle.stream.specs.Payload.{rest}
+use Rattle.stream.specs.Contracts.Payload.{rest}
 use Rattle.records.specs.Records.{allZero}
 use Rattle.records.proofs.Tests.{long-fails, long-turn}
 use Rattle.records.proofs.records.zeros.Statement.{statement}

@@ -3,7 +3,7 @@ use Prim.Native.Nat.{_-_}
 use lib.ListN.{drop}
 use native.Mathlib.Omega.{arith}
 use mathlib.Core.Path.{_∙_, _≡_, refl, sym}
-use Rattle.stream.specs.Payload.{rest}
+use Rattle.stream.specs.Contracts.Payload.{rest}
 use Rattle.records.specs.Records.{allZero}
 use Rattle.records.proofs.Tests.{byte-fails, byte-turn, zero-done}
 use Rattle.records.proofs.records.zeros_from.Statement.{statement}

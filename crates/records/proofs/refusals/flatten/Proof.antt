@@ -6,14 +6,13 @@ use mathlib.Core.List.{List}
 use Prim.Native.Nat.{ℕ, _+_, _≤_}
 use native.Mathlib.Omega.{arith}
 use Rattle.stream.specs.Numbers.{floatAt}
-use Rattle.stream.specs.Payload.{room, rest}
+use Rattle.stream.specs.Contracts.Payload.{room, rest}
 use Rattle.stream.specs.Laws.Numbers.{float-drop}
 use Rattle.stream.specs.Laws.Payload.{payload-length, rest-length}
 use Rattle.stream.specs.declared.Float64.the-variants.{Finite}
 use Rattle.records.specs.declared.search.Hit.{Hit}
 use Rattle.records.specs.Records.{choiceWidth}
-use Rattle.records.specs.Search.{recordsAt}
-use Rattle.records.specs.Hits.{hitsOf}
+use Rattle.records.specs.Contracts.Hits.{recordsAt, hitsOf}
 use Rattle.records.specs.Values.{thousandth, flattenIn}
 use Rattle.records.specs.Laws.Search.{choice-within}
 use Rattle.records.proofs.refusals.flatten.Statement.{statement}

@@ -6,13 +6,14 @@ use Prim.Native.Nat.{ℕ, _+_, _-_, _≤_}
 use native.Mathlib.Omega.{arith}
 use lib.Dec.{T}
 use lib.ListN.{drop}
-use Rattle.stream.specs.Payload.{payload, room}
+use Rattle.stream.specs.Payload.{payload}
+use Rattle.stream.specs.Contracts.Payload.{room}
 use Rattle.records.specs.declared.records.Step.the-variants.{Got}
 use Rattle.records.specs.declared.search.Turn.{Turn}
 use Rattle.records.specs.declared.search.Turn.the-variants.{On}
 use Rattle.records.specs.Records.{recordOf}
-use Rattle.records.specs.Search.{turnOf, sought, recordsAt}
-use Rattle.records.specs.Hits.{Standing, hitsOf, Later}
+use Rattle.records.specs.Search.{turnOf, sought}
+use Rattle.records.specs.Contracts.Hits.{recordsAt, Standing, hitsOf, Later}
 use Rattle.records.specs.Laws.Walk.{got-room}
 use Rattle.records.specs.Laws.Search.{search-bad, search-end, search-got, search-over, here, not-greater, passed-over}
 use Rattle.records.proofs.search.seek.Statement.{statement}

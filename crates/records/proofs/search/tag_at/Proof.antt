@@ -2,7 +2,8 @@ use borrow.Author.Needs.{needs}
 use mathlib.Core.Path.{sym}
 use native.Mathlib.Omega.{arith}
 use lib.ListN.{List·getD-eq-default}
-use Rattle.stream.specs.Payload.{payload, rest}
+use Rattle.stream.specs.Payload.{payload}
+use Rattle.stream.specs.Contracts.Payload.{rest}
 use Rattle.stream.specs.Laws.Payload.{payload-length, rest-length}
 use Rattle.records.proofs.search.tag_at.Statement.{statement}
 use Rattle.records.proofs.search.tag_at.Tie as tie

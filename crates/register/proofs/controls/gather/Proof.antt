@@ -3,7 +3,7 @@ use mathlib.Core.Path.{refl, _∙_, sym, ap}
 use Rattle.stream.specs.Payload.{payload}
 use Rattle.scene.specs.Laws.Index.{blank-slots, no-index}
 use Rattle.register.specs.Register.{mentioned}
-use Rattle.register.specs.Gathered.{gathered, noControls}
+use Rattle.register.specs.Contracts.Gathered.{gathered, noControls}
 use Rattle.register.proofs.Surveying.{no-names}
 use Rattle.register.proofs.controls.gather.Statement.{statement}
 use Rattle.register.proofs.controls.gather.Tie as tie

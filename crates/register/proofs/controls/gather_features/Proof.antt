@@ -5,7 +5,8 @@ use mathlib.Core.Logic.{⊎-elim, inl, inr}
 use Prim.Native.Nat.{_-_}
 use native.Mathlib.Omega.{arith}
 use lib.ListN.{length}
-use Rattle.stream.specs.Payload.{payload, room}
+use Rattle.stream.specs.Payload.{payload}
+use Rattle.stream.specs.Contracts.Payload.{room}
 use Rattle.register.proofs.Marking.{MarkedTo, marks-begin, marks-end, marks-on}
 use Rattle.register.proofs.Gathering.{Done, none-done, all-done, one-done, taken-by}
 use Rattle.register.proofs.controls.gather_features.Statement.{statement}

@@ -5,8 +5,9 @@ use mathlib.Core.Logic.{inl, inr}
 use mathlib.Core.Bool.{false, not}
 use Prim.Native.Nat.{_-_}
 use native.Mathlib.Omega.{arith}
-use Rattle.stream.specs.Payload.{payload, room}
-use Rattle.scene.specs.Answers.{Within}
+use Rattle.stream.specs.Payload.{payload}
+use Rattle.stream.specs.Contracts.Payload.{room}
+use Rattle.scene.specs.Contracts.Answers.{Within}
 use Rattle.register.proofs.Turning.{Turn, long, suffix, run}
 use Rattle.register.proofs.Gathering.{taken-by}
 use Rattle.register.proofs.Marking.{Noting}

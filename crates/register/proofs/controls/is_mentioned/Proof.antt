@@ -6,8 +6,8 @@ use native.Mathlib.Nat.{sub-zero}
 use native.Mathlib.Omega.{arith}
 use lib.ListN.{take}
 use Rattle.stream.specs.Payload.{payload}
-use Rattle.records.specs.Order.{part}
-use Rattle.scene.specs.Answers.{featuresAt, featureBy}
+use Rattle.records.specs.Records.{part}
+use Rattle.scene.specs.Contracts.Answers.{featuresAt, featureBy}
 use Rattle.register.specs.Register.{mentioned}
 use Rattle.register.proofs.Gathering.{mentioned-none, mentioned-end, mentioned-here, mentioned-later}
 use Rattle.register.proofs.controls.is_mentioned.Statement.{statement}

@@ -4,7 +4,7 @@ use mathlib.Core.Logic.{⊎-elim}
 use Prim.Native.Nat.{_<_}
 use native.Mathlib.Omega.{arith}
 use Rattle.stream.specs.Payload.{payload}
-use Rattle.records.specs.Order.{part}
+use Rattle.records.specs.Records.{part}
 use Rattle.scene.specs.Laws.Index.{slot-less}
 use Rattle.register.proofs.Marking.{too-few, has-mark, new-mark}
 use Rattle.register.proofs.controls.is_repeat.Statement.{statement}

@@ -2,9 +2,9 @@ use borrow.Author.Needs.{needs}
 use mathlib.Core.Path.{_≡_}
 use native.Mathlib.Omega.{arith}
 use Rattle.stream.specs.Payload.{payload}
-use Rattle.records.specs.Order.{part}
+use Rattle.records.specs.Records.{part}
 use Rattle.scene.specs.Labels.{pointOfLabel}
-use Rattle.scene.specs.Answers.{spotBy, placesAt, itemsAt}
+use Rattle.scene.specs.Contracts.Answers.{spotBy, placesAt, itemsAt}
 use Rattle.scene.specs.Laws.Answers.{all-labels}
 use Rattle.register.proofs.Marking.{no-mark, is-lost, is-found, is-at}
 use Rattle.register.proofs.Pushing.{fate-0, fate-1, fate-2}

@@ -2,7 +2,7 @@ use borrow.Author.Needs.{needs}
 use borrow.Author.Tests.{not-true, not-false}
 use lib.Ieee.{le}
 use Rattle.register.specs.Register.{maxScale}
-use Rattle.register.specs.Outcome.{checkedOf}
+use Rattle.register.specs.Contracts.Outcome.{checkedOf}
 use Rattle.register.proofs.outcome.check_scale.Statement.{statement}
 use Rattle.register.proofs.outcome.check_scale.Tie as tie
 

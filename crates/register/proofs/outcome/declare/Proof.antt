@@ -6,7 +6,7 @@ use lib.Ieee.{lt}
 use Rattle.stream.specs.Payload.{payload}
 use Rattle.scene.specs.Scene.{sceneOf}
 use Rattle.register.specs.Register.{f0, scaleValue, above0}
-use Rattle.register.specs.Outcome.{declaredOutcome}
+use Rattle.register.specs.Contracts.Outcome.{declaredOutcome}
 use Rattle.register.proofs.Options.{or-given, Seen, seen, scaled, by-scale}
 use Rattle.register.proofs.outcome.declare.Statement.{statement}
 use Rattle.register.proofs.outcome.declare.Tie as tie

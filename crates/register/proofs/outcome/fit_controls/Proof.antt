@@ -6,7 +6,7 @@ use mathlib.Core.Bool.{cond}
 use native.Mathlib.Omega.{arith}
 use lib.ListN.{length, take, length-take}
 use lib.Dec.{eqb}
-use Rattle.register.specs.Outcome.{fittedOutcome}
+use Rattle.register.specs.Contracts.Outcome.{fittedOutcome}
 use Rattle.register.proofs.outcome.fit_controls.Statement.{statement}
 use Rattle.register.proofs.outcome.fit_controls.Tie as tie
 

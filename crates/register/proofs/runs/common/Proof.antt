@@ -5,8 +5,8 @@ use native.Mathlib.Omega.{arith}
 use lib.ListN.{drop}
 use Rattle.stream.specs.Payload.{payload}
 use Rattle.stream.specs.Laws.Payload.{rest-length}
-use Rattle.records.specs.Order.{part}
-use Rattle.register.specs.Runs.{commonOf}
+use Rattle.records.specs.Records.{part}
+use Rattle.register.specs.Contracts.Runs.{commonOf}
 use Rattle.records.specs.Laws.Names.{name-length, name-at}
 use Rattle.register.proofs.RunsBytes.{first-ends, second-ends, bytes-differ, bytes-agree}
 use Rattle.register.proofs.runs.common.Statement.{statement}

@@ -3,7 +3,7 @@ use mathlib.Core.Path.{refl}
 use native.Mathlib.Omega.{arith}
 use Rattle.stream.specs.Payload.{payload}
 use Rattle.stream.specs.Laws.Payload.{payload-length}
-use Rattle.records.specs.Order.{part}
+use Rattle.records.specs.Records.{part}
 use Rattle.register.specs.Register.{suffixLat}
 use Rattle.register.proofs.RunsNames.{too-short, begins-else, begins-so}
 use Rattle.register.proofs.runs.is_lat.Statement.{statement}

@@ -5,10 +5,11 @@ use mathlib.Core.Bool.{false, not}
 use mathlib.Core.List.{[], _++_}
 use Prim.Native.Nat.{_-_}
 use native.Mathlib.Omega.{arith}
-use Rattle.stream.specs.Payload.{payload, room}
-use Rattle.records.specs.Order.{part}
+use Rattle.stream.specs.Payload.{payload}
+use Rattle.stream.specs.Contracts.Payload.{room}
+use Rattle.records.specs.Records.{part}
 use Rattle.scene.specs.Labels.{variableOf}
-use Rattle.scene.specs.Answers.{Within, variablesAt}
+use Rattle.scene.specs.Contracts.Answers.{Within, variablesAt}
 use Rattle.scene.specs.Laws.Rising.{Rising}
 use Rattle.register.specs.Register.{suffixLat}
 use Rattle.register.proofs.RunsNames.{no-more, rises-on, this-one, later-one, none-behind}

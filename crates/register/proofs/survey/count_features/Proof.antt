@@ -2,8 +2,9 @@ use borrow.Author.Needs.{needs}
 use borrow.Author.Tests.{not-false}
 use Prim.Native.Nat.{_-_}
 use native.Mathlib.Omega.{arith}
-use Rattle.stream.specs.Payload.{payload, room}
-use Rattle.scene.specs.Answers.{featureBy}
+use Rattle.stream.specs.Payload.{payload}
+use Rattle.stream.specs.Contracts.Payload.{room}
+use Rattle.scene.specs.Contracts.Answers.{featureBy}
 use Rattle.register.proofs.Surveying.{Numbering, numbering, numbered, one-numbered}
 use Rattle.register.proofs.survey.count_features.Statement.{statement}
 use Rattle.register.proofs.survey.count_features.Tie as tie

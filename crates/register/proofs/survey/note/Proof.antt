@@ -1,5 +1,5 @@
 use borrow.Author.Needs.{needs}
-use Rattle.register.specs.Survey.{notedOf}
+use Rattle.register.specs.Contracts.Survey.{notedOf}
 use Rattle.register.proofs.survey.note.Statement.{statement}
 use Rattle.register.proofs.survey.note.Tie as tie
 

@@ -2,7 +2,8 @@ use borrow.Author.Needs.{needs}
 use borrow.Author.Tests.{not-false}
 use Prim.Native.Nat.{_-_}
 use native.Mathlib.Omega.{arith}
-use Rattle.stream.specs.Payload.{payload, room}
+use Rattle.stream.specs.Payload.{payload}
+use Rattle.stream.specs.Contracts.Payload.{room}
 use Rattle.register.proofs.Surveying.{Surveying, surveying, surveyed, lon-surveyed, other-surveyed}
 use Rattle.register.proofs.survey.survey_variables.Statement.{statement}
 use Rattle.register.proofs.survey.survey_variables.Tie as tie

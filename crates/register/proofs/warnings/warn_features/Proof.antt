@@ -6,8 +6,9 @@ use mathlib.Core.Bool.{false, not}
 use Prim.Native.Nat.{_-_}
 use native.Mathlib.Omega.{arith}
 use lib.ListN.{length}
-use Rattle.stream.specs.Payload.{payload, room}
-use Rattle.scene.specs.Answers.{Within, featureBy}
+use Rattle.stream.specs.Payload.{payload}
+use Rattle.stream.specs.Contracts.Payload.{room}
+use Rattle.scene.specs.Contracts.Answers.{Within, featureBy}
 use Rattle.register.proofs.Marking.{MarkedTo, marks-begin, marks-end, marks-on}
 use Rattle.register.proofs.Pushing.{sheet, sheets}
 use Rattle.register.proofs.Telling.{Told, none-told, all-told, one-told}

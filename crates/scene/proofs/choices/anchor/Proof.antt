@@ -2,7 +2,7 @@ use borrow.Author.Needs.{needs}
 use mathlib.Core.Path.{_∙_}
 use Prim.Native.Nat.{_+_, _≤_}
 use native.Mathlib.Omega.{arith}
-use Rattle.stream.specs.Payload.{room}
+use Rattle.stream.specs.Contracts.Payload.{room}
 use Rattle.records.specs.Records.{choiceWidth}
 use Rattle.scene.specs.Scene.{sceneOf}
 use Rattle.scene.specs.Laws.Shift.{point-drop}

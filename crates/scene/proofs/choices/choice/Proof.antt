@@ -3,7 +3,7 @@ use borrow.Author.Tests.{ne-eqb}
 use mathlib.Core.Path.{_≡_, refl, _∙_}
 use Prim.Native.Nat.{ℕ, _+_, _≤_}
 use native.Mathlib.Omega.{arith}
-use Rattle.stream.specs.Payload.{room}
+use Rattle.stream.specs.Contracts.Payload.{room}
 use Rattle.records.specs.Records.{choiceWidth}
 use Rattle.scene.specs.Laws.Shift.{number-drop}
 use Rattle.scene.proofs.Found.{One, one-found, none-first, one-first, option-fits}

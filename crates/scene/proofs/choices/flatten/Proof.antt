@@ -6,11 +6,11 @@ use Prim.Native.Nat.{ℕ}
 use native.Mathlib.Omega.{arith}
 use Rattle.stream.specs.declared.Float64.the-variants.{Finite}
 use Rattle.stream.specs.Payload.{payload}
-use Rattle.records.specs.Search.{recordsAt}
+use Rattle.records.specs.Contracts.Hits.{recordsAt}
 use Rattle.records.specs.Values.{floatOr, thousandth, flattenIn}
 use Rattle.scene.specs.declared.numbers.Value.{Value}
 use Rattle.scene.specs.Scene.{first, valueOf, numberAt, sceneOf}
-use Rattle.scene.specs.Answers.{valueBy}
+use Rattle.scene.specs.Contracts.Answers.{valueBy}
 use Rattle.scene.proofs.choices.flatten.Statement.{statement}
 use Rattle.scene.proofs.choices.flatten.Tie as tie
 

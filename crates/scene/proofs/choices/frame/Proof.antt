@@ -3,7 +3,7 @@ use mathlib.Core.Path.{ap, _∙_}
 use Prim.Native.Nat.{_+_, _≤_}
 use native.Mathlib.Omega.{arith}
 use lib.Seq.{getD-drop}
-use Rattle.stream.specs.Payload.{room, rest}
+use Rattle.stream.specs.Contracts.Payload.{room, rest}
 use Rattle.stream.specs.Laws.Payload.{rest-length}
 use Rattle.records.specs.Records.{choiceWidth}
 use Rattle.scene.specs.Scene.{sceneOf, some}

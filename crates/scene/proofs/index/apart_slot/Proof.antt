@@ -5,9 +5,9 @@ use native.Mathlib.Omega.{arith}
 use lib.ListN.{drop}
 use Rattle.stream.specs.Payload.{payload}
 use Rattle.stream.specs.Laws.Payload.{rest-length}
-use Rattle.records.specs.Order.{part}
+use Rattle.records.specs.Records.{part}
 use Rattle.records.specs.Laws.Names.{name-length, name-at}
-use Rattle.scene.specs.Index.{slotFrom, slotOf}
+use Rattle.scene.specs.Contracts.Index.{slotFrom, slotOf}
 use Rattle.scene.proofs.Indexing.{slot-ends, slot-step}
 use Rattle.scene.proofs.index.apart_slot.Statement.{statement}
 use Rattle.scene.proofs.index.apart_slot.Tie as tie

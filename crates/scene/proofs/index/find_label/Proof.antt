@@ -5,9 +5,10 @@ use Prim.Native.Nat.{ℕ, _+_, _-_, _<_}
 use native.Mathlib.Omega.{arith}
 use mathlib.Core.List.{List}
 use lib.ListN.{getD}
-use Rattle.stream.specs.Payload.{payload, rest}
+use Rattle.stream.specs.Payload.{payload}
+use Rattle.stream.specs.Contracts.Payload.{rest}
 use Rattle.stream.specs.Laws.Payload.{rest-length, payload-length}
-use Rattle.scene.specs.Index.{Stood, Indexed}
+use Rattle.scene.specs.Contracts.Index.{Stood, Indexed}
 use Rattle.scene.specs.Laws.Index.{slot-less}
 use Rattle.scene.proofs.Indexing.{tells-none, there, there-fits, the-place, the-item, tells-place, tells-item}
 use Rattle.scene.proofs.index.find_label.Statement.{statement}

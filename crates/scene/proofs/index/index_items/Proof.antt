@@ -3,11 +3,12 @@ use mathlib.Core.Path.{_≡_, ap, _∙_}
 use Prim.Native.Nat.{_+_, _-_, _≤_}
 use native.Mathlib.Omega.{arith}
 use lib.ListN.{getD}
-use Rattle.stream.specs.Payload.{payload, room, rest}
+use Rattle.stream.specs.Payload.{payload}
+use Rattle.stream.specs.Contracts.Payload.{room, rest}
 use Rattle.stream.specs.Laws.Payload.{rest-length}
 use Rattle.scene.specs.Scene.{itemAt}
-use Rattle.scene.specs.Answers.{placesAt, itemsAt}
-use Rattle.scene.specs.Index.{heldItems, heldOf, Knows}
+use Rattle.scene.specs.Contracts.Answers.{placesAt, itemsAt}
+use Rattle.scene.specs.Contracts.Index.{heldItems, heldOf, Knows}
 use Rattle.scene.specs.Laws.Index.{slot-less}
 use Rattle.scene.proofs.Found.{One, one-found, none-listed}
 use Rattle.scene.proofs.Items.{item-begins, label-ends}

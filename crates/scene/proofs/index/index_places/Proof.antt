@@ -2,12 +2,13 @@ use borrow.Author.Needs.{needs}
 use mathlib.Core.Path.{_≡_, ap, _∙_}
 use Prim.Native.Nat.{_+_, _-_, _≤_}
 use native.Mathlib.Omega.{arith}
-use Rattle.stream.specs.Payload.{payload, room, rest}
+use Rattle.stream.specs.Payload.{payload}
+use Rattle.stream.specs.Contracts.Payload.{room, rest}
 use Rattle.stream.specs.Laws.Payload.{rest-length}
 use Rattle.records.specs.Laws.Search.{standing-tells}
 use Rattle.scene.specs.Scene.{placeAt}
-use Rattle.scene.specs.Answers.{placesAt}
-use Rattle.scene.specs.Index.{nobody, heldPlaces, Knows}
+use Rattle.scene.specs.Contracts.Answers.{placesAt}
+use Rattle.scene.specs.Contracts.Index.{nobody, heldPlaces, Knows}
 use Rattle.scene.specs.Laws.Index.{slot-less}
 use Rattle.scene.proofs.Found.{One, one-found, none-listed, name-begins, Named, named}
 use Rattle.scene.proofs.Indexing.{passed, one-place}

@@ -3,9 +3,9 @@ use mathlib.Core.Path.{_≡_, refl, sym, _∙_}
 use Prim.Native.Nat.{_-_, _≤_, _<_}
 use native.Mathlib.Omega.{arith}
 use lib.ListN.{drop}
-use Rattle.records.specs.Order.{part}
+use Rattle.records.specs.Records.{part}
 use Rattle.records.specs.Laws.Names.{part-length, part-at}
-use Rattle.scene.specs.Index.{slotFrom, slotOf}
+use Rattle.scene.specs.Contracts.Index.{slotFrom, slotOf}
 use Rattle.scene.proofs.Indexing.{slot-ends, slot-step}
 use Rattle.scene.proofs.index.run_slot.Statement.{statement}
 use Rattle.scene.proofs.index.run_slot.Tie as tie

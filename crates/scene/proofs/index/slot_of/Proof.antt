@@ -2,7 +2,7 @@ use borrow.Author.Needs.{needs}
 use mathlib.Core.Path.{_∙_, ap}
 use native.Mathlib.Omega.{arith}
 use Rattle.stream.specs.Laws.Payload.{rest-length}
-use Rattle.scene.specs.Index.{slotOf}
+use Rattle.scene.specs.Contracts.Index.{slotOf}
 use Rattle.scene.proofs.Indexing.{straight-part}
 use Rattle.scene.proofs.index.slot_of.Statement.{statement}
 use Rattle.scene.proofs.index.slot_of.Tie as tie

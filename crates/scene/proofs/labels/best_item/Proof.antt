@@ -4,10 +4,11 @@ use mathlib.Core.Logic.{⊎-elim, inl, inr}
 use Prim.Native.Nat.{_+_, _-_, _≤_}
 use native.Mathlib.Omega.{arith}
 use lib.ListN.{getD}
-use Rattle.stream.specs.Payload.{payload, room}
-use Rattle.records.specs.Order.{part}
+use Rattle.stream.specs.Payload.{payload}
+use Rattle.stream.specs.Contracts.Payload.{room}
+use Rattle.records.specs.Records.{part}
 use Rattle.scene.specs.Labels.{bestItem}
-use Rattle.scene.specs.Answers.{itemsAt, bestBy}
+use Rattle.scene.specs.Contracts.Answers.{itemsAt, bestBy}
 use Rattle.scene.proofs.Found.{One, one-found}
 use Rattle.scene.proofs.Items.{label-ends}
 use Rattle.scene.proofs.Folds.{no-item, next-item}

@@ -5,12 +5,13 @@ use mathlib.Core.List.{map}
 use Prim.Native.Nat.{_+_, _-_, _≤_}
 use native.Mathlib.Omega.{arith}
 use lib.ListN.{getD}
-use Rattle.stream.specs.Payload.{payload, room}
-use Rattle.records.specs.Order.{part}
+use Rattle.stream.specs.Payload.{payload}
+use Rattle.stream.specs.Contracts.Payload.{room}
+use Rattle.records.specs.Records.{part}
 use Rattle.records.specs.Laws.Search.{standing-tells}
 use Rattle.scene.specs.Scene.{none, itemAt}
 use Rattle.scene.specs.Labels.{bestPlace}
-use Rattle.scene.specs.Answers.{placesAt, itemsAt, bestBy}
+use Rattle.scene.specs.Contracts.Answers.{placesAt, itemsAt, bestBy}
 use Rattle.scene.proofs.Found.{answer, One, one-found, beyond, named}
 use Rattle.scene.proofs.Folds.{no-place, next-place}
 use Rattle.scene.proofs.labels.best_place.Statement.{statement}

@@ -5,9 +5,9 @@ use mathlib.Core.Logic.{⊎-elim}
 use mathlib.Core.Bool.{false, not}
 use Prim.Native.Nat.{ℕ, _+_, _≤_}
 use native.Mathlib.Omega.{arith}
-use Rattle.stream.specs.Payload.{room}
+use Rattle.stream.specs.Contracts.Payload.{room}
 use Rattle.scene.specs.declared.sections.Path.{Path}
-use Rattle.scene.specs.Answers.{PathWithin}
+use Rattle.scene.specs.Contracts.Answers.{PathWithin}
 use Rattle.scene.proofs.Starts.{no-path, empty-path, curve-starts, polyline-starts}
 use Rattle.scene.proofs.labels.first_start.Statement.{statement}
 use Rattle.scene.proofs.labels.first_start.Tie as tie

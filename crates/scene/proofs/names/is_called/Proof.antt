@@ -2,7 +2,8 @@ use borrow.Author.Needs.{needs}
 use mathlib.Core.Path.{_≡_, _∙_}
 use native.Mathlib.Omega.{arith}
 use lib.ListN.{getD}
-use Rattle.stream.specs.Payload.{payload, rest}
+use Rattle.stream.specs.Payload.{payload}
+use Rattle.stream.specs.Contracts.Payload.{rest}
 use Rattle.stream.specs.Laws.Payload.{rest-length}
 use Rattle.scene.proofs.names.is_called.Statement.{statement}
 use Rattle.scene.proofs.names.is_called.Tie as tie

@@ -5,7 +5,7 @@ use native.Mathlib.Omega.{arith}
 use lib.ListN.{drop}
 use Rattle.stream.specs.Payload.{payload}
 use Rattle.stream.specs.Laws.Payload.{rest-length}
-use Rattle.records.specs.Order.{part}
+use Rattle.records.specs.Records.{part}
 use Rattle.records.specs.Laws.Names.{name-length, name-at}
 use Rattle.scene.specs.Labels.{same}
 use Rattle.scene.proofs.Agreeing.{lengths-differ, all-agree, one-differs, one-agrees}

@@ -2,8 +2,8 @@ use borrow.Author.Needs.{needs}
 use borrow.Author.Tests.{not-false}
 use Prim.Native.Nat.{_+_}
 use native.Mathlib.Omega.{arith}
-use Rattle.stream.specs.Payload.{room}
-use Rattle.scene.specs.Answers.{Within}
+use Rattle.stream.specs.Contracts.Payload.{room}
+use Rattle.scene.specs.Contracts.Answers.{Within}
 use Rattle.scene.proofs.Found.{nothing}
 use Rattle.scene.proofs.Reading.{feature-none, feature-read}
 use Rattle.scene.proofs.sections.next_feature.Statement.{statement}

@@ -2,7 +2,7 @@ use borrow.Author.Needs.{needs}
 use mathlib.Core.Path.{sym}
 use Prim.Native.Nat.{_+_, _≤_}
 use native.Mathlib.Omega.{arith}
-use Rattle.stream.specs.Payload.{room, rest}
+use Rattle.stream.specs.Contracts.Payload.{room, rest}
 use Rattle.stream.specs.Laws.Payload.{rest-length}
 use Rattle.records.specs.Laws.Search.{standing-tells}
 use Rattle.scene.proofs.Found.{nothing, One, one-found, none-first, points-begin}

@@ -43,7 +43,7 @@ use denote.Triple.Table.{cited}
 use denote.Triple.Walked.{says, needs, Stays, stay-none, stay-none-slice, walkOf, goes-none, goes-none-slice, ends-at, walked-at, walk-meets-at}
 use denote.Triple.Cycle.{Stated, Graded, Below, measured, at-on, mutual-elim}
 use denote.Exit.{yes}
-use Rattle.similarity.specs.Passes.{stepOf, passed}
+use Rattle.similarity.specs.Contracts.Passes.{stepOf, passed}
 use Rattle.similarity.specs.declared.fit.Control.{Control}
 use Rattle.similarity.specs.declared.fit.Pass.{Pass}
 use Rattle.similarity.proofs.Calls.{answers, asks-plain}

@@ -1,5 +1,5 @@
 use borrow.Author.Needs.{needs}
-use Rattle.similarity.specs.Passes.{aboutAnchor}
+use Rattle.similarity.specs.Contracts.Passes.{aboutAnchor}
 use Rattle.similarity.proofs.fit.about_anchor.Statement.{statement}
 use Rattle.similarity.proofs.fit.about_anchor.Tie as tie
 

@@ -3,7 +3,7 @@ use Prim.Native.Nat.{_^_}
 use native.Mathlib.Nat.{le-trans}
 use lib.Dec.{le→leb, lit≤}
 use lib.Ieee.{inFloat}
-use Rattle.similarity.specs.Passes.{aboutCentroids}
+use Rattle.similarity.specs.Contracts.Passes.{aboutCentroids}
 use Rattle.similarity.proofs.fit.about_centroids.Statement.{statement}
 use Rattle.similarity.proofs.fit.about_centroids.Tie as tie
 

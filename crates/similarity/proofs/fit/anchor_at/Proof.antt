@@ -1,4 +1,4 @@
-use Rattle.similarity.specs.Passes.{anchorAt}
+use Rattle.similarity.specs.Contracts.Passes.{anchorAt}
 use Rattle.similarity.proofs.fit.anchor_at.Statement.{statement}
 use Rattle.similarity.proofs.fit.anchor_at.Tie as tie
 

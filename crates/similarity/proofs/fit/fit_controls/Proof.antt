@@ -37,7 +37,7 @@ use denote.Triple.Table.{entered, cited}
 use denote.Triple.Walked.{says, needs, Stays, stay-none-slice, walkOf, goes-none-slice, Walks, ends-at, walked, walk-meets}
 use denote.Exit.{yes}
 use Rattle.similarity.specs.Fit.{fitOf}
-use Rattle.similarity.specs.Passes.{firstSums, passed, aboutCentroids, aboutAnchor, fitOfPass}
+use Rattle.similarity.specs.Contracts.Passes.{firstSums, passed, aboutCentroids, aboutAnchor, fitOfPass}
 use Rattle.similarity.specs.Laws.Passes.{passes-fit}
 use Rattle.similarity.specs.declared.fit.Control.{Control}
 use Rattle.similarity.specs.declared.fit.Fit.{Fit}

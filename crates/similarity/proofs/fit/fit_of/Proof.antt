@@ -1,6 +1,6 @@
 use borrow.Author.Needs.{needs}
 use borrow.Author.Tests.{not-true, not-false}
-use Rattle.similarity.specs.Passes.{fitOfPass}
+use Rattle.similarity.specs.Contracts.Passes.{fitOfPass}
 use Rattle.similarity.proofs.fit.fit_of.Statement.{statement}
 use Rattle.similarity.proofs.fit.fit_of.Tie as tie
 

@@ -1,5 +1,5 @@
 use borrow.Author.Needs.{needs}
-use Rattle.similarity.specs.Passes.{stepBy, stepOf}
+use Rattle.similarity.specs.Contracts.Passes.{stepBy, stepOf}
 use Rattle.similarity.proofs.fit.step.Statement.{statement}
 use Rattle.similarity.proofs.fit.step.Tie as tie
 

@@ -1,5 +1,5 @@
 use borrow.Author.Needs.{needs}
-use Rattle.similarity.specs.Projection.{latitudeOf}
+use Rattle.similarity.specs.Contracts.Stages.{latitudeOf}
 use Rattle.similarity.proofs.projection.latitude.Statement.{statement}
 use Rattle.similarity.proofs.projection.latitude.Tie as tie
 

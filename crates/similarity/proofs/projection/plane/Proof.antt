@@ -1,4 +1,4 @@
-use Rattle.similarity.specs.Projection.{planeOf}
+use Rattle.similarity.specs.Contracts.Stages.{planeOf}
 use Rattle.similarity.proofs.projection.plane.Statement.{statement}
 use Rattle.similarity.proofs.projection.plane.Tie as tie
 use mathlib.Core.Path.{refl}

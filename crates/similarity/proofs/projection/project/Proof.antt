@@ -1,5 +1,6 @@
 use borrow.Author.Needs.{needs}
-use Rattle.similarity.specs.Projection.{projectOf, planeOf}
+use Rattle.similarity.specs.Projection.{projectOf}
+use Rattle.similarity.specs.Contracts.Stages.{planeOf}
 use Rattle.similarity.proofs.projection.project.Statement.{statement}
 use Rattle.similarity.proofs.projection.project.Tie as tie
 

@@ -1,5 +1,5 @@
 use borrow.Author.Needs.{needs}
-use Rattle.similarity.specs.Projection.{stretchedOf}
+use Rattle.similarity.specs.Contracts.Stages.{stretchedOf}
 use Rattle.similarity.proofs.projection.stretch.Statement.{statement}
 use Rattle.similarity.proofs.projection.stretch.Tie as tie
 

@@ -1,0 +1,135 @@
+-- What the parts of `convert` leave in the lent slices.
+use Prim.Native.Nat.{ℕ, _+_, _-_, _*_, _≤_}
+use mathlib.Core.Path.{_≡_}
+use mathlib.Core.Bool.{Bool, true, false, cond}
+use mathlib.Core.List.{List}
+use lib.ListN.{length, set, getD}
+use lib.Dec.{leb}
+use lib.Ieee.{Float, nan}
+use Rattle.scene.specs.declared.sections.Path.{Path}
+use Rattle.scene.specs.Scene.{Maybe, none, some, given, Point, DrawnPath}
+use Rattle.budget.specs.declared.Budget.{Budget}
+use Rattle.densify.specs.declared.writing.Done.{Done}
+use Rattle.densify.specs.Densify.{Made, closeRingOf, pathPointsOf}
+use Rattle.densify.specs.Contracts.Written.{pointsIn, drawnBy}
+use Rattle.densify.specs.Positions.{flats}
+use Rattle.geojson.specs.declared.Feature.{Feature}
+use Rattle.geojson.specs.Lines.{putWords, wordsOf}
+use Rattle.convert.specs.declared.laying.Laying.{Laying}
+use Rattle.convert.specs.declared.state.Props.{Props}
+use Rattle.convert.specs.declared.state.State.{State}
+use Rattle.convert.specs.Convert.{feature, Trace, closedOutline, workOf}
+use Rattle.convert.specs.Space.{Sheet, playAll}
+
+-- ---- what the code holds
+abbrev pub sheetBy : ℕ → List Float → List ℕ → List ℕ → State → Sheet
+sheetBy work positions features warnings st =
+    record {
+      work = work;
+      positions = positions;
+      features = features;
+      warnings = warnings;
+      usedPositions = st .positions;
+      usedFeatures = st .features;
+      usedWarnings = st .warnings;
+      number = st .number;
+    }
+
+-- the largest allowance that a count of positions is shown to bear
+abbrev pub most : ℕ
+most = 16777216
+
+-- what is used lies in the slices
+pub record Fits (t : Sheet) (b : Budget) : Type 0 where
+  pub positions : t .usedPositions ≤ length (t .positions)
+  pub features : t .usedFeatures ≤ length (t .features)
+  pub warnings : t .usedWarnings ≤ length (t .warnings)
+  pub left : b .left ≤ most
+
+-- From sheet t to sheet u by these events. Where something lacks room, what was written so far is left open: the host's call then clears all slices.
+pub record Played (trace : Trace) (t u : Sheet) (b : Budget) : Type 0 where
+  pub number : u .number ≡ playAll (trace .events) t .number
+  pub same : u .number ≡ 0 → u ≡ playAll (trace .events) t
+  pub after : u .number ≡ 0 → b ≡ trace .after
+  pub work : u .work ≡ t .work
+  pub positions : length (u .positions) ≡ length (t .positions)
+  pub features : length (u .features) ≡ length (t .features)
+  pub warnings : length (u .warnings) ≡ length (t .warnings)
+  pub fits : Fits u b
+
+-- a feature's line behind its positions, which end at `to`
+abbrev pub lineBy : Props → ℕ → ℕ → ℕ → Feature
+lineBy p geometry role count = record { item = p .item; geometry = geometry; role = role; placement = p .placement; part = p .part; count = count }
+
+pub record Finished (p : Props) (geometry role to count : ℕ) (b : Budget) (f f′ : List ℕ) (st r : State) : Type 0 where
+  pub fits : leb (st .features + 6) (length f) ≡ true → f′ ≡ putWords f (st .features) (wordsOf (lineBy p geometry role count))
+  pub then : leb (st .features + 6) (length f) ≡ true
+      → r ≡ record { number = 0; positions = to; features = st .features + 6; warnings = st .warnings; budget = b }
+  pub short : leb (st .features + 6) (length f) ≡ false → f′ ≡ f
+  pub lacks : leb (st .features + 6) (length f) ≡ false
+      → r ≡ record { number = 17; positions = st .positions; features = st .features; warnings = st .warnings; budget = st .budget }
+
+-- ---- a shape's points in the work slice
+-- as many floats as work may be used for at once
+abbrev pub longest : ℕ
+longest = 134217728
+
+-- the outline's closed points, where it has one
+abbrev pub Outlined : List Float → Maybe (List Point) → Laying → Type 0
+Outlined w none r = (r .outlined ≡ false) × (r .fin ≡ r .end)
+Outlined w (some o) r = (r .outlined ≡ true) × (r .fin ≡ r .end + length (flats (closeRingOf o))) × (pointsIn w (r .end) (r .fin) ≡ closeRingOf o)
+
+-- its points from 0 on, closed where it is marked closed, then its outline's
+pub record Laid (w : List Float) (closed : Bool) (ps : List Point) (o : Maybe (List Point)) (r : Laying) : Type 0 where
+  pub own : r .own ≡ length (flats ps)
+  pub points : pointsIn w 0 (r .own) ≡ ps
+  pub end : r .end ≡ length (flats (cond closed (closeRingOf ps) ps))
+  pub ring : pointsIn w 0 (r .end) ≡ cond closed (closeRingOf ps) ps
+  pub outline : Outlined w o r
+  pub few : r .fin + 2 ≤ longest
+
+-- where they end, in a slice of n floats with room for one point more
+pub record Bounds (r : Laying) (n : ℕ) : Type 0 where
+  pub own : r .own ≤ r .end
+  pub end : r .end ≤ r .fin
+  pub fin : r .fin + 2 ≤ n
+  pub few : r .fin + 2 ≤ longest
+
+-- laid out where they and one point more have room
+pub record Lays (w w′ : List Float) (closed : Bool) (ps : List Point) (o : Maybe (List Point)) (b : Budget) (r : Laying) : Type 0 where
+  pub asked : r .ok ≡ leb (2 * workOf closed ps (closeRingOf ps) (closedOutline o)) (length w)
+  pub laid : r .ok ≡ true → Laid w′ closed ps o r
+  pub after : r .ok ≡ true → r .budget ≡ b
+  pub left : r .ok ≡ true → r .budget .left ≤ most
+  pub kept : length w′ ≡ length w
+
+-- few enough points for two such lists to stay below `longest`
+pub record Small (m : Made) : Type 0 where
+  pub few : length (m .points) ≤ 33554430
+  pub left : m .after .left ≤ most
+
+-- a path with the outline that may come with it
+abbrev pub outlineBy : List ℕ → Path → Maybe DrawnPath
+outlineBy l p = given (p .some) (drawnBy l p)
+
+abbrev pub LaysPath : List Float → List Float → Float → DrawnPath → Maybe DrawnPath → Budget → Laying → Type 0
+LaysPath w w′ tol path none b r =
+    let m = pathPointsOf tol path b in
+    Lays w w′ (path .closed) (m .points) none (m .after) r
+LaysPath w w′ tol path (some o) b r =
+    let m = pathPointsOf tol path b in
+    let n = pathPointsOf tol o (m .after) in
+    Lays w w′ (path .closed) (m .points) (some (n .points)) (n .after) r
+
+-- a ring's points from 0 on
+pub record Ringed (w : List Float) (m : Made) (d : Done) : Type 0 where
+  pub asked : d .ok ≡ leb (length (flats (m .points))) (length w)
+  pub points : d .ok ≡ true → pointsIn w 0 (d .at) ≡ m .points
+  pub end : d .ok ≡ true → d .at ≡ length (flats (m .points))
+  pub after : d .ok ≡ true → d .budget ≡ m .after
+  pub left : d .ok ≡ true → d .budget .left ≤ most
+  pub few : d .ok ≡ true → d .at ≤ longest
+
+-- ---- the last position overwritten by the first
+unfoldable pub sealedIn : List Float → ℕ → ℕ → List Float
+sealedIn w from to = set (set w (to - 2) (getD w from nan)) (to - 1) (getD w (from + 1) nan)

@@ -1,0 +1,15 @@
+-- The inverse projection in stages.
+use lib.Ieee.{Float, binary64, sub, mul, div}
+use Rattle.elementary.specs.Constants as K
+use Rattle.elementary.specs.Functions.{toDegreesOf, expOf}
+use Rattle.geodesy.specs.Geodesy.{radius, normalizeLonOf}
+
+-- ---- the inverse in stages: the longitude of an abscissa, the exponential of an ordinate, and the latitude of that exponential's arc tangent
+unfoldable pub longitudeOf : Float → Float
+longitudeOf x = normalizeLonOf (toDegreesOf (div binary64 x radius))
+
+unfoldable pub stretchOf : Float → Float
+stretchOf y = expOf (div binary64 y radius)
+
+unfoldable pub northOf : Float → Float
+northOf a = toDegreesOf (sub binary64 (mul binary64 K.two a) K.fracPi2)

@@ -1,0 +1,21 @@
+-- What the comparison asks: refusals 1 to 14 in one number, and the warnings where there is none.
+use mathlib.Core.List.{List}
+use mathlib.Core.Bool.{true}
+use Prim.Native.Nat.{ℕ}
+use lib.Dec.{eqb}
+use Rattle.stream.specs.Payload.{payload}
+use Rattle.records.specs.Refusals.{refusalOf}
+use Rattle.scene.specs.Scene.{sceneOf}
+use Rattle.register.specs.declared.outcome.Outcome.{Outcome}
+use Rattle.register.specs.Register.{registerWarnings}
+use Rattle.register.specs.Contracts.Outcome.{pickOutcome, refusedBy, outcomeOf}
+use Rattle.register.specs.Contracts.Warned.{Sheet, pickSheet, allPushed}
+
+unfoldable pub answerOf : List ℕ → Outcome
+answerOf s = pickOutcome (eqb (refusalOf s) 0) (outcomeOf (sceneOf (payload s))) (refusedBy (refusalOf s))
+
+abbrev pub nothing : List ℕ → Sheet
+nothing out = record { out = out; said = record { ok = true; used = 0 } }
+
+unfoldable pub warnedOf : List ℕ → List ℕ → Sheet
+warnedOf s out = pickSheet (eqb (answerOf s .number) 0) (allPushed (registerWarnings (sceneOf (payload s))) (nothing out)) (nothing out)

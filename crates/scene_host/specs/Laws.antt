@@ -1,0 +1,2 @@
+-- Theorems about these definitions.
+pub mod Sheets

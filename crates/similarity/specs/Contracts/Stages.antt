@@ -1,0 +1,23 @@
+-- `geoBy` in stages: the longitude that is given out with the exponential of the ordinate, and the latitude of its arc tangent.
+use lib.Ieee.{Float, binary64, neg, add, sub, mul}
+use Rattle.geodesy.specs.declared.LonLat.{LonLat}
+use Rattle.geodesy.specs.declared.Metres.{Metres}
+use Rattle.geodesy.specs.Contracts.Stages.{longitudeOf, stretchOf, northOf}
+use Rattle.similarity.specs.declared.projection.Projection.{Projection}
+use Rattle.similarity.specs.Projection.{round9Of, geoBy}
+
+-- ---- `geoBy` in stages: the longitude that is given out with the exponential of the ordinate, and the latitude of its arc tangent
+-- the point's position on the plane
+unfoldable pub planeOf : Projection → Float → Float → Metres
+planeOf p x y =
+    let dx = mul binary64 (sub binary64 x (p .x)) (p .scale) in
+    let dy = mul binary64 (sub binary64 y (p .y)) (p .scale) in
+    let e = add binary64 (mul binary64 dx (p .cos)) (mul binary64 dy (p .sin)) in
+    let n = add binary64 (mul binary64 (neg dx) (p .sin)) (mul binary64 dy (p .cos)) in
+    record { x = add binary64 (p .east) e; y = add binary64 (p .north) n }
+
+unfoldable pub stretchedOf : Projection → Float → Float → LonLat
+stretchedOf p x y = let m = planeOf p x y in record { lon = round9Of (longitudeOf (m .x)); lat = stretchOf (m .y) }
+
+unfoldable pub latitudeOf : Float → Float
+latitudeOf a = round9Of (northOf a)

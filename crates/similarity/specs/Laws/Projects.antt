@@ -1,0 +1,13 @@
+-- A point goes through what is worked out once as it does through the registration. Assumes nothing.
+use mathlib.Core.Path.{_≡_, refl}
+use lib.Ieee.{Float}
+use Rattle.similarity.specs.declared.projection.Registration.{Registration}
+use Rattle.similarity.specs.Projection.{planeOffsetOf, toLonLatOf, projectionOf, projectOf, geoOf, geoBy}
+
+pub projects : (r : Registration) (x y : Float) → projectOf (projectionOf r) x y ≡ toLonLatOf r x y
+unfolding projectOf projectionOf toLonLatOf planeOffsetOf
+projects r x y = refl
+
+pub geo-projects : (r : Registration) (x y : Float) → geoBy (projectionOf r) x y ≡ geoOf r x y
+unfolding geoBy geoOf
+geo-projects r x y = rw projects

@@ -1,0 +1,27 @@
+-- A part of a stream that starts at a block, as the readers see it.
+use mathlib.Core.Path.{_≡_}
+use Prim.Native.Nat.{ℕ, _+_, _*_, _/_, _%_, _≤_, _<_}
+use mathlib.Core.List.{List}
+use lib.ListN.{length, getD, drop}
+use Rattle.stream.specs.Payload.{payload}
+
+-- its length, over numbers alone so that omega reads it
+abbrev pub room : List ℕ → ℕ
+room s = 508 * (length s / 512)
+
+-- where its byte p stands: a block holds 508 of them
+abbrev pub placeOf : ℕ → ℕ
+placeOf p = 512 * (p / 508) + p % 508
+
+-- the payload from an offset on
+unfoldable pub rest : List ℕ → ℕ → List ℕ
+rest s off = drop off (payload s)
+
+-- the part that starts at the block of byte p of the payload; in it, p is at p % 508
+abbrev pub partFrom : List ℕ → ℕ → List ℕ
+partFrom s p = drop (512 * (p / 508)) s
+
+-- n bytes of the rest, from i on, stand side by side in the part, from `at` on
+pub record Straight (s : List ℕ) (off i n at : ℕ) : Type 0 where
+  pub fits : at + n ≤ length s
+  pub same : (k : ℕ) → k < n → getD s (at + k) 0 ≡ getD (rest s off) (i + k) 0
