@@ -2,3 +2,4 @@
 pub mod Floats
 pub mod Hits
 pub mod Order
+pub mod Refusals

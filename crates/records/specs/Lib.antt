@@ -5,6 +5,6 @@ pub mod Layout
 pub mod Limits
 pub mod Search
 pub mod Values
-pub mod Refusals
+pub mod Conditions
 pub mod Contracts
 pub mod Laws

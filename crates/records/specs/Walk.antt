@@ -1,7 +1,8 @@
 -- The records of a payload, one after the other, each with the bytes from its tag on. Names, floats and pairs are read off these.
 use Prim.Native.Nat.{ℕ, zero, suc, _-_}
-use mathlib.Core.Bool.{Bool, true, false}
+use mathlib.Core.Bool.{Bool, false}
 use mathlib.Core.List.{List, [], _∷_}
+use lib.Dec.{eqb}
 use Rattle.records.specs.declared.records.Record.{Record}
 use Rattle.records.specs.declared.records.Record.the-variants.{Rescale, Choice, Feature, Variable, Place, Item, Points, Path}
 use Rattle.records.specs.declared.records.Step.{Step}
@@ -33,10 +34,16 @@ entries [] n = []
 entries (x ∷ xs) zero = more (x ∷ xs) (recordOf (x ∷ xs)) (λ n. entries xs n)
 entries (x ∷ xs) (suc n) = entries xs n
 
+-- the number of the condition that what stands at a position breaks: none, or 3 where it is neither a record nor the end record
+abbrev pub numberBy : Step → ℕ
+numberBy (Got r k) = 0
+numberBy End = 0
+numberBy Bad = 3
+
 abbrev pub close : Step → (ℕ → Bool) → Bool
 close (Got r k) f = f (k - 1)
-close End f = true
-close Bad f = false
+close End f = eqb (numberBy End) 0
+close Bad f = eqb (numberBy Bad) 0
 
 -- whether an end record closes them
 unfoldable pub ends : List ℕ → ℕ → Bool

@@ -4,7 +4,7 @@ ghost use Prim.Native.Nat.{_≤_};
 ghost use lib.ListN.{length};
 ghost use Rattle.stream.specs.Payload.{payload};
 ghost use Rattle.records.specs.Values.{flattenIn, notAbove};
-ghost use Rattle.records.specs.Refusals.{valuesRefusal, refusalOf};
+ghost use Rattle.records.specs.Contracts.Refusals.{valuesRefusal, refusalOf};
 use crate::floats::limits;
 use crate::order::layout;
 use crate::search::find;

@@ -1,4 +1,4 @@
--- `register` of the source's register.rs, with the numbers of document 01: refusals 7 to 14, warnings 1 to 4, and the registration.
+-- `register` of the source's register.rs, with the numbers of document 01: conditions 7 to 14, warnings 1 to 4, and the registration.
 use Prim.Native.Nat.{ℕ, zero, suc, _-_}
 use mathlib.Core.Bool.{Bool, true, false, not, _&&_, _||_, cond}
 use mathlib.Core.List.{List, [], _∷_, _++_}
@@ -7,6 +7,7 @@ use lib.Dec.{eqb, ltb}
 use lib.Ieee.{Float, binary64, ofBits, mul, div, eq, ne, lt, le}
 use lib.Ieee.Scale.{finite}
 use Rattle.float.specs.Functions.{absOf}
+use Rattle.stream.specs.Conditions.{Condition}
 use Rattle.scene.specs.Scene.{Maybe, none, some, Point, NamedFeature, NamedValue, Scene}
 use Rattle.scene.specs.Labels.{same, variableOf, orElse, pointOfLabel}
 use Rattle.similarity.specs.declared.fit.Control.{Control}
@@ -252,20 +253,21 @@ registrationBy sc anchor (c ∷ d ∷ cs) = fitted (fitOf (c ∷ d ∷ cs)) (len
 unfoldable pub registrationOf : Scene → Registration
 registrationOf sc = registrationBy sc (anchorOf sc) (controlsOf sc)
 
--- ---- refusals 7 to 14: the number of the first condition that holds, 0 where none does
-unfoldable pub registerRefusal : Scene → ℕ
-registerRefusal sc =
+-- ---- conditions 7 to 14, in the order of checking
+unfoldable pub ofRegistration : Scene → List Condition
+ofRegistration sc =
     let cs = controlsOf sc in
     let few = ltb (length cs) 2 in
-    cond (not (isMercator (sc .frame) (var sc geoFrame))) 7
-    (cond (not (allPlaced cs && anchorPlaced (anchorOf sc))) 8
-    (cond (ltb 64 (length cs)) 9
-    (cond (eqb (length cs) 0 && not (isSome (anchorOf sc))) 10
-    (cond (not few && not (fitOf cs .some)) 11
-    (cond (few && not (lt f0 (scaleValue sc))) 12
-    (cond (few && (pxMode sc && not (above0 (sc .viewScale)))) 13
-    (cond (not (finite (registrationOf sc .scale) && le (registrationOf sc .scale) maxScale)) 14
-    0)))))))
+    let r = registrationOf sc in
+    (7, not (isMercator (sc .frame) (var sc geoFrame)))
+    ∷ (8, not (allPlaced cs && anchorPlaced (anchorOf sc)))
+    ∷ (9, ltb 64 (length cs))
+    ∷ (10, eqb (length cs) 0 && not (isSome (anchorOf sc)))
+    ∷ (11, not few && not (fitOf cs .some))
+    ∷ (12, few && not (lt f0 (scaleValue sc)))
+    ∷ (13, few && (pxMode sc && not (above0 (sc .viewScale))))
+    ∷ (14, not (finite (r .scale) && le (r .scale) maxScale))
+    ∷ []
 
 -- ---- its warnings, in the source's order
 abbrev pub only : Bool → Warning → List Warning

@@ -7,13 +7,13 @@ use lib.ListN.{length}
 use lib.Dec.{eqb}
 use borrow.Author.Tests.{eq-eqb, ne-eqb, eqb-true, eqb-false}
 use Rattle.stream.specs.Payload.{payload}
-use Rattle.records.specs.Refusals.{refusalOf}
+use Rattle.records.specs.Contracts.Refusals.{refusalOf}
 use Rattle.scene.specs.Scene.{Maybe, Point, Scene, sceneOf}
 use Rattle.similarity.specs.declared.fit.Control.{Control}
 use Rattle.similarity.specs.declared.projection.Registration.{Registration}
 use Rattle.register.specs.declared.outcome.Outcome.{Outcome}
-use Rattle.register.specs.Register.{controlsOf, anchorOf, registrationBy, registrationOf, registerRefusal, registerWarnings}
-use Rattle.register.specs.Contracts.Outcome.{accepted, refusedBy, pickOutcome, outcomeOf}
+use Rattle.register.specs.Register.{controlsOf, anchorOf, registrationBy, registrationOf, registerWarnings}
+use Rattle.register.specs.Contracts.Outcome.{registerRefusal, accepted, refusedBy, pickOutcome, outcomeOf}
 use Rattle.register.specs.Contracts.Warned.{Sheet, allPushed}
 use Rattle.register_host.specs.Contracts.Answer.{answerOf, warnedOf, nothing}
 

@@ -1,7 +1,7 @@
 // The refusals of a stream and the questions to its scene as C symbols, for the comparison.
 ghost use mathlib.Core.Path.{_≡_};
 ghost use Rattle.stream.specs.Payload.{payload};
-ghost use Rattle.records.specs.Refusals.{refusalOf};
+ghost use Rattle.records.specs.Contracts.Refusals.{refusalOf};
 ghost use Rattle.scene.specs.Scene.{Maybe, sceneOf};
 ghost use Rattle.scene.specs.Contracts.Answers.{valueBy, spotBy, frameBy, featuresAt, featuresBy, variablesAt, variablesBy, placesAt, placesBy, itemsAt, itemsBy, pointsFrom, pointsBy, pathsFrom, pathsBy};
 ghost use Rattle.scene_host.specs.Contracts.Guarded.{spotIn, labelIn};

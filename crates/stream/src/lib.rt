@@ -5,7 +5,7 @@ ghost use Prim.Native.Nat.{_+_, _*_, _<_, _≤_};
 ghost use lib.ListN.{length, getD};
 ghost use Rattle.stream.specs.Numbers.{u16At, u32At, u64At, floatAt};
 ghost use Rattle.stream.specs.Blocks.{checked};
-ghost use Rattle.stream.specs.Contracts.Blocks.{blocksOf};
+ghost use Rattle.stream.specs.Contracts.Blocks.{Judged};
 ghost use Rattle.stream.specs.Contracts.Payload.{room, placeOf, rest, partFrom, Straight};
 
 mod numbers;
@@ -56,7 +56,7 @@ fn check(s: &[u8], i: usize) -> bool
 
 // Conditions 1 and 2.
 pub fn judge(s: &[u8]) -> Blocks
-    ensures { λ r. ⌜ r ≡ blocksOf (now (s .entry)) ⌝ }
+    ensures { λ r. ⌜ Judged (now (s .entry)) r ⌝ }
 {
     let n = s.len() / BLOCK;
     if s.len() == 0 {

@@ -2,10 +2,11 @@ use mathlib.Core.Path.{_≡_, sym, _∙_}
 use mathlib.Core.List.{[]}
 use borrow.Author.Needs.{needs}
 use Rattle.stream.specs.Payload.{payload}
-use Rattle.records.specs.Refusals.{refusalOf}
+use Rattle.records.specs.Contracts.Refusals.{refusalOf}
 use Rattle.records.specs.Laws.Refusals.{is-laid-out}
 use Rattle.scene.specs.Scene.{sceneOf}
-use Rattle.register.specs.Register.{registrationOf, registerRefusal}
+use Rattle.register.specs.Register.{registrationOf}
+use Rattle.register.specs.Contracts.Outcome.{registerRefusal}
 use Rattle.geopic.specs.Geopic.{Lent}
 use Rattle.geopic.specs.Laws.Calls.{outcome-number, outcome-is, early-answer, early-lent, middle-answer, middle-lent, late-answer, late-lent, accepted-answer, accepted-lent}
 use Rattle.geopic.proofs.geopic_place.Statement.{statement}

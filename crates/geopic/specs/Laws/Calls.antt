@@ -9,7 +9,7 @@ use lib.Dec.{eqb, leb}
 use lib.Ieee.{Float}
 use borrow.Author.Tests.{le-leb, lt-leb, leb-true, leb-false, eq-eqb, ne-eqb, eqb-true, eqb-false}
 use Rattle.stream.specs.Payload.{payload}
-use Rattle.records.specs.Refusals.{refusalOf}
+use Rattle.records.specs.Contracts.Refusals.{refusalOf}
 use Rattle.scene.specs.Scene.{Maybe, Point, Scene, sceneOf}
 use Rattle.scene.specs.Contracts.Answers.{itemsAt}
 use Rattle.scene.specs.Laws.Answers.{scene-lists}
@@ -19,8 +19,8 @@ use Rattle.similarity.specs.declared.projection.Registration.{Registration}
 use Rattle.similarity.specs.Projection.{projectionOf}
 use Rattle.register.specs.declared.warnings.Warned.{Warned}
 use Rattle.register.specs.declared.outcome.Outcome.{Outcome}
-use Rattle.register.specs.Register.{Warning, f0, controlsOf, anchorOf, registrationBy, registrationOf, registerRefusal, registerWarnings}
-use Rattle.register.specs.Contracts.Outcome.{accepted, refusedBy, pickOutcome, outcomeOf}
+use Rattle.register.specs.Register.{Warning, f0, controlsOf, anchorOf, registrationBy, registrationOf, registerWarnings}
+use Rattle.register.specs.Contracts.Outcome.{registerRefusal, accepted, refusedBy, pickOutcome, outcomeOf}
 use Rattle.register.specs.Contracts.Warned.{pushed, allPushed}
 use Rattle.register.specs.Contracts.Warned as register
 use Rattle.budget.specs.declared.Budget.{Budget}

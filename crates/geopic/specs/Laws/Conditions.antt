@@ -14,10 +14,11 @@ use Rattle.stream.specs.Payload.{payload}
 use Rattle.records.specs.Layout.{laidOut}
 use Rattle.records.specs.Limits.{limited}
 use Rattle.records.specs.Values.{flattenIn, rescaleIn, notAbove}
-use Rattle.records.specs.Refusals.{valuesRefusal, refusalOf}
+use Rattle.records.specs.Contracts.Refusals.{valuesRefusal, refusalOf}
 use Rattle.scene.specs.Scene.{Scene, sceneOf}
 use Rattle.similarity.specs.Fit.{fitOf}
-use Rattle.register.specs.Register.{var, geoFrame, f0, maxScale, isMercator, controlsOf, allPlaced, anchorOf, anchorPlaced, isSome, scaleValue, pxMode, above0, registrationOf, registerRefusal}
+use Rattle.register.specs.Register.{var, geoFrame, f0, maxScale, isMercator, controlsOf, allPlaced, anchorOf, anchorPlaced, isSome, scaleValue, pxMode, above0, registrationOf}
+use Rattle.register.specs.Contracts.Outcome.{registerRefusal}
 use Rattle.densify.specs.Positions.{flats}
 use Rattle.convert.specs.Convert.{Event, drew, need, feature, warned}
 use Rattle.convert.specs.Space.{Sheet, pickSheet, lacking, withFeature, withWarning, played, playAll}

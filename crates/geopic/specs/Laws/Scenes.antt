@@ -6,11 +6,12 @@ use mathlib.Core.List.{List, [], _∷_, _++_, map}
 use lib.Dec.{eqb}
 use borrow.Author.Tests.{eq-eqb, eqb-true, eqb-false}
 use Rattle.stream.specs.Payload.{payload}
-use Rattle.records.specs.Refusals.{refusalOf}
+use Rattle.records.specs.Contracts.Refusals.{refusalOf}
 use Rattle.scene.specs.Scene.{Point, Scene, sceneOf}
 use Rattle.similarity.specs.Projection.{geoOf}
 use Rattle.similarity.specs.Laws.Projects.{geo-projects}
-use Rattle.register.specs.Register.{Warning, registrationOf, registerRefusal, registerWarnings}
+use Rattle.register.specs.Register.{Warning, registrationOf, registerWarnings}
+use Rattle.register.specs.Contracts.Outcome.{registerRefusal}
 use Rattle.register.specs.Laws.Sound.{accepted-tame, accepted-sound}
 use Rattle.budget.specs.Draws.{leftAfter, Claim}
 use Rattle.budget.specs.Laws.Draws.{claim}

@@ -6,12 +6,17 @@ use lib.ListN.{length}
 use lib.Dec.{eqb}
 use lib.Ieee.{le, lt}
 use lib.Ieee.Scale.{finite}
+use Rattle.stream.specs.Conditions.{firstOf}
 use Rattle.scene.specs.Scene.{Point, Scene}
 use Rattle.similarity.specs.declared.fit.Control.{Control}
 use Rattle.similarity.specs.declared.projection.Registration.{Registration}
 use Rattle.similarity.specs.Fit.{fitOf}
 use Rattle.register.specs.declared.outcome.Outcome.{Outcome}
-use Rattle.register.specs.Register.{f0, maxScale, above0, pxMode, scaleValue, declaredAt, fitted, registrationOf, registerRefusal}
+use Rattle.register.specs.Register.{f0, maxScale, above0, pxMode, scaleValue, declaredAt, fitted, registrationOf, ofRegistration}
+
+-- the number by which conditions 7 to 14 refuse a scene, 0 where they let it pass
+abbrev pub registerRefusal : Scene → ℕ
+registerRefusal sc = firstOf (ofRegistration sc)
 
 abbrev pub noRegistration : Registration
 noRegistration = record { lon = f0; lat = f0; x = f0; y = f0; scale = f0; bearing = f0; method = 0; controls = 0 }

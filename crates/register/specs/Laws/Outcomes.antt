@@ -12,6 +12,8 @@ use lib.Seq.{take-suc-set, take-suc}
 use lib.Dec.{eqb, ltb}
 use lib.Ieee.{lt, le}
 use lib.Ieee.Scale.{finite}
+use Rattle.stream.specs.Conditions.{firstOf}
+use Rattle.stream.specs.Laws.Conditions.{Numbered}
 use Rattle.scene.specs.Scene.{Maybe, none, some, Point, Scene}
 use Rattle.scene.specs.declared.numbers.Spot.{Spot}
 use Rattle.scene.specs.Contracts.Answers.{spotBy}
@@ -20,9 +22,9 @@ use Rattle.similarity.specs.declared.projection.Registration.{Registration}
 use Rattle.similarity.specs.Fit.{fitOf}
 use Rattle.register.specs.declared.controls.Gathered.{Gathered}
 use Rattle.register.specs.declared.outcome.Outcome.{Outcome}
-use Rattle.register.specs.Register.{f0, maxScale, var, geoFrame, isMercator, placed, allPlaced, anchorPlaced, anchorOf, Event, control, warn, events, controlsIn, controlsOf, scaleValue, pxMode, above0, declaredAt, fitted, registrationBy, registrationOf, registerRefusal}
+use Rattle.register.specs.Register.{f0, maxScale, var, geoFrame, isMercator, placed, allPlaced, anchorPlaced, anchorOf, Event, control, warn, events, controlsIn, controlsOf, scaleValue, pxMode, above0, declaredAt, fitted, registrationBy, registrationOf, ofRegistration}
+use Rattle.register.specs.Contracts.Outcome.{registerRefusal, accepted, refusedBy, pickOutcome, outcomeOf, checkedOf, declaredOutcome, fittedOutcome}
 use Rattle.register.specs.Contracts.Gathered.{noControls, putOf, after, gathered}
-use Rattle.register.specs.Contracts.Outcome.{accepted, refusedBy, pickOutcome, outcomeOf, checkedOf, declaredOutcome, fittedOutcome}
 
 -- ---- what has been gathered
 pub record Holds (cs : List Control) (g : Gathered) : Type 0 where
@@ -108,6 +110,11 @@ unfolding anchorPlaced
 anchor-out a m e h k = rw (← e, h) k
 
 -- ---- each return of `register`
+pub registration-numbered : (sc : Scene) → Numbered (ofRegistration sc)
+unfolding ofRegistration
+registration-numbered sc =
+    (omega arith, (omega arith, (omega arith, (omega arith, (omega arith, (omega arith, (omega arith, (omega arith, tt))))))))
+
 -- the number k of a refusal, 0 for the registration r
 abbrev answer : ℕ → Registration → Outcome
 answer k r = pickOutcome (eqb k 0) (accepted r) (refusedBy k)
@@ -143,15 +150,15 @@ registered-fit sc m (c ∷ []) h = absurd (omega arith)
 registered-fit sc m (c ∷ d ∷ cs) h = refl
 
 pub not-mercator : (sc : Scene) → isMercator (sc .frame) (var sc geoFrame) ≡ false → refusedBy 7 ≡ outcomeOf sc
-unfolding outcomeOf registerRefusal
+unfolding outcomeOf ofRegistration firstOf
 not-mercator sc h = rw h
 
 pub unplaced : (sc : Scene) → isMercator (sc .frame) (var sc geoFrame) ≡ true → allPlaced (controlsOf sc) ≡ false → refusedBy 8 ≡ outcomeOf sc
-unfolding outcomeOf registerRefusal
+unfolding outcomeOf ofRegistration firstOf
 unplaced sc m h = rw (m, h)
 
 pub unplaced-anchor : (sc : Scene) → isMercator (sc .frame) (var sc geoFrame) ≡ true → allPlaced (controlsOf sc) ≡ true → anchorPlaced (anchorOf sc) ≡ false → refusedBy 8 ≡ outcomeOf sc
-unfolding outcomeOf registerRefusal
+unfolding outcomeOf ofRegistration firstOf
 unplaced-anchor sc m all h = rw (m, all, h)
 
 -- past 8
@@ -162,11 +169,11 @@ pub record Passed (sc : Scene) : Type 0 where
 
 module _ {sc : Scene} (p : Passed sc) where
   pub too-many : 64 < length (controlsOf sc) → refusedBy 9 ≡ outcomeOf sc
-  unfolding outcomeOf registerRefusal
+  unfolding outcomeOf ofRegistration firstOf
   too-many h = rw (p .mercator, p .all, p .anchor, lt-ltb 64 (length (controlsOf sc)) h)
 
   pub by-fit : 2 ≤ length (controlsOf sc) → length (controlsOf sc) ≤ 64 → fittedOutcome (controlsOf sc) ≡ outcomeOf sc
-  unfolding outcomeOf registerRefusal fittedOutcome registrationOf
+  unfolding outcomeOf ofRegistration firstOf fittedOutcome registrationOf
   by-fit h k =
       let n = length (controlsOf sc) in
       let f = fitOf (controlsOf sc) in
@@ -175,13 +182,13 @@ module _ {sc : Scene} (p : Passed sc) where
       (first-answer (not (f .some)) 11 _ _ (fitted f n) refl (checked-answer (fitted f n)))
 
   pub by-one : (c : Control) → controlsOf sc ≡ c ∷ [] → declaredOutcome sc (record { x = c .lon; y = c .lat }) (record { x = c .x; y = c .y }) 1 ≡ outcomeOf sc
-  unfolding outcomeOf registerRefusal registrationOf registrationBy
+  unfolding outcomeOf ofRegistration firstOf registrationOf registrationBy
   by-one c e = rw (p .mercator, p .all, p .anchor, e) (declared-answer sc _ _ 1)
 
   pub no-anchor : controlsOf sc ≡ [] → anchorOf sc ≡ none → refusedBy 10 ≡ outcomeOf sc
-  unfolding outcomeOf registerRefusal
+  unfolding outcomeOf ofRegistration firstOf
   no-anchor e a = rw (p .mercator, p .all, p .anchor, e, a)
 
   pub by-anchor : (q : Point) → controlsOf sc ≡ [] → anchorOf sc ≡ some q → declaredOutcome sc q (record { x = f0; y = f0 }) 0 ≡ outcomeOf sc
-  unfolding outcomeOf registerRefusal registrationOf registrationBy
+  unfolding outcomeOf ofRegistration firstOf registrationOf registrationBy
   by-anchor q e a = rw (p .mercator, p .all, p .anchor, e, a) (declared-answer sc q _ 0)

@@ -13,10 +13,12 @@ use Rattle.records.specs.Walk.{entries}
 use Rattle.records.specs.Search.{past, turnOf, recordsOf}
 use Rattle.records.specs.Values.{flattenIn}
 use Rattle.scene.specs.Scene as scene
+use Rattle.stream.specs.Conditions.{firstOf}
 use Rattle.scene.specs.Scene.{sceneOf, valueOf, numberAt, bit, pointAt, pointsAt, cubicAt, cubicsAt, featureAt, variableAt, placeAt, formAt, pathAt, itemAt}
 use Rattle.scene.specs.Labels as labels
 use Rattle.scene.specs.Labels.{same, sumOf, meanOf, meanPoint, startOf, firstStart, meanOrStart, referencePoint, greater, consider, carries, bestPlace, bestItem, pointOfLabel}
-use Rattle.register.specs.Register.{Warning, isMercator, notZero, pxMode, mentioned, eventOf, featureEvent, featureEvents, isLon, lonEvent, variableEvents, events, controlsIn, warningsIn, controlsOf, bothOf, anchorOf, halfAnchor, placed, allPlaced, anchorPlaced, scaleValue, above0, effectiveScale, registrationBy, registrationOf, registerRefusal, anyDeclared, ignoredWith, viewWarnings, halfWarnings, registerWarnings}
+use Rattle.register.specs.Register.{Warning, isMercator, notZero, pxMode, mentioned, eventOf, featureEvent, featureEvents, isLon, lonEvent, variableEvents, events, controlsIn, warningsIn, controlsOf, bothOf, anchorOf, halfAnchor, placed, allPlaced, anchorPlaced, scaleValue, above0, effectiveScale, registrationBy, registrationOf, ofRegistration, anyDeclared, ignoredWith, viewWarnings, halfWarnings, registerWarnings}
+use Rattle.register.specs.Contracts.Outcome.{registerRefusal}
 
 -- ---- records, by their bytes; a float by its pattern
 abbrev float : ℕ → List ℕ
@@ -75,7 +77,7 @@ refusals :
     -- an anchor is checked also where a control point makes it unused, and one that resolves to nothing is not
     × (refusal (mercator ++ anchor 0 (edge + 1) ++ feature (65 ∷ []) 0 0 ++ place (65 ∷ []) 0 0) ≡ 8)
     × (refusal (mercator ++ anchor 0 0 ++ feature (65 ∷ []) 0 (edge + 1)) ≡ 0)
-unfolding registerRefusal registrationOf registrationBy effectiveScale above0 scaleValue anchorPlaced allPlaced placed halfAnchor anchorOf bothOf controlsOf controlsIn events variableEvents lonEvent isLon featureEvents featureEvent eventOf mentioned pxMode notZero isMercator labels.variableOf same sumOf meanOf meanPoint startOf firstStart meanOrStart referencePoint greater consider carries bestPlace bestItem pointOfLabel sceneOf valueOf numberAt bit pointAt pointsAt cubicAt cubicsAt featureAt variableAt placeAt formAt pathAt itemAt scene.itemWith flattenIn part past turnOf recordsOf entries recordOf byTag endOf rescaleOf choiceOf featureOf variableOf placeOf itemOf pointsOf pathOf pathWith cubicsOf polylineOf records.itemWith itemFits itemBegins valuesWidth choiceFits choiceWidth namedThen counted labelled named plain allTo allZero floatAt floatOf u16At u32At u64At absOf ofBits ofInt neg add sub mul div rem lt eq le ne sum round units odd size climb span
+unfolding ofRegistration firstOf registrationOf registrationBy effectiveScale above0 scaleValue anchorPlaced allPlaced placed halfAnchor anchorOf bothOf controlsOf controlsIn events variableEvents lonEvent isLon featureEvents featureEvent eventOf mentioned pxMode notZero isMercator labels.variableOf same sumOf meanOf meanPoint startOf firstStart meanOrStart referencePoint greater consider carries bestPlace bestItem pointOfLabel sceneOf valueOf numberAt bit pointAt pointsAt cubicAt cubicsAt featureAt variableAt placeAt formAt pathAt itemAt scene.itemWith flattenIn part past turnOf recordsOf entries recordOf byTag endOf rescaleOf choiceOf featureOf variableOf placeOf itemOf pointsOf pathOf pathWith cubicsOf polylineOf records.itemWith itemFits itemBegins valuesWidth choiceFits choiceWidth namedThen counted labelled named plain allTo allZero floatAt floatOf u16At u32At u64At absOf ofBits ofInt neg add sub mul div rem lt eq le ne sum round units odd size climb span
 refusals = (refl, refl, refl, refl, refl, refl, refl, refl, refl, refl)
 
 -- A named twice, B without a place, an unused view's scale, C_lon without C_lat, A_lon behind the feature A, half an anchor

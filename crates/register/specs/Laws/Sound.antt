@@ -30,22 +30,23 @@ use Rattle.similarity.specs.Laws.Fitted.{Placed, fit-sound}
 use Rattle.stream.specs.Numbers.{u64At, floatOf, floatAt}
 use Rattle.stream.specs.declared.Float64.{Float64}
 use Rattle.stream.specs.declared.Float64.the-variants.{Finite, NotFinite}
-use Rattle.stream.specs.Blocks.{sized, allChecked}
 use Rattle.stream.specs.Payload.{payload}
 use Rattle.stream.specs.Laws.Payload.{payload-length}
 use Rattle.records.specs.Walk.{entries}
 use Rattle.records.specs.Search.{recordsOf}
-use Rattle.records.specs.Layout.{laidOut}
 use Rattle.records.specs.Limits.{limited}
 use Rattle.records.specs.Values.{flattenIn, rescaleIn, notAbove}
-use Rattle.records.specs.Refusals.{valuesRefusal, refusalOf}
+use Rattle.records.specs.Contracts.Refusals.{refusalOf}
 use Rattle.records.specs.Laws.Tests.{and-left, and-right}
-use Rattle.records.specs.Laws.Refusals.{is-short, is-limited}
+use Rattle.records.specs.Laws.Refusals.{is-short, is-limited, is-rescaled}
+use Rattle.stream.specs.Laws.Conditions.{first-none}
 use Rattle.scene.specs.Scene.{Maybe, none, some, first, valueOf, numberAt, Point, NamedFeature, NamedValue, variableAt, Scene, sceneOf}
 use Rattle.scene.specs.Labels.{same, pick, variableOf, orElse}
 use Rattle.register.specs.Register.{geoBearing, geoFrame, suffixLat, f0, f1, maxScale, orValue, isSome, var, isMercator, pxMode, declaredBearing}
 use Rattle.register.specs.Register.{Warning, Event, control, warn, resolved, mentioned, eventOf, featureEvent, featureEvents, stem, isLon, lonEvent, onto, variableEvents, events, controlsIn, controlsOf}
-use Rattle.register.specs.Register.{anchorOf, placed, allPlaced, anchorPlaced, scaleValue, above0, effectiveScale, declaredAt, fitted, registrationBy, registrationOf, registerRefusal}
+use Rattle.register.specs.Register.{anchorOf, placed, allPlaced, anchorPlaced, scaleValue, above0, effectiveScale, declaredAt, fitted, registrationBy, registrationOf, ofRegistration}
+use Rattle.register.specs.Contracts.Outcome.{registerRefusal}
+use Rattle.register.specs.Laws.Outcomes.{registration-numbered}
 use Rattle.register.specs.Laws.Near.{Holds, Near, NearPoint, NearScene, longest, label-near, limited-near}
 
 -- ---- numbers of a stream
@@ -282,11 +283,6 @@ effective-plus sc r s v =
     div-plus _ (sc .rescale) (used-plus (pxMode sc) (sc .viewScale) (scaleValue sc) (above-plus (scaleValue sc) (yes (lt f0 (scaleValue sc)) s)) v) r
 
 -- ---- refusals
--- where none holds, the first does not
-not-first : (b : Bool) (k r : ℕ) → 0 < k → cond b k r ≡ 0 → (b ≡ false) × (r ≡ 0)
-not-first true k r h e = absurd (omega arith)
-not-first false k r h e = (refl, e)
-
 -- 8, 9 and 11 to 14 for the control points cs
 record Passes (sc : Scene) (cs : List Control) : Type 0 where
   all : allPlaced cs ≡ true
@@ -299,27 +295,21 @@ record Passes (sc : Scene) (cs : List Control) : Type 0 where
   small : T (le (registrationBy sc (anchorOf sc) cs .scale) maxScale)
 
 passes : (sc : Scene) → registerRefusal sc ≡ 0 → Passes sc (controlsOf sc)
-unfolding registerRefusal registrationOf
+unfolding ofRegistration registrationOf
 passes sc z =
     let cs = controlsOf sc in
     let r = registrationBy sc (anchorOf sc) cs in
-    let frame = not-first (not (isMercator (sc .frame) (var sc geoFrame))) 7 _ (lit< tt) z in
-    let earth = not-first (not (allPlaced cs && anchorPlaced (anchorOf sc))) 8 _ (lit< tt) (frame .1) in
-    let many = not-first (ltb 64 (length cs)) 9 _ (lit< tt) (earth .1) in
-    let nowhere = not-first (eqb (length cs) 0 && not (isSome (anchorOf sc))) 10 _ (lit< tt) (many .1) in
-    let fit = not-first (not (ltb (length cs) 2) && not (fitOf cs .some)) 11 _ (lit< tt) (nowhere .1) in
-    let above = not-first (ltb (length cs) 2 && not (lt f0 (scaleValue sc))) 12 _ (lit< tt) (fit .1) in
-    let view = not-first (ltb (length cs) 2 && (pxMode sc && not (above0 (sc .viewScale)))) 13 _ (lit< tt) (above .1) in
-    let scale = not-first (not (finite (r .scale) && le (r .scale) maxScale)) 14 0 (lit< tt) (view .1) in
-    let placed = is-true (allPlaced cs && anchorPlaced (anchorOf sc)) (earth .0) in
-    let fine = is-true (finite (r .scale) && le (r .scale) maxScale) (scale .0) in
+    let after8 = first-none (ofRegistration sc) (registration-numbered sc) z .1 in
+    let after11 = after8 .1 .1 .1 in
+    let placed = is-true (allPlaced cs && anchorPlaced (anchorOf sc)) (after8 .0) in
+    let fine = is-true (finite (r .scale) && le (r .scale) maxScale) (after11 .1 .1 .1 .0) in
     record {
       all = and-left _ _ placed;
       anchor = and-right (allPlaced cs) _ placed;
-      most = many .0;
-      fit = fit .0;
-      above = above .0;
-      view = view .0;
+      most = after8 .1 .0;
+      fit = after11 .0;
+      above = after11 .1 .0;
+      view = after11 .1 .1 .0;
       scale = yes (finite (r .scale)) (and-left _ _ fine);
       small = yes (le (r .scale) maxScale) (and-right (finite (r .scale)) _ fine);
     }
@@ -370,21 +360,9 @@ tame-sound sc t h =
     let p = passes sc h in
     registered sc (controlsOf sc) t (controls-placed sc (t .points) (p .all)) p
 
--- ---- refusals 1 to 6
-pub rescale-above : (s : List ℕ) → refusalOf s ≡ 0 → notAbove (rescaleIn (payload s)) ≡ false
-unfolding refusalOf valuesRefusal
-rescale-above s h =
-    let l = payload s in
-    let size = not-first (not (sized s)) 1 _ (lit< tt) h in
-    let check = not-first (not (allChecked s (length s / 512))) 2 _ (lit< tt) (size .1) in
-    let order = not-first (not (laidOut l)) 3 _ (lit< tt) (check .1) in
-    let limit = not-first (not (limited l)) 4 _ (lit< tt) (order .1) in
-    let flat = not-first (notAbove (flattenIn l)) 5 _ (lit< tt) (limit .1) in
-    not-first (notAbove (rescaleIn l)) 6 0 (lit< tt) (flat .1) .0
-
 -- ---- the law
 pub accepted-tame : (s : List ℕ) → refusalOf s ≡ 0 → Tame (sceneOf (payload s))
-accepted-tame s h = tame (payload s) (omega (arith, payload-length s, is-short s h)) (is-limited s h) (rescale-above s h)
+accepted-tame s h = tame (payload s) (omega (arith, payload-length s, is-short s h)) (is-limited s h) (is-rescaled s h)
 
 pub accepted-sound : (s : List ℕ) → refusalOf s ≡ 0 → registerRefusal (sceneOf (payload s)) ≡ 0 → Sound (registrationOf (sceneOf (payload s)))
 accepted-sound s h k = tame-sound (sceneOf (payload s)) (accepted-tame s h) k

@@ -22,7 +22,8 @@ use Rattle.scene.specs.Scene as scene
 use Rattle.scene.specs.Scene.{Maybe, none, some, Point, sceneOf, valueOf, numberAt, bit, pointAt, pointsAt, cubicAt, cubicsAt, featureAt, variableAt, placeAt, formAt, pathAt, itemAt}
 use Rattle.scene.specs.Labels as labels
 use Rattle.scene.specs.Labels.{same, sumOf, meanOf, meanPoint, startOf, firstStart, meanOrStart, referencePoint, greater, consider, carries, bestPlace, bestItem, pointOfLabel}
-use Rattle.register.specs.Register.{isMercator, notZero, pxMode, mentioned, eventOf, featureEvent, featureEvents, isLon, lonEvent, variableEvents, events, controlsIn, controlsOf, bothOf, anchorOf, halfAnchor, placed, allPlaced, anchorPlaced, scaleValue, above0, effectiveScale, registrationBy, registrationOf, registerRefusal}
+use Rattle.register.specs.Register.{isMercator, notZero, pxMode, mentioned, eventOf, featureEvent, featureEvents, isLon, lonEvent, variableEvents, events, controlsIn, controlsOf, bothOf, anchorOf, halfAnchor, placed, allPlaced, anchorPlaced, scaleValue, above0, effectiveScale, registrationBy, registrationOf}
+use Rattle.register.specs.Contracts.Outcome.{registerRefusal}
 use Rattle.budget.specs.declared.Budget.{Budget}
 use Rattle.budget.specs.Budget.{grantOf, takeOf}
 use Rattle.densify.specs.Densify.{clamped, partsOf, samePoint, closeRingOf, sharpCorners, boxRingOf, leafOf, alongOf, samplesTo, segmentWant, segmentOf, segmentsOf, densifyPolylineOf}

@@ -14,7 +14,7 @@ use Rattle.records.specs.Layout.{before, stepOf, inOrder, laidOutFrom, laidOut}
 use Rattle.records.specs.Limits.{number, near, choiceFloats, limitedAt, allLimited, limited}
 use Rattle.records.specs.Search.{past, turnOf, recordsOf}
 use Rattle.records.specs.Values.{flattenIn, rescaleIn, notAbove}
-use Rattle.records.specs.Refusals.{valuesRefusal, refusalOf}
+use Rattle.records.specs.Contracts.Refusals.{valuesRefusal, refusalOf}
 
 -- ---- blocks with right checks: a payload of at most 508 bytes, and one of 508 to 1016
 abbrev word : ℕ → List ℕ

@@ -1,17 +1,26 @@
--- What an answer of `judge` stands for.
+-- What an answer of `judge` stands for: document 01's number, and how many blocks it counts.
 use Prim.Native.Nat.{ℕ, _/_}
-use mathlib.Core.List.{List}
+use mathlib.Core.Path.{_≡_}
 use mathlib.Core.Bool.{cond}
+use mathlib.Core.List.{List}
 use lib.ListN.{length}
+use lib.Dec.{eqb}
 use Rattle.stream.specs.declared.Blocks.{Blocks}
 use Rattle.stream.specs.declared.Blocks.the-variants.{Fine, Size, Check}
-use Rattle.stream.specs.Blocks.{sized, allChecked}
+use Rattle.stream.specs.Conditions.{firstOf}
+use Rattle.stream.specs.Blocks.{ofBlocks}
 
-unfoldable pub blocksOf : List ℕ → Blocks
-blocksOf s = cond (sized s) (cond (allChecked s (length s / 512)) (Fine (length s / 512)) Check) Size
+abbrev pub numberBy : Blocks → ℕ
+numberBy (Fine n) = 0
+numberBy Size = 1
+numberBy Check = 2
 
--- the number of the refusal, 0 for none
-abbrev pub refusalOf : Blocks → ℕ
-refusalOf (Fine n) = 0
-refusalOf Size = 1
-refusalOf Check = 2
+abbrev pub countBy : Blocks → ℕ
+countBy (Fine n) = n
+countBy Size = 0
+countBy Check = 0
+
+-- the first of conditions 1 and 2 that holds, and all blocks where none does
+pub record Judged (s : List ℕ) (r : Blocks) : Type 0 where
+  pub number : numberBy r ≡ firstOf (ofBlocks s)
+  pub count : countBy r ≡ cond (eqb (numberBy r) 0) (length s / 512) 0

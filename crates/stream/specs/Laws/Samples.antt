@@ -4,10 +4,9 @@ use mathlib.Core.List.{List, [], _∷_, _++_}
 use Prim.Native.Nat.{ℕ}
 use lib.ListN.{replicate}
 use Rattle.stream.specs.Numbers.{u16At, u32At, u64At}
-use Rattle.stream.specs.Blocks.{sized, wordSum, checked, allChecked}
-use Rattle.stream.specs.Contracts.Blocks.{blocksOf, refusalOf}
+use Rattle.stream.specs.Blocks.{sized, wordSum, checked, allChecked, ofBlocks}
+use Rattle.stream.specs.Conditions.{firstOf}
 use Rattle.stream.specs.Payload.{payloads, payload}
-use Rattle.stream.specs.declared.Blocks.the-variants.{Fine}
 
 -- 127 * 0x01010101 + 0 is 0x7f7f7f7f
 abbrev first : List ℕ
@@ -22,15 +21,15 @@ abbrev unindexed : List ℕ
 unindexed = replicate 508 3 ++ (125 ∷ replicate 3 126)
 
 known :
-    (blocksOf (first ++ second) ≡ Fine 2)
-    × (refusalOf (blocksOf (first ++ unindexed)) ≡ 2)
-    × (refusalOf (blocksOf (second ++ first)) ≡ 2)
-    × (refusalOf (blocksOf []) ≡ 1)
-    × (refusalOf (blocksOf (replicate 511 0)) ≡ 1)
-    × (refusalOf (blocksOf (replicate 513 0)) ≡ 1)
+    (firstOf (ofBlocks (first ++ second)) ≡ 0)
+    × (firstOf (ofBlocks (first ++ unindexed)) ≡ 2)
+    × (firstOf (ofBlocks (second ++ first)) ≡ 2)
+    × (firstOf (ofBlocks []) ≡ 1)
+    × (firstOf (ofBlocks (replicate 511 0)) ≡ 1)
+    × (firstOf (ofBlocks (replicate 513 0)) ≡ 1)
     -- the border of the two payloads, at 508
     × (u16At (payload (first ++ second)) 507 ≡ 0x0301)
     × (u32At (payload (first ++ second)) 505 ≡ 0x03010101)
     × (u64At (payload (first ++ second)) 506 ≡ 0x0303030303030101)
-unfolding blocksOf sized allChecked checked wordSum payload payloads u16At u32At u64At
+unfolding firstOf ofBlocks sized allChecked checked wordSum payload payloads u16At u32At u64At
 known = (refl, refl, refl, refl, refl, refl, refl, refl, refl)
