@@ -71,13 +71,13 @@ featureOf p geometry role ps =
 -- the canvas points, densified and carried to the Earth: a line (1) or a ring (2)
 unfoldable pub strokeOf : Ctx → Props → ℕ → ℕ → List Point → Budget → Trace
 strokeOf cx p geometry role ps b =
-    let m = densifyPolylineOf (cx .step) (cx .projection .scale) ps b in
+    let m = densifyPolylineOf (cx .step) (cx .projection .registration .scale) ps b in
     thenTrace (drawsTrace m) (λ r. single (featureOf p geometry role (positionsOf geometry (map (placedBy (cx .projection)) (m .points)))) r)
 
 -- document 01: fewer positions than a line or a ring has are not written; the draws stand, and a warning takes the place
 unfoldable pub unwrittenOf : Ctx → ℕ → List Point → Budget → Trace
 unwrittenOf cx item ps b =
-    thenTrace (drawsTrace (densifyPolylineOf (cx .step) (cx .projection .scale) ps b)) (λ r. missing item r)
+    thenTrace (drawsTrace (densifyPolylineOf (cx .step) (cx .projection .registration .scale) ps b)) (λ r. missing item r)
 
 unfoldable pub pointOf : Ctx → Props → Point → Budget → Trace
 pointOf cx p at b = single (featureOf p 0 0 (placedBy (cx .projection) at ∷ [])) b
@@ -217,11 +217,11 @@ pathsTrace cx p (q ∷ qs) outlines b = pathsOf cx p (ltb 0 (length qs)) 0 (q �
 
 unfoldable pub drawnOf : Ctx → Props → DrawnItem → Shape → Budget → Trace
 drawnOf cx p it (Box x y w h rad) b =
-    ringTrace cx p (boxRingOf (cx .step) (cx .projection .scale) (cx .flatten) (at x y) w h rad b)
+    ringTrace cx p (boxRingOf (cx .step) (cx .projection .registration .scale) (cx .flatten) (at x y) w h rad b)
 drawnOf cx p it (Ellipse x y w h) b =
-    ringTrace cx p (ellipseRingOf (cx .step) (cx .projection .scale) (cx .flatten) (at x y) (half w) (half h) b)
+    ringTrace cx p (ellipseRingOf (cx .step) (cx .projection .registration .scale) (cx .flatten) (at x y) (half w) (half h) b)
 drawnOf cx p it (Circle x y r) b =
-    ringTrace cx p (ellipseRingOf (cx .step) (cx .projection .scale) (cx .flatten) (at x y) r r b)
+    ringTrace cx p (ellipseRingOf (cx .step) (cx .projection .registration .scale) (cx .flatten) (at x y) r r b)
 drawnOf cx p it (Dot x y) b = pointOf cx p (at x y) b
 drawnOf cx p it Points b = pointsTrace cx p (it .closed) (it .points) (it .fillPoints) b
 drawnOf cx p it Paths b = pathsTrace cx p (it .paths) (it .fillPaths) b

@@ -5,6 +5,7 @@ use mathlib.Core.List.{List, [], _∷_}
 use lib.ListN.{length}
 use lib.Dec.{eqb, leb}
 use lib.Ieee.{Float}
+use Rattle.stream.specs.Conditions.{Condition}
 use Rattle.scene.specs.Scene.{Point}
 use Rattle.register.specs.Register.{Warning}
 use Rattle.densify.specs.Positions.{flats, put}
@@ -80,3 +81,7 @@ played (warned w) t = pickSheet (leb (t .usedWarnings + 2) (length (t .warnings)
 unfoldable pub playAll : List Event → Sheet → Sheet
 playAll [] t = t
 playAll (e ∷ es) t = playAll es (pickSheet (eqb (t .number) 0) (played e t) t)
+
+-- ---- conditions 15 to 18, by the number of the sheet that everything was written onto
+unfoldable pub ofSpace : Sheet → List Condition
+ofSpace t = (15, eqb (t .number) 15) ∷ (16, eqb (t .number) 16) ∷ (17, eqb (t .number) 17) ∷ (18, eqb (t .number) 18) ∷ []

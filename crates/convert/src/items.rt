@@ -46,9 +46,9 @@ fn draw_box(
     st: State,
 ) -> State
     requires { ⌜ Fits (sheetBy (length (now work)) (now positions) (now features) (now warnings) st) (st .budget) ⌝ }
-    ensures { λ r. ⌜ Played (ringTrace cx p (boxRingOf (cx .step) (cx .projection .scale) (cx .flatten) (record { x = x; y = y }) w h rad (st .budget))) (sheetBy (length (now (work .entry))) (now (positions .entry)) (now (features .entry)) (now (warnings .entry)) st) (sheetBy (length (now (work .exit))) (now (positions .exit)) (now (features .exit)) (now (warnings .exit)) r) (r .budget) ⌝ }
+    ensures { λ r. ⌜ Played (ringTrace cx p (boxRingOf (cx .step) (cx .projection .registration .scale) (cx .flatten) (record { x = x; y = y }) w h rad (st .budget))) (sheetBy (length (now (work .entry))) (now (positions .entry)) (now (features .entry)) (now (warnings .entry)) st) (sheetBy (length (now (work .exit))) (now (positions .exit)) (now (features .exit)) (now (warnings .exit)) r) (r .budget) ⌝ }
 {
-    let scale = cx.projection.scale;
+    let scale = cx.projection.registration.scale;
     let d = box_ring(
         cx.step,
         scale,
@@ -78,9 +78,9 @@ fn draw_ellipse(
     st: State,
 ) -> State
     requires { ⌜ Fits (sheetBy (length (now work)) (now positions) (now features) (now warnings) st) (st .budget) ⌝ }
-    ensures { λ r. ⌜ Played (ringTrace cx p (ellipseRingOf (cx .step) (cx .projection .scale) (cx .flatten) (record { x = x; y = y }) rx ry (st .budget))) (sheetBy (length (now (work .entry))) (now (positions .entry)) (now (features .entry)) (now (warnings .entry)) st) (sheetBy (length (now (work .exit))) (now (positions .exit)) (now (features .exit)) (now (warnings .exit)) r) (r .budget) ⌝ }
+    ensures { λ r. ⌜ Played (ringTrace cx p (ellipseRingOf (cx .step) (cx .projection .registration .scale) (cx .flatten) (record { x = x; y = y }) rx ry (st .budget))) (sheetBy (length (now (work .entry))) (now (positions .entry)) (now (features .entry)) (now (warnings .entry)) st) (sheetBy (length (now (work .exit))) (now (positions .exit)) (now (features .exit)) (now (warnings .exit)) r) (r .budget) ⌝ }
 {
-    let scale = cx.projection.scale;
+    let scale = cx.projection.registration.scale;
     let d = ellipse_ring(
         cx.step,
         scale,

@@ -124,9 +124,9 @@ pub fn densify_polyline(
     at: usize,
 ) -> Done
     requires { ⌜ (from ≤ to) × (to ≤ length (now work)) × (at ≤ length (now out)) ⌝ }
-    ensures { λ r. ⌜ Written (now (out .entry)) (now (out .exit)) at (placing t (densifyPolylineOf step (t .scale) (pointsIn (now (work .entry)) from to) budget)) r ⌝ }
+    ensures { λ r. ⌜ Written (now (out .entry)) (now (out .exit)) at (placing t (densifyPolylineOf step (t .registration .scale) (pointsIn (now (work .entry)) from to) budget)) r ⌝ }
 {
-    let d = sample_polyline(step, t.scale, work, from, to, budget, out, at);
+    let d = sample_polyline(step, t.registration.scale, work, from, to, budget, out, at);
     if !d.ok {
         return d;
     }

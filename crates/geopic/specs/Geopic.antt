@@ -1,25 +1,21 @@
 -- The host's call: its answer, and what each of the four lent slices holds after it, for every stream and every length of the slices.
 use Prim.Native.Nat.{ℕ, zero, suc, _/_}
-use mathlib.Core.Bool.{Bool, true, false, not, _&&_, cond}
+use mathlib.Core.Bool.{Bool, true, false, cond}
 use mathlib.Core.List.{List, [], _∷_, _++_, map}
 use lib.ListN.{length}
-use lib.Dec.{eqb, ltb, leb}
-use lib.Ieee.{Float, le, lt}
-use lib.Ieee.Scale.{finite}
-use Rattle.stream.specs.Blocks.{sized, allChecked}
+use lib.Dec.{eqb}
+use lib.Ieee.{Float}
+use Rattle.stream.specs.Conditions.{Condition, firstOf}
 use Rattle.stream.specs.Payload.{payload}
-use Rattle.records.specs.Layout.{laidOut}
-use Rattle.records.specs.Limits.{limited}
-use Rattle.records.specs.Values.{flattenIn, rescaleIn, notAbove}
+use Rattle.records.specs.Conditions.{ofStream}
 use Rattle.scene.specs.Scene.{Scene, sceneOf}
 use Rattle.similarity.specs.declared.projection.Registration.{Registration}
 use Rattle.similarity.specs.Projection.{projectionOf}
-use Rattle.similarity.specs.Fit.{fitOf}
-use Rattle.register.specs.Register.{var, geoFrame, f0, f100, maxScale, isMercator, controlsOf, allPlaced, anchorOf, anchorPlaced, isSome, scaleValue, pxMode, above0, registrationOf, registerWarnings}
+use Rattle.register.specs.Register.{f0, f100, registrationOf, ofRegistration, registerWarnings}
 use Rattle.budget.specs.declared.Budget.{Budget}
 use Rattle.convert.specs.declared.state.Ctx.{Ctx}
 use Rattle.convert.specs.Convert.{warned, Trace, onScreen, convertOf}
-use Rattle.convert.specs.Space.{Sheet, playAll}
+use Rattle.convert.specs.Space.{Sheet, playAll, ofSpace}
 use Rattle.geopic.specs.declared.Answer.{Answer}
 
 -- ---- what a scene draws
@@ -62,43 +58,17 @@ blank t =
 unfoldable pub sheetOf : Scene → Lent → Sheet
 sheetOf sc t = playAll (traceOf sc .events) (blank t)
 
--- ---- document 01's eighteen conditions, in its order
--- 1 to 6: the stream; 7 to 14: the registration; 15 to 18: the first thing that lacks room
-unfoldable pub conditions : List ℕ → Lent → List Bool
-conditions s t =
-    let l = payload s in
-    let sc = sceneOf l in
-    let cs = controlsOf sc in
-    let few = ltb (length cs) 2 in
-    let r = registrationOf sc in
-    let short = sheetOf sc t .number in
-    not (sized s)
-    ∷ not (allChecked s (length s / 512))
-    ∷ not (laidOut l)
-    ∷ not (limited l)
-    ∷ notAbove (flattenIn l)
-    ∷ notAbove (rescaleIn l)
-    ∷ not (isMercator (sc .frame) (var sc geoFrame))
-    ∷ not (allPlaced cs && anchorPlaced (anchorOf sc))
-    ∷ ltb 64 (length cs)
-    ∷ (eqb (length cs) 0 && not (isSome (anchorOf sc)))
-    ∷ (not few && not (fitOf cs .some))
-    ∷ (few && not (lt f0 (scaleValue sc)))
-    ∷ (few && (pxMode sc && not (above0 (sc .viewScale))))
-    ∷ not (finite (r .scale) && le (r .scale) maxScale)
-    ∷ eqb short 15
-    ∷ eqb short 16
-    ∷ eqb short 17
-    ∷ eqb short 18
-    ∷ []
+-- ---- document 01's eighteen conditions, in the order of checking
+-- those that are checked before the lent slices are looked at: 1 to 6 of the stream, 7 to 14 of the registration
+unfoldable pub early : List ℕ → List Condition
+early s = ofStream s ++ ofRegistration (sceneOf (payload s))
 
--- the number of the first that holds, counted from i; 0 where none does
-unfoldable pub firstFrom : ℕ → List Bool → ℕ
-firstFrom i [] = 0
-firstFrom i (b ∷ bs) = cond b i (firstFrom (suc i) bs)
+-- and 15 to 18: the first thing that lacks room
+unfoldable pub conditions : List ℕ → Lent → List Condition
+conditions s t = early s ++ ofSpace (sheetOf (sceneOf (payload s)) t)
 
 unfoldable pub numberOf : List ℕ → Lent → ℕ
-numberOf s t = firstFrom 1 (conditions s t)
+numberOf s t = firstOf (conditions s t)
 
 -- ---- the answer
 -- a refusal's number, and zero for everything else
@@ -138,20 +108,19 @@ abbrev pub pickList : {A : Type 0} → Bool → List A → List A → List A
 pickList true a b = a
 pickList false a b = b
 
--- 1 to 14 leave them as they are, 15 to 18 clear all; work is cleared by acceptance too, and the others hold what was written, their tails as they were
-abbrev pub untouched : ℕ → Bool
-untouched n = not (eqb n 0) && leb n 14
+-- by the number of the first early condition, and of the first of all: an early one leaves a slice as it is, a later one clears it
+unfoldable pub sliceBy : {A : Type 0} → ℕ → ℕ → A → List A → List A → List A
+sliceBy first n z before written = pickList (eqb first 0) (pickList (eqb n 0) written (clear z (length before))) before
 
-unfoldable pub sliceBy : {A : Type 0} → ℕ → A → List A → List A → List A
-sliceBy n z before written = pickList (eqb n 0) written (pickList (untouched n) before (clear z (length before)))
-
+-- an accepted call clears work too; the others hold what was written, and their tails are as they were
 unfoldable pub lentAfter : List ℕ → Lent → Lent
 lentAfter s t =
+    let first = firstOf (early s) in
     let n = numberOf s t in
     let u = sheetOf (sceneOf (payload s)) t in
     record {
-      work = sliceBy n f0 (t .work) (clear f0 (length (t .work)));
-      positions = sliceBy n f0 (t .positions) (u .positions);
-      features = sliceBy n 0 (t .features) (u .features);
-      warnings = sliceBy n 0 (t .warnings) (u .warnings);
+      work = sliceBy first n f0 (t .work) (clear f0 (length (t .work)));
+      positions = sliceBy first n f0 (t .positions) (u .positions);
+      features = sliceBy first n 0 (t .features) (u .features);
+      warnings = sliceBy first n 0 (t .warnings) (u .warnings);
     }

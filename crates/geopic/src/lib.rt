@@ -5,13 +5,11 @@ ghost use Prim.Native.Nat.{ℕ};
 ghost use lib.Ieee.{Float};
 ghost use lib.ListN.{length};
 ghost use Rattle.stream.specs.Payload.{payload};
-ghost use Rattle.records.specs.Contracts.Refusals.{refusalOf};
 ghost use Rattle.scene.specs.Scene.{sceneOf};
-ghost use Rattle.register.specs.Register.{f0, registrationOf};
-ghost use Rattle.register.specs.Contracts.Outcome.{registerRefusal};
-ghost use Rattle.register.specs.Contracts.Survey.{Surveyed};
+ghost use Rattle.register.specs.Register.{f0};
 ghost use Rattle.convert.specs.Contracts.Space.{sheetBy, Played};
 ghost use Rattle.geopic.specs.Geopic.{traceOf, Lent, blank, refusal, acceptance, clear, answerOf, lentAfter};
+ghost use Rattle.geopic.specs.Contracts.Opened.{Opens, Registers};
 use budget::Budget;
 use convert::Ctx;
 use convert::State;
@@ -40,6 +38,13 @@ pub struct Answer {
     pub features: usize,
     pub warnings: usize,
     pub left: usize,
+}
+
+// What a stream comes to before a slice is looked at: the number of its refusal, or its registration with what one walk over
+// the variables told.
+pub enum Opened {
+    Refused(u32),
+    Registered(Survey, Registration),
 }
 
 fn refuse(number: u32) -> Answer
@@ -81,6 +86,23 @@ fn clear_words(out: &mut [u32]) -> usize
     n
 }
 
+// The step with which each call of the host begins: every condition that is checked before the lent slices.
+fn open(s: &[u8]) -> Opened
+    ensures { λ o. ⌜ Opens (now (s .entry)) o ⌝ }
+{
+    let number = records::refusal(s);
+    if number != 0 {
+        return Opened::Refused(number);
+    }
+    let v = survey_variables(s);
+    let o = register(s, v);
+    if o.number != 0 {
+        return Opened::Refused(o.number);
+    }
+    let r = o.registration;
+    Opened::Registered(v, r)
+}
+
 // The registration's warnings, then every item.
 fn draw(
     s: &[u8],
@@ -91,7 +113,7 @@ fn draw(
     features: &mut [u32],
     warnings: &mut [u32],
 ) -> State
-    requires { ⌜ (refusalOf (now s) ≡ 0) × (registerRefusal (sceneOf (payload (now s))) ≡ 0) × (r ≡ registrationOf (sceneOf (payload (now s)))) × Surveyed (payload (now s)) v ⌝ }
+    requires { ⌜ Registers (now s) v r ⌝ }
     ensures { λ st. ⌜ Played (traceOf (sceneOf (payload (now (s .entry))))) (blank (record { work = now (work .entry); positions = now (positions .entry); features = now (features .entry); warnings = now (warnings .entry) })) (sheetBy (length (now (work .exit))) (now (positions .exit)) (now (features .exit)) (now (warnings .exit)) st) (st .budget) ⌝ }
 {
     let w = write_warnings(s, v, warnings, r.controls);
@@ -138,6 +160,31 @@ fn accept(r: Registration, st: State) -> Answer
     }
 }
 
+// What a stream that has been opened answers and leaves in the slices.
+fn fill(
+    s: &[u8],
+    v: Survey,
+    r: Registration,
+    work: &mut [f64],
+    positions: &mut [f64],
+    features: &mut [u32],
+    warnings: &mut [u32],
+) -> Answer
+    requires { ⌜ Registers (now s) v r ⌝ }
+    ensures { λ a. ⌜ a ≡ answerOf (now (s .entry)) (record { work = now (work .entry); positions = now (positions .entry); features = now (features .entry); warnings = now (warnings .entry) }) ⌝ }
+    ensures { λ a. ⌜ record { work = now (work .exit); positions = now (positions .exit); features = now (features .exit); warnings = now (warnings .exit) } ≡ lentAfter (now (s .entry)) (record { work = now (work .entry); positions = now (positions .entry); features = now (features .entry); warnings = now (warnings .entry) }) ⌝ }
+{
+    let st = draw(s, v, r, work, positions, features, warnings);
+    clear_floats(work);
+    if st.number != 0 {
+        clear_floats(positions);
+        clear_words(features);
+        clear_words(warnings);
+        return refuse(st.number as u32);
+    }
+    accept(r, st)
+}
+
 // Places the scene of a stream on the Earth.
 #[no_mangle]
 pub extern "C" fn geopic_place(
@@ -150,23 +197,8 @@ pub extern "C" fn geopic_place(
     ensures { λ r. ⌜ r ≡ answerOf (now (s .entry)) (record { work = now (work .entry); positions = now (positions .entry); features = now (features .entry); warnings = now (warnings .entry) }) ⌝ }
     ensures { λ r. ⌜ record { work = now (work .exit); positions = now (positions .exit); features = now (features .exit); warnings = now (warnings .exit) } ≡ lentAfter (now (s .entry)) (record { work = now (work .entry); positions = now (positions .entry); features = now (features .entry); warnings = now (warnings .entry) }) ⌝ }
 {
-    let number = records::refusal(s);
-    if number != 0 {
-        return refuse(number);
+    match open(s) {
+        Opened::Refused(number) => refuse(number),
+        Opened::Registered(v, r) => fill(s, v, r, work, positions, features, warnings),
     }
-    let v = survey_variables(s);
-    let o = register(s, v);
-    if o.number != 0 {
-        return refuse(o.number);
-    }
-    let r = o.registration;
-    let st = draw(s, v, r, work, positions, features, warnings);
-    clear_floats(work);
-    if st.number != 0 {
-        clear_floats(positions);
-        clear_words(features);
-        clear_words(warnings);
-        return refuse(st.number as u32);
-    }
-    accept(r, st)
 }

@@ -35,12 +35,13 @@ unfoldable pub projectionOf : Registration → Projection
 projectionOf r =
     let b = toRadiansOf (r .bearing) in
     let a = mercatorForwardOf (anchorOf r) in
-    record { x = r .x; y = r .y; scale = r .scale; sin = sinOf b; cos = cosOf b; east = a .x; north = a .y }
+    record { registration = r; sin = sinOf b; cos = cosOf b; east = a .x; north = a .y }
 
 unfoldable pub projectOf : Projection → Float → Float → LonLat
 projectOf p x y =
-    let dx = mul binary64 (sub binary64 x (p .x)) (p .scale) in
-    let dy = mul binary64 (sub binary64 y (p .y)) (p .scale) in
+    let r = p .registration in
+    let dx = mul binary64 (sub binary64 x (r .x)) (r .scale) in
+    let dy = mul binary64 (sub binary64 y (r .y)) (r .scale) in
     let e = add binary64 (mul binary64 dx (p .cos)) (mul binary64 dy (p .sin)) in
     let n = add binary64 (mul binary64 (neg dx) (p .sin)) (mul binary64 dy (p .cos)) in
     mercatorInverseOf (record { x = add binary64 (p .east) e; y = add binary64 (p .north) n })

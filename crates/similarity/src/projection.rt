@@ -33,11 +33,10 @@ pub struct Registration {
     pub controls: u32,
 }
 
-// What is the same for every point.
+// A registration, with what is the same for every point worked out once.
 pub struct Projection {
-    pub x: f64,
-    pub y: f64,
-    pub scale: f64,
+    pub registration: Registration,
+    // of the bearing
     pub sin: f64,
     pub cos: f64,
     // the anchor's position on the plane
@@ -54,9 +53,7 @@ pub fn projection_of(r: Registration) -> Projection
         lat: r.lat,
     });
     Projection {
-        x: r.x,
-        y: r.y,
-        scale: r.scale,
+        registration: r,
         sin: sin(b),
         cos: cos(b),
         east: a.x,
@@ -66,10 +63,11 @@ pub fn projection_of(r: Registration) -> Projection
 
 // The point's position on the plane.
 fn plane(p: Projection, x: f64, y: f64) -> Metres
-    ensures { λ r. ⌜ r ≡ planeOf p x y ⌝ }
+    ensures { λ m. ⌜ m ≡ planeOf p x y ⌝ }
 {
-    let dx = (x - p.x) * p.scale;
-    let dy = (y - p.y) * p.scale;
+    let r = p.registration;
+    let dx = (x - r.x) * r.scale;
+    let dy = (y - r.y) * r.scale;
     let e = dx * p.cos + dy * p.sin;
     let n = -dx * p.sin + dy * p.cos;
     Metres {

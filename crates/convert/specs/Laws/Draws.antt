@@ -120,8 +120,8 @@ told-pick true h k = h
 told-pick false h k = k
 
 module _ (cx : Ctx) where
-  told-densified : (ps : List Point) (b : Budget) → Told b (drawsTrace (densifyPolylineOf (cx .step) (cx .projection .scale) ps b))
-  told-densified ps b = told-draws (densify-replays (cx .step) (cx .projection .scale) ps b)
+  told-densified : (ps : List Point) (b : Budget) → Told b (drawsTrace (densifyPolylineOf (cx .step) (cx .projection .registration .scale) ps b))
+  told-densified ps b = told-draws (densify-replays (cx .step) (cx .projection .registration .scale) ps b)
 
   module _ (p : Props) where
     told-stroke : (geometry role : ℕ) (ps : List Point) (b : Budget) → Told b (strokeOf cx p geometry role ps b)
@@ -178,9 +178,9 @@ module _ (cx : Ctx) where
 
   told-drawn : (p : Props) (it : DrawnItem) (s : Shape) (b : Budget) → Told b (drawnOf cx p it s b)
   unfolding drawnOf pointOf
-  told-drawn p it (Box x y w h rad) b = told-ring p (box-replays (cx .step) (cx .projection .scale) (cx .flatten) (at x y) w h rad b)
-  told-drawn p it (Ellipse x y w h) b = told-ring p (ellipse-replays (cx .step) (cx .projection .scale) (cx .flatten) (at x y) (half w) (half h) b)
-  told-drawn p it (Circle x y r) b = told-ring p (ellipse-replays (cx .step) (cx .projection .scale) (cx .flatten) (at x y) r r b)
+  told-drawn p it (Box x y w h rad) b = told-ring p (box-replays (cx .step) (cx .projection .registration .scale) (cx .flatten) (at x y) w h rad b)
+  told-drawn p it (Ellipse x y w h) b = told-ring p (ellipse-replays (cx .step) (cx .projection .registration .scale) (cx .flatten) (at x y) (half w) (half h) b)
+  told-drawn p it (Circle x y r) b = told-ring p (ellipse-replays (cx .step) (cx .projection .registration .scale) (cx .flatten) (at x y) r r b)
   told-drawn p it (Dot x y) b = told-feature p 0 0 _ b
   told-drawn p it Points b = told-points p (it .closed) (it .points) (it .fillPoints) b
   told-drawn p it Paths b = told-all-paths p (it .paths) (it .fillPaths) b

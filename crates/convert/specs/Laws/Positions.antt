@@ -143,20 +143,20 @@ module _ (geometry : ℕ) (ps : List Point) where
 -- ---- how many points a stroke makes
 -- a stroke's positions, before a ring is sealed
 abbrev pub strokeMade : Ctx → List Point → Budget → Made
-strokeMade cx ps b = placing (cx .projection) (densifyPolylineOf (cx .step) (cx .projection .scale) ps b)
+strokeMade cx ps b = placing (cx .projection) (densifyPolylineOf (cx .step) (cx .projection .registration .scale) ps b)
 
 module _ (cx : Ctx) (w : List Float) (from to : ℕ) (b : Budget) where
   abbrev between : List Point
   between = pointsIn w from to
 
-  made-count : length (strokeMade cx between b .points) ≡ length (densifyPolylineOf (cx .step) (cx .projection .scale) between b .points)
-  made-count = placed-count (cx .projection) (densifyPolylineOf (cx .step) (cx .projection .scale) between b)
+  made-count : length (strokeMade cx between b .points) ≡ length (densifyPolylineOf (cx .step) (cx .projection .registration .scale) between b .points)
+  made-count = placed-count (cx .projection) (densifyPolylineOf (cx .step) (cx .projection .registration .scale) between b)
 
   pub stroke-some : from + 2 ≤ to → 1 ≤ length (strokeMade cx between b .points)
-  stroke-some h = rw made-count (omega (arith, points-between w from to, densify-least (cx .step) (cx .projection .scale) between b))
+  stroke-some h = rw made-count (omega (arith, points-between w from to, densify-least (cx .step) (cx .projection .registration .scale) between b))
 
   pub stroke-few : to ≤ longest → b .left ≤ most → length (strokeMade cx between b .points) ≤ most + longest
-  stroke-few h left = rw made-count (omega (arith, points-between w from to, densify-sized (cx .step) (cx .projection .scale) between b))
+  stroke-few h left = rw made-count (omega (arith, points-between w from to, densify-sized (cx .step) (cx .projection .registration .scale) between b))
 
 -- ---- where they stand
 pub record Stands (geometry : ℕ) (ps : List Point) (at : ℕ) (q q₂ : List Float) (end : ℕ) : Type 0 where
@@ -183,7 +183,7 @@ module _ (cx : Ctx) (p : Props) (geometry role : ℕ) (ps : List Point) (work : 
     (start : st .number ≡ 0) (h : Fits (sheetBy work q f v st) (st .budget))
     (one : Written q q₁ (st .positions) (strokeMade cx ps (st .budget)) (record { ok = d .ok; at = st .positions + d .at; budget = d .budget })) where
   abbrev made : Made
-  made = densifyPolylineOf (cx .step) (cx .projection .scale) ps (st .budget)
+  made = densifyPolylineOf (cx .step) (cx .projection .registration .scale) ps (st .budget)
 
   abbrev placed : List Point
   placed = strokeMade cx ps (st .budget) .points
@@ -208,7 +208,7 @@ module _ (cx : Ctx) (p : Props) (geometry role : ℕ) (ps : List Point) (work : 
   unfolding strokeOf
   stroke-finished fits stands fin =
       let count : d .at / 2 ≡ length drawn = omega (arith, one .next fits, flats-length drawn, same-room) in
-      let left = left-falls (densify-replays (cx .step) (cx .projection .scale) ps (st .budget)) in
+      let left = left-falls (densify-replays (cx .step) (cx .projection .registration .scale) ps (st .budget)) in
       played-drawn made (λ b. single (featureOf p geometry role drawn) b)
       (written-finished p geometry role drawn (made .after) work start h (omega (arith, written-room one fits, same-room)) (stands .there) (omega arith)
       (rw (stands .ends, count, one .left fits) at fin))

@@ -7,7 +7,8 @@ use native.Mathlib.Omega.{arith}
 use lib.ListN.{length}
 use lib.Dec.{eqb, leb}
 use lib.Ieee.{Float}
-use borrow.Author.Tests.{le-leb, lt-leb, leb-true, leb-false, eq-eqb, ne-eqb, eqb-true, eqb-false}
+use borrow.Author.Tests.{leb-true, leb-false, eq-eqb, ne-eqb, eqb-true, eqb-false}
+use Rattle.stream.specs.Conditions.{firstOf}
 use Rattle.stream.specs.Payload.{payload}
 use Rattle.records.specs.Contracts.Refusals.{refusalOf}
 use Rattle.scene.specs.Scene.{Maybe, Point, Scene, sceneOf}
@@ -19,6 +20,8 @@ use Rattle.similarity.specs.declared.projection.Registration.{Registration}
 use Rattle.similarity.specs.Projection.{projectionOf}
 use Rattle.register.specs.declared.warnings.Warned.{Warned}
 use Rattle.register.specs.declared.outcome.Outcome.{Outcome}
+use Rattle.register.specs.declared.survey.Survey.{Survey}
+use Rattle.register.specs.Contracts.Survey.{Surveyed}
 use Rattle.register.specs.Register.{Warning, f0, controlsOf, anchorOf, registrationBy, registrationOf, registerWarnings}
 use Rattle.register.specs.Contracts.Outcome.{registerRefusal, accepted, refusedBy, pickOutcome, outcomeOf}
 use Rattle.register.specs.Contracts.Warned.{pushed, allPushed}
@@ -30,10 +33,12 @@ use Rattle.geopic.specs.declared.Answer.{Answer}
 use Rattle.convert.specs.Convert.{warned, Trace, onScreen, convertOf}
 use Rattle.convert.specs.Space.{Sheet, lacking, withWarning}
 use Rattle.convert.specs.Contracts.Space.{sheetBy, Fits, Played}
-use Rattle.geopic.specs.Geopic.{maxStep, fresh, ctxOf, traceOf, Lent, blank, sheetOf, numberOf, refusal, acceptance, answerOf, clear, sliceBy, lentAfter}
+use Rattle.geopic.specs.Geopic.{maxStep, fresh, ctxOf, traceOf, Lent, blank, sheetOf, early, numberOf, refusal, acceptance, answerOf, clear, sliceBy, lentAfter}
 use Rattle.convert.specs.Laws.Playing.{played-quiet, played-stuck, played-then}
 use Rattle.convert.specs.Laws.Events.{warned-fits, warned-lacks}
-use Rattle.geopic.specs.Laws.Conditions.{early, middle, last, records-most, register-most, space-least}
+use Rattle.geopic.specs.declared.Opened.the-variants.{Refused, Registered}
+use Rattle.geopic.specs.Contracts.Opened.{Opens}
+use Rattle.geopic.specs.Laws.Conditions.{early-stream, early-registration, by-early, by-space}
 
 -- ---- the registration's warnings: what `register` pushes is what is played
 abbrev Pushed : Type 0
@@ -149,73 +154,67 @@ module _ (sc : Scene) {o : Outcome} (e : o ≡ outcomeOf sc) where
 
 -- ---- the answer and the slices
 module _ (s : List ℕ) (t : Lent) where
-  module _ {n : ℕ} (is : numberOf s t ≡ n) (some : n ≡ 0 → ⊥) where
-    pub refused : {a : Answer} → a ≡ refusal n → a ≡ answerOf s t
-    unfolding answerOf
-    refused e = rw (e, is, ne-eqb n 0 some)
+  refused : {n : ℕ} → numberOf s t ≡ n → (n ≡ 0 → ⊥) → {a : Answer} → a ≡ refusal n → a ≡ answerOf s t
+  unfolding answerOf
+  refused {n} is some e = rw (e, is, ne-eqb n 0 some)
 
-    pub kept : n ≤ 14 → t ≡ lentAfter s t
-    unfolding lentAfter sliceBy
-    kept h = rw (is, ne-eqb n 0 some, le-leb n 14 h)
-
-    pub wiped : 15 ≤ n
-        → record { work = clear f0 (length (t .work)); positions = clear f0 (length (t .positions)); features = clear 0 (length (t .features)); warnings = clear 0 (length (t .warnings)) }
-        ≡ lentAfter s t
-    unfolding lentAfter sliceBy
-    wiped h = rw (is, ne-eqb n 0 some, lt-leb n 14 (omega arith))
-
-  -- 1 to 6
-  module _ {n : ℕ} (is : n ≡ refusalOf s) (some : n ≡ 0 → ⊥) where
-    early-number : numberOf s t ≡ n
-    early-number = early s t (λ z. some (is ∙ z)) ∙ sym is
+  -- an early condition holds
+  module _ {n : ℕ} (is : n ≡ firstOf (early s)) (some : n ≡ 0 → ⊥) where
+    first : firstOf (early s) ≡ 0 → ⊥
+    first z = some (is ∙ z)
 
     pub early-answer : {a : Answer} → a ≡ refusal n → a ≡ answerOf s t
-    early-answer e = refused early-number some e
+    early-answer e = refused (by-early s t first ∙ sym is) some e
 
     pub early-lent : t ≡ lentAfter s t
-    early-lent = kept early-number some (rw is (records-most s t))
+    unfolding lentAfter sliceBy
+    early-lent = rw (ne-eqb (firstOf (early s)) 0 first)
 
-  module _ (read : refusalOf s ≡ 0) where
-    -- 7 to 14
-    module _ {o : Outcome} (is : o ≡ outcomeOf (sc s)) (some : o .number ≡ 0 → ⊥) where
-      number : o .number ≡ registerRefusal (sc s)
-      number = outcome-number (sc s) is
+  module _ (none : firstOf (early s) ≡ 0) {u : Sheet} {b : Budget} (d : Played (traceOf (sc s)) (blank t) u b) where
+    space : u .number ≡ sheetOf (sc s) t .number
+    unfolding sheetOf
+    space = d .number
 
-      middle-number : numberOf s t ≡ o .number
-      middle-number = middle s t read (λ z. some (number ∙ z)) ∙ sym number
+    late-number : numberOf s t ≡ u .number
+    late-number = by-space s t none ∙ sym space
 
-      pub middle-answer : {a : Answer} → a ≡ refusal (o .number) → a ≡ answerOf s t
-      middle-answer e = refused middle-number some e
+    -- something lacks room
+    module _ (some : u .number ≡ 0 → ⊥) where
+      pub late-answer : {a : Answer} → a ≡ refusal (u .number) → a ≡ answerOf s t
+      late-answer e = refused late-number some e
 
-      pub middle-lent : t ≡ lentAfter s t
-      middle-lent = kept middle-number some (rw number (register-most s t))
+      pub late-lent : {w p : List Float} {f v : List ℕ} → w ≡ clear f0 (u .work) → p ≡ clear f0 (length (u .positions)) → f ≡ clear 0 (length (u .features)) → v ≡ clear 0 (length (u .warnings))
+          → record { work = w; positions = p; features = f; warnings = v } ≡ lentAfter s t
+      unfolding lentAfter sliceBy
+      late-lent work positions features warnings =
+          rw (work, positions, features, warnings, d .work, d .positions, d .features, d .warnings, none, late-number, ne-eqb (u .number) 0 some)
 
-    module _ (placed : registerRefusal (sc s) ≡ 0) {u : Sheet} {b : Budget} (d : Played (traceOf (sc s)) (blank t) u b) where
-      space : u .number ≡ sheetOf (sc s) t .number
+    module _ (room : u .number ≡ 0) where
+      sheet : u ≡ sheetOf (sc s) t
       unfolding sheetOf
-      space = d .number
+      sheet = d .same room
 
-      late-number : numberOf s t ≡ u .number
-      late-number = last s t read placed ∙ sym space
+      pub accepted-answer : {r : Registration} {a : Answer} → r ≡ registrationOf (sc s) → a ≡ acceptance r u b → a ≡ answerOf s t
+      unfolding answerOf
+      accepted-answer e f = rw (late-number, eq-eqb (u .number) 0 room, ← e, ← sheet, ← d .after room) f
 
-      -- 15 to 18
-      module _ (some : u .number ≡ 0 → ⊥) where
-        pub late-answer : {a : Answer} → a ≡ refusal (u .number) → a ≡ answerOf s t
-        late-answer e = refused late-number some e
+      pub accepted-lent : {w : List Float} → w ≡ clear f0 (u .work) → record { work = w; positions = u .positions; features = u .features; warnings = u .warnings } ≡ lentAfter s t
+      unfolding lentAfter sliceBy
+      accepted-lent e = rw (e, none, late-number, eq-eqb (u .number) 0 room, ← sheet, d .work)
 
-        pub late-lent : {w p : List Float} {f v : List ℕ} → w ≡ clear f0 (u .work) → p ≡ clear f0 (length (u .positions)) → f ≡ clear 0 (length (u .features)) → v ≡ clear 0 (length (u .warnings))
-            → record { work = w; positions = p; features = f; warnings = v } ≡ lentAfter s t
-        late-lent work positions features warnings = rw (work, positions, features, warnings, d .work, d .positions, d .features, d .warnings) (wiped late-number some (rw space (space-least s t (λ z. some (space ∙ z)))))
+-- ---- what `open` comes to
+module _ (s : List ℕ) where
+  pub stream-opens : {n : ℕ} → n ≡ refusalOf s → (n ≡ 0 → ⊥) → Opens s (Refused n)
+  stream-opens e some = record { number = e ∙ sym (early-stream s (λ z. some (e ∙ z))); comes = some }
 
-      module _ (none : u .number ≡ 0) where
-        sheet : u ≡ sheetOf (sc s) t
-        unfolding sheetOf
-        sheet = d .same none
+  module _ (read : refusalOf s ≡ 0) {o : Outcome} (is : o ≡ outcomeOf (sc s)) where
+    number : o .number ≡ firstOf (early s)
+    number = outcome-number (sc s) is ∙ sym (early-registration s read)
 
-        pub accepted-answer : {r : Registration} {a : Answer} → r ≡ registrationOf (sc s) → a ≡ acceptance r u b → a ≡ answerOf s t
-        unfolding answerOf
-        accepted-answer e f = rw (late-number, eq-eqb (u .number) 0 none, ← e, ← sheet, ← d .after none) f
+    pub registration-opens : (o .number ≡ 0 → ⊥) → Opens s (Refused (o .number))
+    registration-opens some = record { number = number; comes = some }
 
-        pub accepted-lent : {w : List Float} → w ≡ clear f0 (u .work) → record { work = w; positions = u .positions; features = u .features; warnings = u .warnings } ≡ lentAfter s t
-        unfolding lentAfter sliceBy
-        accepted-lent e = rw (e, late-number, eq-eqb (u .number) 0 none, ← sheet, d .work)
+    pub registered-opens : {v : Survey} → o .number ≡ 0 → Surveyed (payload s) v → Opens s (Registered v (o .registration))
+    registered-opens z w =
+        let none = sym number ∙ z in
+        record { number = sym none; comes = record { none = none; is = outcome-is (sc s) is z; surveyed = w } }

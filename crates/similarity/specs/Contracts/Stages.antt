@@ -10,8 +10,9 @@ use Rattle.similarity.specs.Projection.{round9Of, geoBy}
 -- the point's position on the plane
 unfoldable pub planeOf : Projection → Float → Float → Metres
 planeOf p x y =
-    let dx = mul binary64 (sub binary64 x (p .x)) (p .scale) in
-    let dy = mul binary64 (sub binary64 y (p .y)) (p .scale) in
+    let r = p .registration in
+    let dx = mul binary64 (sub binary64 x (r .x)) (r .scale) in
+    let dy = mul binary64 (sub binary64 y (r .y)) (r .scale) in
     let e = add binary64 (mul binary64 dx (p .cos)) (mul binary64 dy (p .sin)) in
     let n = add binary64 (mul binary64 (neg dx) (p .sin)) (mul binary64 dy (p .cos)) in
     record { x = add binary64 (p .east) e; y = add binary64 (p .north) n }

@@ -39,6 +39,12 @@ module _ (cs ds : List Condition) (n : Numbered cs) where
   pub first-behind : firstOf cs ≡ 0 → firstOf (cs ++ ds) ≡ firstOf ds
   first-behind h = first-append cs ds n ∙ rw (eq-eqb (firstOf cs) 0 h)
 
+pub append-none : (cs ds : List Condition) → Numbered cs → firstOf (cs ++ ds) ≡ 0 → (firstOf cs ≡ 0) × (firstOf ds ≡ 0)
+unfolding firstOf
+append-none [] ds n h = (refl, h)
+append-none ((k, true) ∷ cs) ds n h = absurd (omega (arith, n .0))
+append-none ((k, false) ∷ cs) ds n h = append-none cs ds (n .1) h
+
 pub numbered-append : (cs ds : List Condition) → Numbered cs → Numbered ds → Numbered (cs ++ ds)
 numbered-append [] ds m n = n
 numbered-append (a ∷ cs) ds m n = (m .0, numbered-append cs ds (m .1) n)

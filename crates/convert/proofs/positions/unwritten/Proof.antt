@@ -27,10 +27,10 @@ unfolding unwrittenOf
 returns c w q f h =
     let s = c .before .before .before .before .before .before .before .before .args in
     let ps = pointsIn (s .work .now) (s .from) (s .to) in
-    let m = densifyPolylineOf (s .cx .step) (s .cx .projection .scale) ps (s .st .budget) in
+    let m = densifyPolylineOf (s .cx .step) (s .cx .projection .registration .scale) ps (s .st .budget) in
     let drawn = state-is (s .st) (c .before .before .before .with-budget .ensures) in
     let spent = c .before .before .before .before .before .spend-polyline .ensures in
-    let left = left-falls (densify-replays (s .cx .step) (s .cx .projection .scale) ps (s .st .budget)) in
+    let left = left-falls (densify-replays (s .cx .step) (s .cx .projection .registration .scale) ps (s .st .budget)) in
     played-drawn m (λ b. missing (s .item) b)
     (rw (drawn, spent) at (c .before .before .warn .ensures w q f
     (rw (drawn, spent) (record { positions = h .positions; features = h .features; warnings = h .warnings; left = omega arith }))))
