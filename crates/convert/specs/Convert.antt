@@ -243,27 +243,10 @@ spentOf b = pickTrace (b .hit) (single (warned (record { kind = 6; index = 0 }))
 unfoldable pub convertOf : (ℕ → Bool) → Ctx → List DrawnItem → Budget → Trace
 convertOf rule cx its b = thenTrace (itemsOf rule cx 0 its b) (λ r. spentOf r)
 
--- ---- what is read off the one list
--- the draws
+-- ---- the draws, read off the one list
 unfoldable pub drawsIn : List Event → List Drawn
 drawsIn [] = []
 drawsIn (drew d ∷ es) = d ∷ drawsIn es
 drawsIn (need n ∷ es) = drawsIn es
 drawsIn (feature f ps ∷ es) = drawsIn es
 drawsIn (warned w ∷ es) = drawsIn es
-
--- the warnings
-unfoldable pub warningsIn : List Event → List Warning
-warningsIn [] = []
-warningsIn (drew d ∷ es) = warningsIn es
-warningsIn (need n ∷ es) = warningsIn es
-warningsIn (feature f ps ∷ es) = warningsIn es
-warningsIn (warned w ∷ es) = w ∷ warningsIn es
-
--- what holds of every feature with its positions
-abbrev pub EachFeature : (Feature → List Point → Type 0) → List Event → Type 0
-EachFeature Q [] = Unit {0}
-EachFeature Q (drew d ∷ es) = EachFeature Q es
-EachFeature Q (need n ∷ es) = EachFeature Q es
-EachFeature Q (feature f ps ∷ es) = Q f ps × EachFeature Q es
-EachFeature Q (warned w ∷ es) = EachFeature Q es

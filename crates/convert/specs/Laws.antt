@@ -8,3 +8,4 @@ pub mod Items
 pub mod Loops
 pub mod Draws
 pub mod Features
+pub mod Reading

@@ -1,5 +1,6 @@
 -- Items to features.
 pub mod Convert
 pub mod Space
+pub mod Features
 pub mod Contracts
 pub mod Laws

@@ -1,11 +1,11 @@
 -- The draws of a trace, replayed through `take` from the budget that it was handed, give the budget that it hands back; and warning 6 stands where that budget was hit.
 -- Assumes nothing.
 use Prim.Native.Nat.{ℕ, suc}
-use mathlib.Core.Path.{_≡_, refl, ap, subst, _∙_}
-use mathlib.Core.Bool.{Bool, true, false, _&&_, _||_, cond}
+use mathlib.Core.Path.{_≡_, refl, sym, ap, subst, _∙_}
+use mathlib.Core.Bool.{Bool, true, false, _&&_, _||_, cond, or-assoc}
 use mathlib.Core.List.{List, [], _∷_, _++_, map}
 use lib.ListN.{length}
-use lib.Dec.{ltb, leb}
+use lib.Dec.{eqb, ltb, leb}
 use Rattle.float.specs.Laws.Spans.{Each}
 use Rattle.budget.specs.declared.Budget.{Budget}
 use Rattle.budget.specs.Draws.{leftAfter}
@@ -20,7 +20,8 @@ use Rattle.convert.specs.declared.shapes.Shape.the-variants.{Box, Ellips
 use Rattle.convert.specs.declared.state.Ctx.{Ctx}
 use Rattle.convert.specs.declared.state.Props.{Props}
 use Rattle.convert.specs.Convert.{Event, drew, need, feature, warned, Trace, quiet, single, thenTrace, pickTrace, drawsTrace, missing, featureOf, strokeOf, unwrittenOf, pointOf, fillOf, shapeTrace, closedOutline, polylineOrPolygonOf}
-use Rattle.convert.specs.Convert.{ringTrace, headOf, tailOf, outlineOf, pathOf, withPart, pathsOf, shapeOf, propsOf, at, half, pointsTrace, pathsTrace, drawnOf, itemOf, itemsOf, spentOf, convertOf, drawsIn, warningsIn}
+use Rattle.convert.specs.Convert.{ringTrace, headOf, tailOf, outlineOf, pathOf, withPart, pathsOf, shapeOf, propsOf, at, half, pointsTrace, pathsTrace, drawnOf, itemOf, itemsOf, spentOf, convertOf, drawsIn}
+use Rattle.convert.specs.Features.{warningsIn, anyOfKind}
 
 pub record TraceReplays (b : Budget) (t : Trace) : Type 0 where
   pub after-is : t .after ≡ replayed b (drawsIn (t .events))
@@ -209,6 +210,22 @@ spent-told b = go (b .hit) refl
     go true e = (still-replays (six .events) b refl, rw e)
     go false e = (still-replays [] b refl, rw e)
 
+-- a warning of a kind among others
+pub any-append : (k : ℕ) (a b : List Warning) → anyOfKind k (a ++ b) ≡ anyOfKind k a || anyOfKind k b
+unfolding anyOfKind
+any-append k [] b = refl
+any-append k (w ∷ a) b = rw (any-append k a b) (sym (or-assoc (eqb (w .kind) k) (anyOfKind k a) (anyOfKind k b)))
+
+none-six : (ws : List Warning) → Each Five ws → anyOfKind 6 ws ≡ false
+unfolding anyOfKind
+none-six [] h = refl
+none-six (w ∷ ws) h = rw (h .0) (none-six ws (h .1))
+
+spent-six : (hit : Bool) → anyOfKind 6 (spent hit) ≡ hit
+unfolding anyOfKind
+spent-six true = refl
+spent-six false = refl
+
 module _ (rule : ℕ → Bool) (cx : Ctx) (its : List DrawnItem) (b : Budget) where
   pub convert-replays : TraceReplays b (convertOf rule cx its b)
   unfolding convertOf
@@ -221,3 +238,10 @@ module _ (rule : ℕ → Bool) (cx : Ctx) (its : List DrawnItem) (b : Budget) wh
 
   pub items-warnings : Each Five (warningsIn (itemsOf rule cx 0 its b .events))
   items-warnings = told-items cx rule 0 its b .fives
+
+  -- warning 6 stands where the budget was hit, and nowhere else
+  pub spent-warned : anyOfKind 6 (warningsIn (convertOf rule cx its b .events)) ≡ convertOf rule cx its b .after .hit
+  spent-warned =
+      ap (anyOfKind 6) convert-warnings
+      ∙ any-append 6 (warningsIn (itemsOf rule cx 0 its b .events)) (spent (convertOf rule cx its b .after .hit))
+      ∙ rw (none-six (warningsIn (itemsOf rule cx 0 its b .events)) items-warnings) (spent-six (convertOf rule cx its b .after .hit))

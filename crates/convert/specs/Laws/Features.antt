@@ -29,27 +29,26 @@ use Rattle.densify.specs.Densify.{Drawn, Made, closeRingOf, pathPointsOf, densi
 use Rattle.densify.specs.Positions.{placedBy}
 use Rattle.densify.specs.Laws.Bounds.{Near, NearPoint, NearCubic, NearForm, InPoint, close-each, near-in, nears-in, half-near, zero-near, path-near, densify-in, ellipse-in, box-in}
 use Rattle.densify.specs.Laws.Counts.{densify-least, ring-least, ellipse-ring, box-ring}
-use Rattle.geojson.specs.declared.Feature.{Feature}
 use Rattle.geojson.specs.Rfc7946.{Positions, lastFrom, Closed, Geometry}
 use Rattle.convert.specs.declared.shapes.Shape.{Shape}
 use Rattle.convert.specs.declared.shapes.Shape.the-variants.{Box, Ellipse, Circle, Dot, Points, Paths, Missing, Nothing}
 use Rattle.convert.specs.declared.state.Ctx.{Ctx}
 use Rattle.convert.specs.declared.state.Props.{Props}
 use Rattle.convert.specs.Convert.{Event, drew, need, feature, warned, Trace, quiet, single, thenTrace, pickTrace, drawsTrace, missing, endWith, sealed, featureOf, strokeOf, unwrittenOf, pointOf, fillOf, shapeTrace, closedOutline, polylineOrPolygonOf}
-use Rattle.convert.specs.Convert.{ringTrace, headOf, tailOf, outlineOf, pathOf, withPart, pathsOf, boxShape, ellipseShape, circleShape, dotShape, pickShape, boxOf, ellipseOf, circleOf, dotOf, shapeOf, propsOf, at, half, pointsTrace, pathsTrace, drawnOf, itemOf, itemsOf, spentOf, convertOf, EachFeature}
+use Rattle.convert.specs.Convert.{ringTrace, headOf, tailOf, outlineOf, pathOf, withPart, pathsOf, boxShape, ellipseShape, circleShape, dotShape, pickShape, boxOf, ellipseOf, circleOf, dotOf, shapeOf, propsOf, at, half, pointsTrace, pathsTrace, drawnOf, itemOf, itemsOf, spentOf, convertOf}
+use Rattle.convert.specs.Features.{AllOnGlobe, AllWellFormed, featuresIn}
 
 abbrev pub Earthly : Point → Type 0
 Earthly p = OnEarth (record { lon = p .x; lat = p .y })
-
-pub record Sane (f : Feature) (ps : List Point) : Type 0 where
-  pub geometry : Geometry (f .geometry) ps
-  pub counted : f .count ≡ length ps
-  pub earth : Each Earthly ps
 
 -- ---- positions
 positions : (ps : List Point) → Each Earthly ps → Positions ps
 positions [] h = tt
 positions (p ∷ ps) h = (record { lon = in-finite m180 K.c180 (p .x) (h .0 .0); lat = in-finite m90 c90 (p .y) (h .0 .1) }, positions ps (h .1))
+
+globe : (ps : List Point) → Each Earthly ps → AllOnGlobe ps
+globe [] h = tt
+globe (p ∷ ps) h = (record { west = h .0 .0 .low; east = h .0 .0 .high; south = h .0 .1 .low; north = h .0 .1 .high }, globe ps (h .1))
 
 -- a ring's last position in the place of what stood there
 end-length : (p : Point) (ps : List Point) → length (endWith p ps) ≡ length ps
@@ -79,25 +78,27 @@ sealed-each : (Q : Point → Type 0) (ps : List Point) → Each Q ps → Each Q 
 sealed-each Q [] h = tt
 sealed-each Q (p ∷ ps) h = (h .0, end-each Q p ps (h .0) (h .1))
 
--- ---- traces whose features are sane
+-- ---- traces whose features are well formed
 record Fine (t : Trace) : Type 0 where
-  each : EachFeature Sane (t .events)
+  each : AllWellFormed (featuresIn (t .events))
 
 fine-feature : (p : Props) (geometry role : ℕ) (ps : List Point) (b : Budget) → Geometry geometry ps → Each Earthly ps → Fine (single (featureOf p geometry role ps) b)
-unfolding featureOf
-fine-feature p geometry role ps b g h = record { each = (record { geometry = g; counted = refl; earth = h }, tt) }
+unfolding featureOf featuresIn
+fine-feature p geometry role ps b g h = record { each = (record { geometry = g; counted = refl; globe = globe ps h }, tt) }
 
 fine-draws : (m : Made) → Fine (drawsTrace m)
+unfolding featuresIn
 fine-draws m = record { each = go (m .draws) }
   where
-    go : (ds : List Drawn) → EachFeature Sane (map drew ds)
+    go : (ds : List Drawn) → AllWellFormed (featuresIn (map drew ds))
     go [] = tt
     go (d ∷ ds) = go ds
 
 fine-then : {t u : Trace} → Fine t → Fine u → Fine (thenTrace t (λ r. u))
+unfolding featuresIn
 fine-then {t} {u} h k = record { each = go (t .events) (h .each) }
   where
-    go : (es : List Event) → EachFeature Sane es → EachFeature Sane (es ++ u .events)
+    go : (es : List Event) → AllWellFormed (featuresIn es) → AllWellFormed (featuresIn (es ++ u .events))
     go [] h = k .each
     go (drew d ∷ es) h = go es h
     go (need n ∷ es) h = go es h
@@ -110,12 +111,15 @@ fine-pick false h k = k refl
 
 -- no features at all
 fine-quiet : (b : Budget) → Fine (quiet b)
+unfolding featuresIn
 fine-quiet b = record { each = tt }
 
 fine-need : (n : ℕ) (b : Budget) → Fine (single (need n) b)
+unfolding featuresIn
 fine-need n b = record { each = tt }
 
 fine-missing : (item : ℕ) (b : Budget) → Fine (missing item b)
+unfolding featuresIn
 fine-missing item b = record { each = tt }
 
 -- ---- canvas points that a line or a ring can be drawn through: at most 2 ^ 22 in size, so that what stands between them is at most 2 ^ 24
@@ -355,10 +359,10 @@ module _ (r : Registration) (S : Sound r) (step flatten : Float) where
     fine-items i (it ∷ its) b h = fine-then (fine-drawn (propsOf rule i it) it (shapeOf it) b (h .0) (shape-measured it (h .0) .near)) (fine-items (suc i) its _ (h .1))
 
 fine-spent : (b : Budget) → Fine (spentOf b)
-unfolding spentOf
+unfolding spentOf featuresIn
 fine-spent b = fine-pick (b .hit) (λ t. record { each = tt }) (λ t. fine-quiet b)
 
-pub convert-sane : (rule : ℕ → Bool) (r : Registration) (step flatten : Float) (its : List DrawnItem) (b : Budget) → Sound r → Each NearItem its →
-    EachFeature Sane (convertOf rule (record { projection = projectionOf r; step = step; flatten = flatten }) its b .events)
+pub convert-well-formed : (rule : ℕ → Bool) (r : Registration) (step flatten : Float) (its : List DrawnItem) (b : Budget) → Sound r → Each NearItem its →
+    AllWellFormed (featuresIn (convertOf rule (record { projection = projectionOf r; step = step; flatten = flatten }) its b .events))
 unfolding convertOf
-convert-sane rule r step flatten its b S N = fine-then (fine-items r S step flatten rule 0 its b N) (fine-spent _) .each
+convert-well-formed rule r step flatten its b S N = fine-then (fine-items r S step flatten rule 0 its b N) (fine-spent _) .each
