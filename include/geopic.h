@@ -39,24 +39,28 @@ enum {
     GEOPIC_TOO_MANY = 9,      /* more than 64 control points */
     GEOPIC_NO_ANCHOR = 10,    /* neither control point nor anchor */
     GEOPIC_DEGENERATE = 11,   /* the control points fit no similarity */
-    GEOPIC_SCALE = 12,        /* the declared scale is zero or negative */
-    GEOPIC_VIEW_SCALE = 13,   /* geo_px without a positive view_scale */
+    GEOPIC_SCALE = 12,        /* with fewer than two control points: the declared scale is zero or negative */
+    GEOPIC_VIEW_SCALE = 13,   /* with fewer than two control points: geo_px, and no positive view_scale */
     GEOPIC_MAX_SCALE = 14,    /* the effective scale is not finite or exceeds 1e9 metres an inch */
-    GEOPIC_WORK_ROOM = 15,    /* work holds fewer points than a shape needs */
-    GEOPIC_POSITION_ROOM = 16,
-    GEOPIC_FEATURE_ROOM = 17,
-    GEOPIC_WARNING_ROOM = 18
+    GEOPIC_WORK_ROOM = 15,    /* work holds fewer points than a shape needs, see below */
+    GEOPIC_POSITION_ROOM = 16,/* positions do not fit their slice */
+    GEOPIC_FEATURE_ROOM = 17, /* a feature line does not fit */
+    GEOPIC_WARNING_ROOM = 18  /* a warning does not fit */
 };
 
 /* A feature line is six numbers: the item's index from 0; the geometry (0 point, 1 line, 2 polygon of one ring); the role
- * (1 a separate fill, else 0); the placement (1 on the screen, else 0); the part (0, or 1 and the path's index where an
- * item has several); and how many positions it has. They stand in `positions` directly behind those of the lines before
- * it, longitude then latitude, in degrees. A line has two or more, a ring four or more, its last bit-identical to its
- * first; all are finite.
+ * (1 a separate fill, else 0); the placement (1 on the screen, else 0); the part (0, or 1 + the path's index from 0 where
+ * an item has more than one path); and how many positions it has. They stand in `positions` directly behind those of the
+ * lines before it, longitude then latitude, in degrees. A line has two or more, a ring four or more, its last
+ * bit-identical to its first; all are finite.
  *
  * A warning is two numbers, kind and index (0 where none applies): 1 view_scale ignored, 2 a control point that does not
  * resolve (the host feature, or the `_lon` variable; 0 for half an anchor), 3 one overridden by a host feature (the
  * variable), 4 something ignored because control points exist, 5 an item without its geometry, 6 the allowance was spent.
+ *
+ * Work must hold P + F + 1 points, two doubles each, for every line, path and ring of the stream: P its points, flattened,
+ * and closed where it is marked closed or is a ring; F those of its fill outline, flattened and closed, 0 without one,
+ * used or not. They are counted before straight edges are densified, and also where they are too few to draw.
  *
  * Lengths count doubles and numbers, not positions or lines. A length of 0 may come with any pointer that is not null.
  *

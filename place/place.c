@@ -19,22 +19,32 @@ static long long whole(double degrees)
     return llround(degrees * 1e9);
 }
 
+/* What was printed has been written, or the program says why not. */
+static int finish(void)
+{
+    if (ferror(stdout) || fclose(stdout) != 0) {
+        perror("place: the lines could not be written");
+        return 2;
+    }
+    return 0;
+}
+
 int main(void)
 {
     size_t n = fread(stream, 1, sizeof stream, stdin);
     if (ferror(stdin)) {
-        perror("place");
+        perror("place: the stream could not be read");
         return 2;
     }
     if (n > BYTES) {
         printf("E 0\n");
-        return 0;
+        return finish();
     }
     geopic_answer a = geopic_place(stream, n, work, 2 * POINTS, positions, 2 * POSITIONS, features, 6 * LINES,
                                    warnings, 2 * WARNINGS);
     if (a.number != 0) {
         printf("E %" PRIu32 "\n", a.number);
-        return 0;
+        return finish();
     }
     printf("R %" PRIu32 " %" PRIu32 "\n", a.method, a.controls);
     const double *p = positions;
@@ -50,5 +60,5 @@ int main(void)
         printf("W %" PRIu32 " %" PRIu32 "\n", warnings[2 * i], warnings[2 * i + 1]);
     }
     printf("B %zu %" PRIu32 "\n", a.left, a.spent);
-    return 0;
+    return finish();
 }

@@ -2,7 +2,7 @@
 use Prim.Native.Nat.{ℕ, zero, suc, _+_, _*_}
 use mathlib.Core.Path.{_≡_}
 use mathlib.Core.Bool.{Bool, false, _||_}
-use mathlib.Core.List.{List, [], _∷_}
+use mathlib.Core.List.{List, [], _∷_, _++_}
 use lib.ListN.{length, getD}
 use lib.Dec.{T, eqb}
 use lib.Ieee.{Float, neg, le}
@@ -39,6 +39,11 @@ pub record WellFormed (l : Lined) : Type 0 where
 abbrev pub AllWellFormed : List Lined → Type 0
 AllWellFormed [] = Unit {0}
 AllWellFormed (l ∷ ls) = WellFormed l × AllWellFormed ls
+
+-- the positions of all of them, one after the other
+unfoldable pub positionsIn : List Lined → List Point
+positionsIn [] = []
+positionsIn (l ∷ ls) = l .1 ++ positionsIn ls
 
 -- ---- read off the one list of events
 unfoldable pub featuresIn : List Event → List Lined

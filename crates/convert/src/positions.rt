@@ -155,6 +155,13 @@ pub fn unwritten(
     requires { ⌜ (from ≤ to) × (to ≤ length (now work)) × (st .warnings ≤ length (now warnings)) ⌝ }
     ensures { λ r. ⌜ ((w : ℕ) (q : List Float) (f : List ℕ) → Fits (sheetBy w q f (now (warnings .entry)) st) (st .budget) → Played (unwrittenOf cx item (pointsIn (now (work .entry)) from to) (st .budget)) (sheetBy w q f (now (warnings .entry)) st) (sheetBy w q f (now (warnings .exit)) r) (r .budget)) ⌝ }
 {
-    let left = spend_polyline(cx.step, cx.projection.registration.scale, work, from, to, st.budget);
+    let left = spend_polyline(
+        cx.step,
+        cx.projection.registration.scale,
+        work,
+        from,
+        to,
+        st.budget,
+    );
     warn(warnings, with_budget(st, left), 5, item)
 }

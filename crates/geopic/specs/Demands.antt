@@ -1,40 +1,74 @@
 -- The three demands, as theorems about every stream s and whatever slices are lent with it (t). The contract of `geopic_place` says that its answer is `answerOf s t` and that the slices then hold `lentAfter s t`; both are read off one list of events, `traceOf`.
-use Prim.Native.Nat.{ℕ}
+use Prim.Native.Nat.{ℕ, _*_}
 use mathlib.Core.Path.{_≡_}
 use mathlib.Core.Bool.{cond}
 use mathlib.Core.List.{List}
+use lib.ListN.{length, drop}
+use Rattle.stream.specs.Conditions.{firstOf, NoneHolds}
 use Rattle.stream.specs.Payload.{payload}
 use Rattle.scene.specs.Scene.{Point, Scene, sceneOf}
 use Rattle.similarity.specs.Projection.{geoOf}
-use Rattle.register.specs.Register.{registrationOf}
-use Rattle.budget.specs.Draws.{leftAfter, Claim}
+use Rattle.register.specs.Register.{f0, registrationOf}
+use Rattle.budget.specs.Draws.{Draw, leftAfter, Claim}
+use Rattle.budget.specs.Laws.Draws.{claim}
 use Rattle.densify.specs.Positions.{placedBy}
 use Rattle.densify.specs.Draws.{drawsOf, Granted, fellShort}
-use Rattle.convert.specs.Convert.{drawsIn, EachFeature}
-use Rattle.convert.specs.Laws.Features.{Sane}
-use Rattle.geopic.specs.Geopic.{fresh, ctxOf, traceOf, Lent, conditions, firstFrom, answerOf}
-use Rattle.geopic.specs.Laws.Conditions.{AllFalse, number-is, number-none, none-number}
-use Rattle.geopic.specs.Laws.Scenes.{scene-sane, scene-geo, scene-claim, scene-grants, scene-left, scene-spent}
+use Rattle.convert.specs.Convert.{drawsIn}
+use Rattle.convert.specs.Features.{AllWellFormed, positionsIn, featuresIn, warningsIn, featuresAt, warningsAt, anyOfKind}
+use Rattle.geopic.specs.Geopic.{fresh, ctxOf, traceOf, Lent, early, conditions, answerOf, clear, lentAfter}
+use Rattle.geopic.specs.Laws.Conditions.{number-is, number-none, none-number}
+use Rattle.geopic.specs.Laws.Calls.{untouched, cleared}
+use Rattle.geopic.specs.Laws.Scenes.{scene-well-formed, formed-read, scene-geo, scene-features, scene-warnings, scene-counts, scene-tails, scene-claim, scene-grants, scene-left, scene-spent, scene-six}
+
+-- 3, its first sentence. The claim holds of any list of draws from any allowance.
+pub demand-3-any : (allowance : ℕ) (ds : List Draw) → Claim allowance ds
+demand-3-any allowance ds = claim allowance ds
 
 module _ (s : List ℕ) (t : Lent) where
   abbrev sc : Scene
   sc = sceneOf (payload s)
 
-  -- 1. The number is that of the first of 01's eighteen conditions that holds, in 01's order ..
-  pub demand-1 : answerOf s t .number ≡ firstFrom 1 (conditions s t)
+  -- 1. The number is that of the first of 01's eighteen conditions that holds, in the order of checking ..
+  pub demand-1 : answerOf s t .number ≡ firstOf (conditions s t)
   demand-1 = number-is s t
 
   -- .. and a stream of which none holds is accepted, as is no other
-  pub demand-1-accepted : AllFalse (conditions s t) → answerOf s t .number ≡ 0
+  pub demand-1-accepted : NoneHolds (conditions s t) → answerOf s t .number ≡ 0
   demand-1-accepted h = none-number s t h
 
-  pub demand-1-only : answerOf s t .number ≡ 0 → AllFalse (conditions s t)
+  pub demand-1-only : answerOf s t .number ≡ 0 → NoneHolds (conditions s t)
   demand-1-only h = number-none s t h
 
+  -- a condition that is checked before the slices are looked at leaves them as they were ..
+  pub demand-1-untouched : (firstOf (early s) ≡ 0 → ⊥) → lentAfter s t ≡ t
+  demand-1-untouched h = untouched s t h
+
+  -- .. and one that is checked later clears them all
+  pub demand-1-cleared : firstOf (early s) ≡ 0 → (answerOf s t .number ≡ 0 → ⊥) → lentAfter s t
+      ≡ record { work = clear f0 (length (t .work)); positions = clear f0 (length (t .positions)); features = clear 0 (length (t .features)); warnings = clear 0 (length (t .warnings)) }
+  demand-1-cleared e h = cleared s t e h
+
   module _ (h : answerOf s t .number ≡ 0) where
-    -- 2. Every feature is what RFC 7946 says of its geometry: a point is one finite position, a line two or more (3.1.4), a polygon one ring of four or more whose first and last are identical (3.1.6); its line counts them; and all lie on the globe. `traceOf` is the Rust's definition of them, `lentAfter` says where they stand.
-    pub demand-2 : EachFeature Sane (traceOf sc .events)
-    demand-2 = scene-sane s t h
+    -- 2. Features with their positions, and warnings, read off the slices as the header says, are those of `traceOf`, the Rust's definition of them ..
+    pub demand-2 : featuresAt (lentAfter s t .features) (lentAfter s t .positions) 0 0 (answerOf s t .features) ≡ featuresIn (traceOf sc .events)
+    demand-2 = scene-features s t h
+
+    pub demand-2-warnings : warningsAt (lentAfter s t .warnings) 0 (answerOf s t .warnings) ≡ warningsIn (traceOf sc .events)
+    demand-2-warnings = scene-warnings s t h
+
+    -- .. there are as many as the answer says, and what stands behind them is as it was
+    pub demand-2-counts : (answerOf s t .positions ≡ length (positionsIn (featuresIn (traceOf sc .events)))) × (answerOf s t .features ≡ length (featuresIn (traceOf sc .events)))
+        × (answerOf s t .warnings ≡ length (warningsIn (traceOf sc .events)))
+    demand-2-counts = scene-counts s t h
+
+    pub demand-2-tails : (drop (2 * answerOf s t .positions) (lentAfter s t .positions) ≡ drop (2 * answerOf s t .positions) (t .positions))
+        × (drop (6 * answerOf s t .features) (lentAfter s t .features) ≡ drop (6 * answerOf s t .features) (t .features))
+        × (drop (2 * answerOf s t .warnings) (lentAfter s t .warnings) ≡ drop (2 * answerOf s t .warnings) (t .warnings))
+    demand-2-tails = scene-tails s t h
+
+    -- Each that the host holds is what RFC 7946 says of its geometry: a point is one finite position, a line two or more (3.1.4), a polygon one ring of four or more whose first and last are identical (3.1.6); its line counts them; and all lie on the globe.
+    pub demand-2-formed : AllWellFormed (featuresAt (lentAfter s t .features) (lentAfter s t .positions) 0 0 (answerOf s t .features))
+    demand-2-formed = formed-read s t h
 
     -- each position is the Rust's `geo` of its canvas point
     pub demand-2-geo : (p : Point) → placedBy (ctxOf sc .projection) p ≡ (let g = geoOf (registrationOf sc) (p .x) (p .y) in record { x = g .lon; y = g .lat })
@@ -52,6 +86,9 @@ module _ (s : List ℕ) (t : Lent) where
     pub demand-3-left : answerOf s t .left ≡ leftAfter 2000000 (drawsOf (drawsIn (traceOf sc .events)))
     demand-3-left = scene-left s t h
 
-    -- .. and the mark is set exactly if a grant fell short or a piece that was not flat met fewer than 2 left
+    -- .. and the mark is set, and warning 6 stands, exactly if a grant fell short or a piece that was not flat met fewer than 2 left
     pub demand-3-spent : answerOf s t .spent ≡ cond (fellShort (drawsIn (traceOf sc .events))) 1 0
     demand-3-spent = scene-spent s t h
+
+    pub demand-3-warning : anyOfKind 6 (warningsAt (lentAfter s t .warnings) 0 (answerOf s t .warnings)) ≡ fellShort (drawsIn (traceOf sc .events))
+    demand-3-warning = scene-six s t h

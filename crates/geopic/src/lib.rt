@@ -87,7 +87,7 @@ fn clear_words(out: &mut [u32]) -> usize
 }
 
 // The step with which each call of the host begins: every condition that is checked before the lent slices.
-fn open(s: &[u8]) -> Opened
+fn open_stream(s: &[u8]) -> Opened
     ensures { λ o. ⌜ Opens (now (s .entry)) o ⌝ }
 {
     let number = records::refusal(s);
@@ -197,7 +197,7 @@ pub extern "C" fn geopic_place(
     ensures { λ r. ⌜ r ≡ answerOf (now (s .entry)) (record { work = now (work .entry); positions = now (positions .entry); features = now (features .entry); warnings = now (warnings .entry) }) ⌝ }
     ensures { λ r. ⌜ record { work = now (work .exit); positions = now (positions .exit); features = now (features .exit); warnings = now (warnings .exit) } ≡ lentAfter (now (s .entry)) (record { work = now (work .entry); positions = now (positions .entry); features = now (features .entry); warnings = now (warnings .entry) }) ⌝ }
 {
-    match open(s) {
+    match open_stream(s) {
         Opened::Refused(number) => refuse(number),
         Opened::Registered(v, r) => fill(s, v, r, work, positions, features, warnings),
     }

@@ -246,7 +246,7 @@ module _ (r : Registration) (S : Sound r) (step flatten : Float) where
   placed-earthly p h = subst (λ (g : LonLat). OnEarth g) (sym (geo-projects r (p .x) (p .y))) (geo-in r S (p .x) (p .y) (h .x) (h .y))
 
   abbrev scale : Float
-  scale = projectionOf r .scale
+  scale = projectionOf r .registration .scale
 
   -- the points of a line or a ring, and their positions
   abbrev densified : List Point → Budget → Made

@@ -19,14 +19,10 @@ use Rattle.geojson.specs.Lines.{putWords, wordsOf}
 use Rattle.geojson.specs.Laws.Words.{putWords-length, sets-put}
 use Rattle.convert.specs.Convert.{Event, drew, need, feature, warned}
 use Rattle.convert.specs.Space.{Sheet, pickSheet, lacking, withFeature, withWarning, played, playAll}
-use Rattle.convert.specs.Features.{Lined, AllWellFormed, featuresIn, warningsIn, lineAt, featuresAt, warningsAt}
+use Rattle.convert.specs.Features.{Lined, AllWellFormed, positionsIn, featuresIn, warningsIn, lineAt, featuresAt, warningsAt}
 use Rattle.convert.specs.Laws.Playing.{stuck}
 
 -- ---- what the slices hold of features and warnings
-unfoldable pub positionsIn : List Lined → List Point
-positionsIn [] = []
-positionsIn (l ∷ ls) = l .1 ++ positionsIn ls
-
 unfoldable pub wordsIn : List Lined → List ℕ
 wordsIn [] = []
 wordsIn (l ∷ ls) = wordsOf (l .0) ++ wordsIn ls
@@ -246,6 +242,9 @@ warnings-read (w ∷ ws) a r =
 
 -- ---- the features and warnings of the events, read back off u; behind them stands what stood in t
 pub record ReadBack (es : List Event) (t u : Sheet) : Type 0 where
+  pub usedPositions : u .usedPositions ≡ 2 * length (positionsIn (featuresIn es))
+  pub usedFeatures : u .usedFeatures ≡ 6 * length (featuresIn es)
+  pub usedWarnings : u .usedWarnings ≡ 2 * length (warningsIn es)
   pub features : featuresAt (u .features) (u .positions) 0 0 (u .usedFeatures / 6) ≡ featuresIn es
   pub warnings : warningsAt (u .warnings) 0 (u .usedWarnings / 2) ≡ warningsIn es
   pub tailPositions : drop (u .usedPositions) (u .positions) ≡ drop (u .usedPositions) (t .positions)
@@ -274,14 +273,20 @@ module _ (es : List Event) (t : Sheet) (positions : t .usedPositions ≡ 0) (fea
   all = added-all es t (record { positions = omega arith; features = omega arith; warnings = omega arith }) z
 
   -- what is used of each slice
-  pub used-positions : u .usedPositions / 2 ≡ length (positionsIn ls)
+  used-positions : u .usedPositions ≡ 2 * length (positionsIn ls)
   used-positions = omega (arith, all .usedPositions, flats-length (positionsIn ls))
 
-  pub used-features : u .usedFeatures / 6 ≡ length ls
+  used-features : u .usedFeatures ≡ 6 * length ls
   used-features = omega (arith, all .usedFeatures, words-length ls)
 
-  pub used-warnings : u .usedWarnings / 2 ≡ length (warningsIn es)
+  used-warnings : u .usedWarnings ≡ 2 * length (warningsIn es)
   used-warnings = omega (arith, all .usedWarnings, pairs-length (warningsIn es))
+
+  whole-features : u .usedFeatures / 6 ≡ length ls
+  whole-features = omega (arith, used-features)
+
+  whole-warnings : u .usedWarnings / 2 ≡ length (warningsIn es)
+  whole-warnings = omega (arith, used-warnings)
 
   -- what stands in each slice
   positions-are : u .positions ≡ flats (positionsIn ls) ++ drop (length (flats (positionsIn ls))) (t .positions)
@@ -293,31 +298,34 @@ module _ (es : List Event) (t : Sheet) (positions : t .usedPositions ≡ 0) (fea
   warnings-are : u .warnings ≡ pairsIn (warningsIn es) ++ drop (length (pairsIn (warningsIn es))) (t .warnings)
   warnings-are = all .warnings ∙ rw warnings (words-start (t .warnings) (pairsIn (warningsIn es)))
 
-  pub read-features : AllCounted ls → featuresAt (u .features) (u .positions) 0 0 (u .usedFeatures / 6) ≡ ls
-  read-features h = rw (used-features, features-are, positions-are) (features-read ls [] _ [] _ h)
+  read-features : AllCounted ls → featuresAt (u .features) (u .positions) 0 0 (u .usedFeatures / 6) ≡ ls
+  read-features h = rw (whole-features, features-are, positions-are) (features-read ls [] _ [] _ h)
 
-  pub read-warnings : warningsAt (u .warnings) 0 (u .usedWarnings / 2) ≡ warningsIn es
-  read-warnings = rw (used-warnings, warnings-are) (warnings-read (warningsIn es) [] _)
+  read-warnings : warningsAt (u .warnings) 0 (u .usedWarnings / 2) ≡ warningsIn es
+  read-warnings = rw (whole-warnings, warnings-are) (warnings-read (warningsIn es) [] _)
 
-  pub tail-positions : drop (u .usedPositions) (u .positions) ≡ drop (u .usedPositions) (t .positions)
+  tail-positions : drop (u .usedPositions) (u .positions) ≡ drop (u .usedPositions) (t .positions)
   tail-positions =
       let n : u .usedPositions ≡ length (flats (positionsIn ls)) = omega (arith, all .usedPositions) in
       rw (n, positions-are) (drop-append-seam (flats (positionsIn ls)) _)
 
-  pub tail-features : drop (u .usedFeatures) (u .features) ≡ drop (u .usedFeatures) (t .features)
+  tail-features : drop (u .usedFeatures) (u .features) ≡ drop (u .usedFeatures) (t .features)
   tail-features =
       let n : u .usedFeatures ≡ length (wordsIn ls) = omega (arith, all .usedFeatures) in
       rw (n, features-are) (drop-append-seam (wordsIn ls) _)
 
-  pub tail-warnings : drop (u .usedWarnings) (u .warnings) ≡ drop (u .usedWarnings) (t .warnings)
+  tail-warnings : drop (u .usedWarnings) (u .warnings) ≡ drop (u .usedWarnings) (t .warnings)
   tail-warnings =
       let n : u .usedWarnings ≡ length (pairsIn (warningsIn es)) = omega (arith, all .usedWarnings) in
       rw (n, warnings-are) (drop-append-seam (pairsIn (warningsIn es)) _)
 
-pub reads-back : (es : List Event) (t : Sheet) → t .number ≡ 0 → t .usedPositions ≡ 0 → t .usedFeatures ≡ 0 → t .usedWarnings ≡ 0
+pub reads-back : (es : List Event) (t : Sheet) → t .usedPositions ≡ 0 → t .usedFeatures ≡ 0 → t .usedWarnings ≡ 0
     → AllWellFormed (featuresIn es) → playAll es t .number ≡ 0 → ReadBack es t (playAll es t)
-reads-back es t n p f w h z =
+reads-back es t p f w h z =
     record {
+      usedPositions = used-positions es t p f w z;
+      usedFeatures = used-features es t p f w z;
+      usedWarnings = used-warnings es t p f w z;
       features = read-features es t p f w z (well-counted (featuresIn es) h);
       warnings = read-warnings es t p f w z;
       tailPositions = tail-positions es t p f w z;

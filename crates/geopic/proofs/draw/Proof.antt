@@ -1,17 +1,26 @@
 use mathlib.Core.Path.{_≡_}
 use mathlib.Core.Bool.{cond}
+use mathlib.Core.List.{List}
+use Prim.Native.Nat.{ℕ}
+use Rattle.stream.specs.Conditions.{firstOf}
+use Rattle.records.specs.Contracts.Refusals.{refusalOf}
 use mathlib.Core.Logic.{⊎-elim}
 use native.Mathlib.Omega.{arith}
 use borrow.Author.Needs.{needs}
 use borrow.Author.Tests.{not-true, not-false}
 use Rattle.records.specs.Laws.Refusals.{is-short, is-laid-out}
-use Rattle.geopic.specs.Geopic.{Lent}
+use Rattle.geopic.specs.Geopic.{Lent, early}
+use Rattle.geopic.specs.Laws.Conditions.{early-none}
 use Rattle.geopic.specs.Laws.Calls.{controls-are, begun, drawn}
 use Rattle.geopic.proofs.draw.Statement.{statement}
 use Rattle.geopic.proofs.draw.Tie as tie
 
 abbrev lent : tie.Start → Lent
 lent a = record { work = a .args .work .now; positions = a .args .positions .now; features = a .args .features .now; warnings = a .args .warnings .now }
+
+-- none of 1 to 6
+read : (s : List ℕ) → firstOf (early s) ≡ 0 → refusalOf s ≡ 0
+read s h = early-none s h .0
 
 -- 18 if a warning lacked room
 short : (j : tie.Joined1) → j .if1 .number ≡ cond (j .before .before .before .before .write-warnings .result .ok) 0 18
@@ -23,7 +32,7 @@ write-warnings-requires : tie.Need-write-warnings-requires
 write-warnings-requires c κs =
     let a = c .before .before .before .before .before .before in
     let s = a .args .s .now in
-    (omega (arith, is-short s (a .pre .0)), is-laid-out s (a .pre .0), a .pre .3, controls-are s (a .pre .2))
+    (omega (arith, is-short s (read s (a .pre .none))), is-laid-out s (read s (a .pre .none)), a .pre .surveyed, controls-are s (a .pre .is))
 
 projection-of-requires : tie.Need-projection-of-requires
 projection-of-requires c κs = search needs
@@ -35,7 +44,7 @@ convert-requires : tie.Need-convert-requires
 convert-requires c κs =
     let a = c .before .before .before .before .before .before .before .before .before .before .before .before .before .before .before .before .before in
     let s = a .args .s .now in
-    (omega (arith, is-short s (a .pre .0)), begun s (lent a) (c .before .before .before .before .before .before .before .before .before .before .write-warnings .ensures) (short (c .before .before .before .before .before .before)) .fits, a .pre .3 .labels)
+    (omega (arith, is-short s (read s (a .pre .none))), begun s (lent a) (c .before .before .before .before .before .before .before .before .before .before .write-warnings .ensures) (short (c .before .before .before .before .before .before)) .fits, a .pre .surveyed .labels)
 
 same-length : tie.Need-same-length
 same-length c = search needs
@@ -52,7 +61,7 @@ same-length-4 c = search needs
 returns : tie.Need-returns
 returns c =
     let a = c .before .before .before .before .before .before .before .before .before .before .before .before .before .before .before .before .before .before .before .before .before .before .before .before .before .before in
-    drawn (a .args .s .now) (lent a) (c .before .before .before .before .before .before .before .before .before .before .before .before .before .before .before .before .before .before .before .write-warnings .ensures) (short (c .before .before .before .before .before .before .before .before .before .before .before .before .before .before .before)) (a .pre .2) (c .before .before .before .before .before .before .before .before .before .before .before .before .before .before .projection-of .ensures) (c .before .before .before .before .before .before .before .before .before .before .before .before .before .flatten .ensures) (c .before .before .before .before .before .before .before .before .convert .ensures)
+    drawn (a .args .s .now) (lent a) (c .before .before .before .before .before .before .before .before .before .before .before .before .before .before .before .before .before .before .before .write-warnings .ensures) (short (c .before .before .before .before .before .before .before .before .before .before .before .before .before .before .before)) (a .pre .is) (c .before .before .before .before .before .before .before .before .before .before .before .before .before .before .projection-of .ensures) (c .before .before .before .before .before .before .before .before .before .before .before .before .before .flatten .ensures) (c .before .before .before .before .before .before .before .before .convert .ensures)
 
 pub draw-spec : {M : Type 1} → statement M
 draw-spec =

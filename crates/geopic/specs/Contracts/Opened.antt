@@ -1,4 +1,4 @@
--- What an answer of `open` stands for: document 01's number, or the registration.
+-- What an answer of `open_stream` stands for: document 01's number, or the registration.
 use Prim.Native.Nat.{ℕ}
 use mathlib.Core.Path.{_≡_}
 use mathlib.Core.List.{List}

@@ -33,12 +33,13 @@ use Rattle.geopic.specs.declared.Answer.{Answer}
 use Rattle.convert.specs.Convert.{warned, Trace, onScreen, convertOf}
 use Rattle.convert.specs.Space.{Sheet, lacking, withWarning}
 use Rattle.convert.specs.Contracts.Space.{sheetBy, Fits, Played}
-use Rattle.geopic.specs.Geopic.{maxStep, fresh, ctxOf, traceOf, Lent, blank, sheetOf, early, numberOf, refusal, acceptance, answerOf, clear, sliceBy, lentAfter}
+use Rattle.geopic.specs.Geopic.{maxStep, fresh, ctxOf, traceOf, Lent, blank, sheetOf, early, conditions, numberOf, refusal, acceptance, answerOf, clear, sliceBy, lentAfter}
 use Rattle.convert.specs.Laws.Playing.{played-quiet, played-stuck, played-then}
 use Rattle.convert.specs.Laws.Events.{warned-fits, warned-lacks}
+use Rattle.geopic.specs.declared.Opened.{Opened}
 use Rattle.geopic.specs.declared.Opened.the-variants.{Refused, Registered}
-use Rattle.geopic.specs.Contracts.Opened.{Opens}
-use Rattle.geopic.specs.Laws.Conditions.{early-stream, early-registration, by-early, by-space}
+use Rattle.geopic.specs.Contracts.Opened.{numberBy, Registers, Comes, Opens}
+use Rattle.geopic.specs.Laws.Conditions.{number-is, early-stream, early-registration, by-early, by-space}
 
 -- ---- the registration's warnings: what `register` pushes is what is played
 abbrev Pushed : Type 0
@@ -170,6 +171,14 @@ module _ (s : List ℕ) (t : Lent) where
     unfolding lentAfter sliceBy
     early-lent = rw (ne-eqb (firstOf (early s)) 0 first)
 
+  pub untouched : (firstOf (early s) ≡ 0 → ⊥) → lentAfter s t ≡ t
+  untouched h = sym (early-lent refl h)
+
+  pub cleared : firstOf (early s) ≡ 0 → (answerOf s t .number ≡ 0 → ⊥) → lentAfter s t
+      ≡ record { work = clear f0 (length (t .work)); positions = clear f0 (length (t .positions)); features = clear 0 (length (t .features)); warnings = clear 0 (length (t .warnings)) }
+  unfolding lentAfter sliceBy numberOf
+  cleared e h = rw (e, ne-eqb (firstOf (conditions s t)) 0 (λ z. h (number-is s t ∙ z)))
+
   module _ (none : firstOf (early s) ≡ 0) {u : Sheet} {b : Budget} (d : Played (traceOf (sc s)) (blank t) u b) where
     space : u .number ≡ sheetOf (sc s) t .number
     unfolding sheetOf
@@ -202,7 +211,7 @@ module _ (s : List ℕ) (t : Lent) where
       unfolding lentAfter sliceBy
       accepted-lent e = rw (e, none, late-number, eq-eqb (u .number) 0 room, ← sheet, d .work)
 
--- ---- what `open` comes to
+-- ---- what `open_stream` comes to
 module _ (s : List ℕ) where
   pub stream-opens : {n : ℕ} → n ≡ refusalOf s → (n ≡ 0 → ⊥) → Opens s (Refused n)
   stream-opens e some = record { number = e ∙ sym (early-stream s (λ z. some (e ∙ z))); comes = some }
@@ -218,3 +227,11 @@ module _ (s : List ℕ) where
     registered-opens z w =
         let none = sym number ∙ z in
         record { number = sym none; comes = record { none = none; is = outcome-is (sc s) is z; surveyed = w } }
+
+  -- the same by the answer's case
+  module _ {o : Opened} (h : Opens s o) where
+    pub is-registered : {v : Survey} {r : Registration} → o ≡ Registered v r → Registers s v r
+    is-registered e = subst (λ (x : Opened). Comes s x) e (h .comes)
+
+    pub is-refused : {n : ℕ} → o ≡ Refused n → (n ≡ firstOf (early s)) × (n ≡ 0 → ⊥)
+    is-refused e = (sym (ap numberBy e) ∙ h .number, subst (λ (x : Opened). Comes s x) e (h .comes))

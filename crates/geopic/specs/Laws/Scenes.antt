@@ -1,16 +1,21 @@
--- What an accepted stream's events are. Assumes nothing.
-use Prim.Native.Nat.{ℕ}
-use mathlib.Core.Path.{_≡_, refl, sym, ap, _∙_}
-use mathlib.Core.Bool.{Bool, true, false, cond}
+-- What an accepted stream's events are, and what the host then holds. Assumes nothing.
+use Prim.Native.Nat.{ℕ, zero, suc, _*_, _/_}
+use mathlib.Core.Path.{_≡_, refl, sym, ap, subst, _∙_}
+use mathlib.Core.Bool.{Bool, true, false, not, _&&_, cond}
 use mathlib.Core.List.{List, [], _∷_, _++_, map}
+use native.Mathlib.Omega.{arith}
+use lib.ListN.{length, drop}
 use lib.Dec.{eqb}
-use borrow.Author.Tests.{eq-eqb, eqb-true, eqb-false}
+use lib.Ieee.{Float}
+use borrow.Author.Tests.{eq-eqb}
+use Rattle.stream.specs.Conditions.{firstOf}
 use Rattle.stream.specs.Payload.{payload}
 use Rattle.records.specs.Contracts.Refusals.{refusalOf}
-use Rattle.scene.specs.Scene.{Point, Scene, sceneOf}
+use Rattle.scene.specs.Scene.{Maybe, none, some, Point, NamedFeature, NamedValue, Scene, sceneOf}
 use Rattle.similarity.specs.Projection.{geoOf}
 use Rattle.similarity.specs.Laws.Projects.{geo-projects}
-use Rattle.register.specs.Register.{Warning, registrationOf, registerWarnings}
+use Rattle.register.specs.Register as register
+use Rattle.register.specs.Register.{Warning, f0, isLon, stem, suffixLat, var, resolved, mentioned, eventOf, featureEvent, featureEvents, lonEvent, onto, variableEvents, events, registrationOf, isSome, anchorOf, pxMode, halfAnchor, controlsOf, only, ignored, anyDeclared, ignoredWith, viewWarnings, halfWarnings, registerWarnings}
 use Rattle.register.specs.Contracts.Outcome.{registerRefusal}
 use Rattle.register.specs.Laws.Sound.{accepted-tame, accepted-sound}
 use Rattle.budget.specs.Draws.{leftAfter, Claim}
@@ -18,12 +23,13 @@ use Rattle.budget.specs.Laws.Draws.{claim}
 use Rattle.densify.specs.Densify.{Drawn}
 use Rattle.densify.specs.Positions.{placedBy}
 use Rattle.densify.specs.Draws.{drawsOf, Granted, fellShort}
-use Rattle.geojson.specs.declared.Feature.{Feature}
-use Rattle.convert.specs.Convert.{Event, warned, onScreen, convertOf, drawsIn, EachFeature}
-use Rattle.convert.specs.Laws.Draws.{trace-left, trace-hit, convert-replays}
-use Rattle.convert.specs.Laws.Features.{Sane, convert-sane}
-use Rattle.geopic.specs.Geopic.{maxStep, fresh, ctxOf, traceOf, Lent, sheetOf, numberOf, acceptance, answerOf}
-use Rattle.geopic.specs.Laws.Conditions.{number-is, early, middle}
+use Rattle.convert.specs.Convert.{Event, warned, onScreen, convertOf, drawsIn}
+use Rattle.convert.specs.Features.{AllWellFormed, positionsIn, featuresIn, warningsIn, featuresAt, warningsAt, anyOfKind}
+use Rattle.convert.specs.Laws.Draws.{trace-left, trace-hit, convert-replays, any-append, spent-warned}
+use Rattle.convert.specs.Laws.Features.{convert-well-formed}
+use Rattle.convert.specs.Laws.Reading.{ReadBack, reads-back}
+use Rattle.geopic.specs.Geopic.{maxStep, fresh, ctxOf, traceOf, Lent, blank, sheetOf, early, numberOf, acceptance, answerOf, clear, lentAfter, sliceBy}
+use Rattle.geopic.specs.Laws.Conditions.{number-is, none-early, early-none, by-space}
 
 -- the registration's warnings draw nothing and give no feature
 warnings-draws : (ws : List Warning) (es : List Event) → drawsIn (map warned ws ++ es) ≡ drawsIn es
@@ -31,9 +37,86 @@ unfolding drawsIn
 warnings-draws [] es = refl
 warnings-draws (w ∷ ws) es = warnings-draws ws es
 
-warnings-features : (Q : Feature → List Point → Type 0) (ws : List Warning) (es : List Event) → EachFeature Q es → EachFeature Q (map warned ws ++ es)
-warnings-features Q [] es h = h
-warnings-features Q (w ∷ ws) es h = warnings-features Q ws es h
+warnings-features : (ws : List Warning) (es : List Event) → featuresIn (map warned ws ++ es) ≡ featuresIn es
+unfolding featuresIn
+warnings-features [] es = refl
+warnings-features (w ∷ ws) es = warnings-features ws es
+
+warnings-warnings : (ws : List Warning) (es : List Event) → warningsIn (map warned ws ++ es) ≡ ws ++ warningsIn es
+unfolding warningsIn
+warnings-warnings [] es = refl
+warnings-warnings (w ∷ ws) es = ap (λ (l : List Warning). w ∷ l) (warnings-warnings ws es)
+
+-- ---- none of the registration's warnings is 6
+abbrev NoSix : List Warning → Type 0
+NoSix ws = anyOfKind 6 ws ≡ false
+
+append-no-six : (a b : List Warning) → NoSix a → NoSix b → NoSix (a ++ b)
+append-no-six a b h k = any-append 6 a b ∙ rw (h, k)
+
+only-no-six : (b : Bool) (w : Warning) → eqb (w .kind) 6 ≡ false → NoSix (only b w)
+unfolding anyOfKind
+only-no-six true w h = rw h
+only-no-six false w h = refl
+
+event-no-six : (m : Maybe Point) (b : Bool) (lon lat : Float) (lost again : Warning) (es : List register.Event) → eqb (lost .kind) 6 ≡ false → eqb (again .kind) 6 ≡ false
+    → NoSix (register.warningsIn es) → NoSix (register.warningsIn (eventOf m b lon lat lost again ∷ es))
+unfolding eventOf register.warningsIn anyOfKind
+event-no-six none b lon lat lost again es h k n = rw h n
+event-no-six (some p) true lon lat lost again es h k n = rw k n
+event-no-six (some p) false lon lat lost again es h k n = n
+
+features-no-six : (sc : Scene) (i : ℕ) (fs : List NamedFeature) (es : List register.Event) → NoSix (register.warningsIn es) → NoSix (register.warningsIn (featureEvents sc i fs ++ es))
+unfolding featureEvents featureEvent
+features-no-six sc i [] es n = n
+features-no-six sc i (f ∷ fs) es n = event-no-six _ _ _ _ _ _ _ refl refl (features-no-six sc (suc i) fs es n)
+
+lon-no-six : (sc : Scene) (i : ℕ) (name : List ℕ) (lon : Float) (m : Maybe Float) (es : List register.Event) → NoSix (register.warningsIn es)
+    → NoSix (register.warningsIn (lonEvent sc i name lon m ∷ es))
+unfolding lonEvent register.warningsIn anyOfKind
+lon-no-six sc i name lon none es n = n
+lon-no-six sc i name lon (some lat) es n =
+    event-no-six (resolved sc name) (mentioned name (sc .features)) lon lat (record { kind = 2; index = i }) (record { kind = 3; index = i }) es refl refl n
+
+onto-no-six : (b : Bool) (e : register.Event) (es : List register.Event) → NoSix (register.warningsIn (e ∷ es)) → NoSix (register.warningsIn es) → NoSix (register.warningsIn (onto b e es))
+onto-no-six true e es h k = h
+onto-no-six false e es h k = k
+
+variables-no-six : (sc : Scene) (i : ℕ) (vs : List NamedValue) → NoSix (register.warningsIn (variableEvents sc i vs))
+unfolding variableEvents register.warningsIn anyOfKind
+variables-no-six sc i [] = refl
+variables-no-six sc i (v ∷ vs) =
+    let es = variableEvents sc (suc i) vs in
+    let e = lonEvent sc i (stem (v .name)) (v .value) (var sc (stem (v .name) ++ suffixLat)) in
+    let rest = variables-no-six sc (suc i) vs in
+    onto-no-six (isLon (v .name)) e es (lon-no-six sc i (stem (v .name)) (v .value) (var sc (stem (v .name) ++ suffixLat)) es rest) rest
+
+ignored-no-six : (n : ℕ) (sc : Scene) → NoSix (ignoredWith n sc)
+unfolding ignoredWith anyOfKind
+ignored-no-six zero sc = refl
+ignored-no-six (suc zero) sc = only-no-six (isSome (anchorOf sc)) (record { kind = 4; index = 0 }) refl
+ignored-no-six (suc (suc n)) sc =
+    append-no-six (ignored (anyDeclared sc)) (ignored (isSome (anchorOf sc))) (only-no-six (anyDeclared sc) (record { kind = 4; index = 0 }) refl) (only-no-six (isSome (anchorOf sc)) (record { kind = 4; index = 0 }) refl)
+
+view-no-six : (sc : Scene) → NoSix (viewWarnings sc)
+unfolding viewWarnings
+view-no-six sc = only-no-six (isSome (sc .viewScale) && not (pxMode sc)) (record { kind = 1; index = 0 }) refl
+
+half-no-six : (sc : Scene) → NoSix (halfWarnings sc)
+unfolding halfWarnings
+half-no-six sc = only-no-six (halfAnchor sc) (record { kind = 2; index = 0 }) refl
+
+events-no-six : (sc : Scene) → NoSix (register.warningsIn (events sc))
+unfolding events
+events-no-six sc = features-no-six sc 0 (sc .features) (variableEvents sc 0 (sc .variables)) (variables-no-six sc 0 (sc .variables))
+
+register-no-six : (sc : Scene) → NoSix (registerWarnings sc)
+unfolding registerWarnings
+register-no-six sc =
+    let last = ignoredWith (length (controlsOf sc)) sc in
+    append-no-six (viewWarnings sc) (register.warningsIn (events sc) ++ (halfWarnings sc ++ last)) (view-no-six sc)
+    (append-no-six (register.warningsIn (events sc)) (halfWarnings sc ++ last) (events-no-six sc)
+    (append-no-six (halfWarnings sc) last (half-no-six sc) (ignored-no-six (length (controlsOf sc)) sc)))
 
 module _ (s : List ℕ) where
   abbrev sc : Scene
@@ -61,33 +144,31 @@ module _ (s : List ℕ) where
   unfolding traceOf
   hit-is = trace-hit (convert-replays onScreen (ctxOf sc) (sc .items) fresh) ∙ ap fellShort (sym draws-are)
 
+  warning-is : anyOfKind 6 (warningsIn (traceOf sc .events)) ≡ traceOf sc .after .hit
+  unfolding traceOf
+  warning-is =
+      ap (anyOfKind 6) (warnings-warnings (registerWarnings sc) _)
+      ∙ any-append 6 (registerWarnings sc) _
+      ∙ rw (register-no-six sc) (spent-warned onScreen (ctxOf sc) (sc .items) fresh)
+
   module _ (t : Lent) (h : answerOf s t .number ≡ 0) where
-    pub is-number : numberOf s t ≡ 0
+    is-number : numberOf s t ≡ 0
     unfolding numberOf
     is-number = sym (number-is s t) ∙ h
 
-    -- none of the numbers below stands
-    pub is-read : refusalOf s ≡ 0
-    is-read = go (eqb (refusalOf s) 0) refl
-      where
-        go : (b : Bool) → eqb (refusalOf s) 0 ≡ b → refusalOf s ≡ 0
-        go true e = eqb-true (refusalOf s) 0 e
-        go false e = absurd (eqb-false (refusalOf s) 0 e (sym (early s t (eqb-false (refusalOf s) 0 e)) ∙ is-number))
+    is-early : firstOf (early s) ≡ 0
+    is-early = none-early s t is-number
 
-    pub is-registered : registerRefusal sc ≡ 0
-    is-registered = go (eqb (registerRefusal sc) 0) refl
-      where
-        go : (b : Bool) → eqb (registerRefusal sc) 0 ≡ b → registerRefusal sc ≡ 0
-        go true e = eqb-true (registerRefusal sc) 0 e
-        go false e =
-            absurd (eqb-false (registerRefusal sc) 0 e (sym (middle s t is-read (eqb-false (registerRefusal sc) 0 e)) ∙ is-number))
-
-    pub scene-sane : EachFeature Sane (traceOf sc .events)
+    -- ---- the events
+    pub scene-well-formed : AllWellFormed (featuresIn (traceOf sc .events))
     unfolding traceOf
-    scene-sane =
-        warnings-features Sane (registerWarnings sc) _
-        (convert-sane onScreen (registrationOf sc) maxStep (sc .flatten) (sc .items) fresh (accepted-sound s is-read is-registered) (accepted-tame s is-read .points .items))
+    scene-well-formed =
+        let read = early-none s is-early .0 in
+        let registered = early-none s is-early .1 in
+        rw (warnings-features (registerWarnings sc))
+        (convert-well-formed onScreen (registrationOf sc) maxStep (sc .flatten) (sc .items) fresh (accepted-sound s read registered) (accepted-tame s read .points .items))
 
+    -- ---- the answer
     answer-is : answerOf s t ≡ acceptance (registrationOf sc) (sheetOf sc t) (traceOf sc .after)
     unfolding answerOf
     answer-is = rw (eq-eqb (numberOf s t) 0 is-number)
@@ -97,3 +178,41 @@ module _ (s : List ℕ) where
 
     pub scene-spent : answerOf s t .spent ≡ cond (fellShort (drawsIn (traceOf sc .events))) 1 0
     scene-spent = rw (answer-is, hit-is)
+
+    -- ---- the slices
+    lent-is : lentAfter s t ≡ record { work = clear f0 (length (t .work)); positions = sheetOf sc t .positions; features = sheetOf sc t .features; warnings = sheetOf sc t .warnings }
+    unfolding lentAfter sliceBy
+    lent-is = rw (is-early, is-number)
+
+    sheet-number : sheetOf sc t .number ≡ 0
+    sheet-number = sym (by-space s t is-early) ∙ is-number
+
+    read-back : ReadBack (traceOf sc .events) (blank t) (sheetOf sc t)
+    unfolding sheetOf
+    read-back = reads-back (traceOf sc .events) (blank t) refl refl refl scene-well-formed sheet-number
+
+    pub scene-features : featuresAt (lentAfter s t .features) (lentAfter s t .positions) 0 0 (answerOf s t .features) ≡ featuresIn (traceOf sc .events)
+    scene-features = rw (lent-is, answer-is) (read-back .features)
+
+    pub formed-read : AllWellFormed (featuresAt (lentAfter s t .features) (lentAfter s t .positions) 0 0 (answerOf s t .features))
+    formed-read = rw scene-features scene-well-formed
+
+    pub scene-warnings : warningsAt (lentAfter s t .warnings) 0 (answerOf s t .warnings) ≡ warningsIn (traceOf sc .events)
+    scene-warnings = rw (lent-is, answer-is) (read-back .warnings)
+
+    pub scene-six : anyOfKind 6 (warningsAt (lentAfter s t .warnings) 0 (answerOf s t .warnings)) ≡ fellShort (drawsIn (traceOf sc .events))
+    scene-six = ap (anyOfKind 6) scene-warnings ∙ warning-is ∙ hit-is
+
+    -- ---- the counts, and what stands behind what is used
+    pub scene-counts : (answerOf s t .positions ≡ length (positionsIn (featuresIn (traceOf sc .events)))) × (answerOf s t .features ≡ length (featuresIn (traceOf sc .events)))
+        × (answerOf s t .warnings ≡ length (warningsIn (traceOf sc .events)))
+    scene-counts = rw answer-is (omega (arith, read-back .usedPositions), omega (arith, read-back .usedFeatures), omega (arith, read-back .usedWarnings))
+
+    pub scene-tails : (drop (2 * answerOf s t .positions) (lentAfter s t .positions) ≡ drop (2 * answerOf s t .positions) (t .positions))
+        × (drop (6 * answerOf s t .features) (lentAfter s t .features) ≡ drop (6 * answerOf s t .features) (t .features))
+        × (drop (2 * answerOf s t .warnings) (lentAfter s t .warnings) ≡ drop (2 * answerOf s t .warnings) (t .warnings))
+    scene-tails =
+        let p : 2 * (sheetOf sc t .usedPositions / 2) ≡ sheetOf sc t .usedPositions = omega (arith, read-back .usedPositions) in
+        let f : 6 * (sheetOf sc t .usedFeatures / 6) ≡ sheetOf sc t .usedFeatures = omega (arith, read-back .usedFeatures) in
+        let w : 2 * (sheetOf sc t .usedWarnings / 2) ≡ sheetOf sc t .usedWarnings = omega (arith, read-back .usedWarnings) in
+        rw (lent-is, answer-is, p, f, w) (read-back .tailPositions, read-back .tailFeatures, read-back .tailWarnings)
