@@ -10,7 +10,7 @@ same-requires-2 : tie.Need-same-requires-2
 same-requires-2 c κs = search needs
 
 returns : tie.Need-returns
-returns c e = rw (c .before .before .same .ensures (c .before .if1 .taken), c .same2 .ensures e)
+returns c e = rw (c .before .before .same .ensures .0 (c .before .if1 .taken), c .same2 .ensures .0 e)
 
 returns-2 : tie.Need-returns-2
 returns-2 c e = absurd (false≢true e)
