@@ -1,8 +1,9 @@
 // A line of canvas points carried to the Earth where it stands. Each pass does one stage for all points: within a point the stages wait for each other, between points they do not.
 // A value that went in just before, as the ordinate of a line that runs east, gives what it gave then.
 ghost use mathlib.Core.Path.{_≡_};
-ghost use mathlib.Core.Bool.{true};
+ghost use mathlib.Core.Bool.{true, false};
 ghost use Prim.Native.Nat.{_≤_};
+ghost use lib.Ieee.{isNan};
 ghost use lib.ListN.{length};
 ghost use Rattle.densify.specs.Contracts.Written.{pointWith, stretchedBy, stageOf, onY, inPlace};
 ghost use Rattle.densify.specs.Positions.{placedBy};
@@ -22,6 +23,7 @@ pub enum Stage {
 
 fn same_point(ax: f64, ay: f64, bx: f64, by: f64) -> bool
     ensures { λ r. ⌜ (r ≡ true → pointWith ax ay ≡ pointWith bx by) ⌝ }
+    ensures { λ r. ⌜ (isNan ax ≡ false → isNan ay ≡ false → pointWith ax ay ≡ pointWith bx by → r ≡ true) ⌝ }
 {
     if same(ax, bx) {
         return same(ay, by);

@@ -24,7 +24,7 @@ module _ {w w′ : List Float} {d : Done} {r : Drawing} where
 
   -- a line's scale is its registration's
   pub line-shown : (reg : Registration) {t : Projection} (step : Float) (ps : List Point) (b : Budget) → t ≡ projectionOf reg
-      → Written w w′ 0 (placing t (densifyPolylineOf step (t .scale) ps b)) d → Told d r
+      → Written w w′ 0 (placing t (densifyPolylineOf step (t .registration .scale) ps b)) d → Told d r
       → Shown w w′ (placing (projectionOf reg) (densifyPolylineOf step (reg .scale) ps b)) r
   unfolding projectionOf
   line-shown reg {t} step ps b e h f =

@@ -10,7 +10,7 @@ ghost use lib.Dec.{leb};
 ghost use Rattle.budget.specs.Budget.{takeOf};
 ghost use Rattle.densify.specs.Densify.{arcVerticesOf, segmentWant, pathPointsOf, densifyPolylineOf, ellipseRingOf, boxRingOf};
 ghost use Rattle.densify.specs.Contracts.Written.{drawnBy, pointsIn, placing};
-ghost use Rattle.densify_host.specs.Contracts.Drawings.{fresh, Shown, pathFits};
+ghost use Rattle.densify_host.specs.Contracts.Drawings.{fresh, Shown, pathFits, undrawn};
 use budget::Budget;
 use budget::draw;
 use densify::Done;
@@ -86,7 +86,7 @@ pub extern "C" fn densify_path(
     work: &mut [f64],
 ) -> Drawing
     ensures { λ r. ⌜ (pathFits (room (now (s .entry))) p ≡ true → Shown (now (work .entry)) (now (work .exit)) (pathPointsOf tol (drawnBy (payload (now (s .entry))) p) (fresh left)) r) ⌝ }
-    ensures { λ r. ⌜ (pathFits (room (now (s .entry))) p ≡ false → (now (work .exit) ≡ now (work .entry)) × (r .ok ≡ false)) ⌝ }
+    ensures { λ r. ⌜ (pathFits (room (now (s .entry))) p ≡ false → (now (work .exit) ≡ now (work .entry)) × (r ≡ undrawn left)) ⌝ }
 {
     if !is_path(s.len() / 512 * 508, p) {
         return Drawing {

@@ -1,11 +1,12 @@
 -- The functions' answers by their tests, over plain values. Assumes nothing.
 use mathlib.Core.Path.{_≡_, refl, sym, ap, _∙_, subst}
-use mathlib.Core.Bool.{Bool, true, false, not, _&&_, _||_}
+use mathlib.Core.Bool.{Bool, true, false, not, _&&_, _||_, false≢true}
 use Prim.Native.Nat.{ℕ, zero, suc, _+_, _*_, _^_, _≤_, _<_}
 use native.Mathlib.Nat.{one-mul, mul-pos, pow-suc, zero-lt-suc}
 use native.Mathlib.Omega.{arith}
+use borrow.Author.Tests.{not-false, eqb-true, eq-eqb}
 use lib.IntN.{ℤ, pos, negsuc}
-use lib.Dec.{T, eqb→eq}
+use lib.Dec.{T, eqb, eqb→eq}
 use lib.Pow.{pow-pos}
 use lib.Ieee.{Float, nan, inf, fin, binary64, unlike, up, down, round, sub, mul, lt, le, eq, ne, isNan, fits, ofBits, toBits}
 use lib.Ieee.Bits.{ofBits-toBits}
@@ -116,5 +117,17 @@ equal-numbers (fin s m e) nan h = absurd (yes false h)
 equal-numbers (fin s m e) (inf t) h = (tt, tt)
 equal-numbers (fin s m e) (fin t n d) h = (tt, tt)
 
-pub same-bits : (x y : Float) → fits binary64 x ≡ true → fits binary64 y ≡ true → toBits binary64 x ≡ toBits binary64 y → x ≡ y
+same-bits : (x y : Float) → fits binary64 x ≡ true → fits binary64 y ≡ true → toBits binary64 x ≡ toBits binary64 y → x ≡ y
 same-bits x y f g e = sym (ofBits-toBits binary64 x (yes _ f)) ∙ ap (ofBits binary64) e ∙ ofBits-toBits binary64 y (yes _ g)
+
+pub by-bits : (x y : Float) → fits binary64 x ≡ true → fits binary64 y ≡ true → {r : Bool} → r ≡ eqb (toBits binary64 x) (toBits binary64 y)
+    → (r ≡ true → x ≡ y) × (isNan x ≡ false → x ≡ y → r ≡ true)
+by-bits x y f g q = (λ t. same-bits x y f g (eqb-true _ _ (sym q ∙ t)), λ n e. q ∙ eq-eqb _ _ (ap (toBits binary64) e))
+
+-- a number compares equal to itself
+self-equal : (x : Float) → isNan x ≡ false → eq x x ≡ true
+unfolding ne
+self-equal x h = not-false (eq x x) (sym (nan-test x) ∙ h)
+
+pub unequal : (x y : Float) → eq x y ≡ false → {r : Bool} → r ≡ false → (r ≡ true → x ≡ y) × (isNan x ≡ false → x ≡ y → r ≡ true)
+unequal x y u q = (λ t. absurd (false≢true (sym q ∙ t)), λ n e. absurd (false≢true (sym u ∙ ap (eq x) (sym e) ∙ self-equal x n)))

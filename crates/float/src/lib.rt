@@ -1,7 +1,8 @@
 // What Rust's f64 has as methods, and a finite pattern taken apart.
 ghost use mathlib.Core.Path.{_≡_};
-ghost use mathlib.Core.Bool.{true};
+ghost use mathlib.Core.Bool.{true, false};
 ghost use Prim.Native.Nat.{ℕ, _+_, _*_, _<_, _≤_, _%_, _^_, _/_};
+ghost use lib.Ieee.{isNan};
 ghost use lib.Ieee.Scale.{finite};
 ghost use Rattle.float.specs.Functions.{absOf, maxOf, minOf, truncOf, ceilOf, roundOf, remEuclid360Of};
 ghost use Rattle.float.specs.Contracts.Split.{Split};
@@ -46,9 +47,9 @@ pub fn is_finite(x: f64) -> bool
     x * 0.0 == 0.0
 }
 
-// Whether both are known to be one value: 0.0 and -0.0 are two, and of a NaN nothing is known.
+// Whether both are one value: 0.0 and -0.0 are two, and a NaN is never one with another.
 pub fn same(a: f64, b: f64) -> bool
-    ensures { λ r. ⌜ (r ≡ true → a ≡ b) ⌝ }
+    ensures { λ r. ⌜ (r ≡ true → a ≡ b) × (isNan a ≡ false → a ≡ b → r ≡ true) ⌝ }
 {
     if a == b {
         return f64::to_bits(a) == f64::to_bits(b);

@@ -164,7 +164,7 @@ pub fn resolve(
     }
 }
 
-// A control point that may be.
+// A control point that may be. Where `some` is false, `control` is free.
 pub struct Candidate {
     pub some: bool,
     pub control: Control,

@@ -13,6 +13,7 @@ use crate::numbers::value_if;
 use records::find;
 use stream::byte;
 
+// Where `some` is false, `frame` is free.
 #[repr(C)]
 pub struct FrameChoice {
     pub some: bool,

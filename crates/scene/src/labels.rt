@@ -31,6 +31,7 @@ pub struct Key {
     pub order: usize,
 }
 
+// Where `some` is false the other fields are free.
 pub struct Best {
     pub some: bool,
     pub key: Key,

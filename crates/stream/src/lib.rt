@@ -6,7 +6,7 @@ ghost use lib.ListN.{length, getD};
 ghost use Rattle.stream.specs.Numbers.{u16At, u32At, u64At, floatAt};
 ghost use Rattle.stream.specs.Blocks.{checked};
 ghost use Rattle.stream.specs.Contracts.Blocks.{Judged};
-ghost use Rattle.stream.specs.Contracts.Payload.{room, placeOf, rest, partFrom, Straight};
+ghost use Rattle.stream.specs.Contracts.Payload.{room, placeOf, rest, partFrom, oneBlock, Straight};
 
 mod numbers;
 
@@ -27,7 +27,7 @@ pub enum Blocks {
     Check,
 }
 
-// Whether bytes stand side by side in a part, and where the first of them does.
+// Whether bytes stand side by side in a part, and where the first of them stands, be it so or not.
 pub struct Run {
     pub some: bool,
     pub at: usize,
@@ -110,9 +110,10 @@ pub fn byte(part: &[u8], off: usize, i: usize) -> u8
     part[place(off + i)]
 }
 
-// Whether no check stands between the n bytes from i on.
+// Where the byte i stands, and whether the n bytes from it on lie in one block, with no check between them.
 pub fn run_at(part: &[u8], off: usize, i: usize, n: usize) -> Run
     requires { ⌜ (off ≤ room (now part)) × (i + n ≤ length (rest (now part) off)) ⌝ }
+    ensures { λ r. ⌜ (r .at ≡ placeOf (off + i)) × (r .some ≡ oneBlock off i n) ⌝ }
     ensures { λ r. ⌜ (r .some ≡ true → Straight (now (part .entry)) off i n (r .at)) ⌝ }
 {
     let at = place(off + i);

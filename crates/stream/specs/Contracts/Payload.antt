@@ -1,7 +1,9 @@
 -- A part of a stream that starts at a block, as the readers see it.
 use mathlib.Core.Path.{_≡_}
 use Prim.Native.Nat.{ℕ, _+_, _*_, _/_, _%_, _≤_, _<_}
+use mathlib.Core.Bool.{Bool}
 use mathlib.Core.List.{List}
+use lib.Dec.{leb}
 use lib.ListN.{length, getD, drop}
 use Rattle.stream.specs.Payload.{payload}
 
@@ -20,6 +22,10 @@ rest s off = drop off (payload s)
 -- the part that starts at the block of byte p of the payload; in it, p is at p % 508
 abbrev pub partFrom : List ℕ → ℕ → List ℕ
 partFrom s p = drop (512 * (p / 508)) s
+
+-- whether n bytes of the rest, from i on, lie in one block
+abbrev pub oneBlock : ℕ → ℕ → ℕ → Bool
+oneBlock off i n = leb ((off + i) % 508 + n) 508
 
 -- n bytes of the rest, from i on, stand side by side in the part, from `at` on
 pub record Straight (s : List ℕ) (off i n at : ℕ) : Type 0 where

@@ -75,7 +75,7 @@ loop-less c = omega arith
 made-is : (c : tie.Joined2 Inv-loop μ-loop) → let s = c .before .before .before .before .before .before .before .before .before .args in c .if2 .made ≡ stageOf (s .k) (getD (c .before .before .before .before .loop .out) (c .before .before .before .before .loop .i + 1) nan)
 made-is c =
     ⊎-elim (λ k. k .2 ∙ k .1 .ensures)
-    (λ k. k .1 ∙ c .before .before .before .before .loop .inv .1 ∙ ap (stageOf _) (sym (c .before .same .ensures (not-false _ (k .0 .left)))))
+    (λ k. k .1 ∙ c .before .before .before .before .loop .inv .1 ∙ ap (stageOf _) (sym (c .before .same .ensures .0 (not-false _ (k .0 .left)))))
     (c .if2 .came)
 
 loop-again : tie.Need-loop-again Inv-loop μ-loop

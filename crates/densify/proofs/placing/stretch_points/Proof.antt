@@ -96,7 +96,7 @@ loop-less c = omega arith
 made-is : (c : tie.Joined2 Inv-loop μ-loop) → let l = c .before .before .before .before .before .loop in c .if2 .g ≡ stretchedOf (c .before .before .before .before .before .before .before .before .before .before .before .args .t) (getD (l .out) (l .i) nan) (getD (l .out) (l .i + 1) nan)
 made-is c =
     ⊎-elim (λ k. k .2 ∙ k .1 .ensures)
-    (λ k. k .1 ∙ c .before .before .before .before .before .loop .inv .1 ∙ ap (λ (p : Point). stretchedOf (c .before .before .before .before .before .before .before .before .before .before .before .args .t) (p .x) (p .y)) (sym (c .before .same-point .ensures (not-false _ (k .0 .left)))))
+    (λ k. k .1 ∙ c .before .before .before .before .before .loop .inv .1 ∙ ap (λ (p : Point). stretchedOf (c .before .before .before .before .before .before .before .before .before .before .before .args .t) (p .x) (p .y)) (sym (c .before .same-point .ensures .0 (not-false _ (k .0 .left)))))
     (c .if2 .came)
 
 loop-again : tie.Need-loop-again Inv-loop μ-loop

@@ -9,11 +9,11 @@ run-at-requires : tie.Need-run-at-requires
 run-at-requires c κs = search needs
 
 run-plain-requires : tie.Need-run-plain-requires
-run-plain-requires c κs = c .before .run-at .ensures (c .if1 .taken) .fits
+run-plain-requires c κs = c .before .run-at .ensures .1 (c .if1 .taken) .fits
 
 returns : tie.Need-returns
 returns c =
-    let so = c .before .before .run-at .ensures (c .before .if1 .taken) in
+    let so = c .before .before .run-at .ensures .1 (c .before .if1 .taken) in
     c .run-plain .ensures ∙ allTo-same _ _ _ (λ k h. ap plain (so .same k h))
 
 apart-plain-requires : tie.Need-apart-plain-requires

@@ -11,10 +11,10 @@ run-at-requires : tie.Need-run-at-requires
 run-at-requires c κs = (omega arith, omega (arith, rest-length (c .before .args .s .now) 0))
 
 run-slot-requires : tie.Need-run-slot-requires
-run-slot-requires c κs = c .before .run-at .ensures (c .if1 .taken) .fits
+run-slot-requires c κs = c .before .run-at .ensures .1 (c .if1 .taken) .fits
 
 returns : tie.Need-returns
-returns c = c .run-slot .ensures ∙ ap slotOf (straight-part (c .before .before .before .before .pre) (c .before .before .run-at .ensures (c .before .if1 .taken)))
+returns c = c .run-slot .ensures ∙ ap slotOf (straight-part (c .before .before .before .before .pre) (c .before .before .run-at .ensures .1 (c .before .if1 .taken)))
 
 apart-slot-requires : tie.Need-apart-slot-requires
 apart-slot-requires c κs = search needs
