@@ -28,5 +28,5 @@ module _ {w w′ : List Float} {d : Done} {r : Drawing} where
       → Shown w w′ (placing (projectionOf reg) (densifyPolylineOf step (reg .scale) ps b)) r
   unfolding projectionOf
   line-shown reg {t} step ps b e h f =
-      let scale : t .scale ≡ reg .scale = ap (λ (p : Projection). p .scale) e in
+      let scale : t .registration .scale ≡ reg .scale = ap (λ (p : Projection). p .registration .scale) e in
       shown (rw (← e, ← scale) h) f
