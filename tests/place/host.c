@@ -117,6 +117,13 @@ static int all(const void *p, size_t from, size_t to, uint8_t byte)
     return 1;
 }
 
+/* Whether something that lacks room refused, and not a condition that is checked before the slices are looked at. */
+static int lacks_room(uint32_t number)
+{
+    return number == GEOPIC_WORK_ROOM || number == GEOPIC_POSITION_ROOM || number == GEOPIC_FEATURE_ROOM ||
+           number == GEOPIC_WARNING_ROOM;
+}
+
 /* What each slice holds besides the used part. */
 static void check(const Case *c, const Call *k)
 {
@@ -132,7 +139,7 @@ static void check(const Case *c, const Call *k)
         if (a->method || a->controls || a->spent || a->positions || a->features || a->warnings || a->left) {
             stop(c, "a refusal with more than its number");
         }
-        if (a->number <= 14) {
+        if (!lacks_room(a->number)) {
             work = rest = PATTERN;
         }
     }

@@ -16,7 +16,7 @@ flats (p ∷ ps) = p .x ∷ p .y ∷ flats ps
 abbrev pub pointOf : List Float → ℕ → Point
 pointOf w i = record { x = getD w i nan; y = getD w (i + 1) nan }
 
--- n points from i on, and all that stand from `from` to `to`
+-- n points from i on
 unfoldable pub pointsOf : List Float → ℕ → ℕ → List Point
 pointsOf w i zero = []
 pointsOf w i (suc n) = pointOf w i ∷ pointsOf w (i + 2) n

@@ -19,11 +19,11 @@ use Rattle.geojson.specs.Lines.{putWords, wordsOf}
 use Rattle.geojson.specs.Laws.Words.{putWords-length, sets-put}
 use Rattle.convert.specs.Convert.{Event, drew, need, feature, warned}
 use Rattle.convert.specs.Space.{Sheet, pickSheet, lacking, withFeature, withWarning, played, playAll}
-use Rattle.convert.specs.Features.{Lined, AllWellFormed, positionsIn, featuresIn, warningsIn, lineAt, featuresAt, warningsAt}
+use Rattle.convert.specs.Features.{PlacedFeature, AllWellFormed, positionsIn, featuresIn, warningsIn, lineAt, featuresAt, warningsAt}
 use Rattle.convert.specs.Laws.Playing.{stuck}
 
 -- ---- what the slices hold of features and warnings
-unfoldable pub wordsIn : List Lined → List ℕ
+unfoldable pub wordsIn : List PlacedFeature → List ℕ
 wordsIn [] = []
 wordsIn (l ∷ ls) = wordsOf (l .0) ++ wordsIn ls
 
@@ -31,7 +31,7 @@ unfoldable pub pairsIn : List Warning → List ℕ
 pairsIn [] = []
 pairsIn (w ∷ ws) = w .kind ∷ w .index ∷ pairsIn ws
 
-words-length : (ls : List Lined) → length (wordsIn ls) ≡ 6 * length ls
+words-length : (ls : List PlacedFeature) → length (wordsIn ls) ≡ 6 * length ls
 unfolding wordsIn
 words-length [] = refl
 words-length (l ∷ ls) = omega (arith, words-length ls)
@@ -66,7 +66,7 @@ pub record Room (t : Sheet) : Type 0 where
   pub warnings : t .usedWarnings ≤ length (t .warnings)
 
 -- u is t with these features and warnings behind what was used
-pub record Added (ls : List Lined) (ws : List Warning) (t u : Sheet) : Type 0 where
+pub record Added (ls : List PlacedFeature) (ws : List Warning) (t u : Sheet) : Type 0 where
   pub positions : u .positions ≡ put (t .positions) (t .usedPositions) (flats (positionsIn ls))
   pub features : u .features ≡ putWords (t .features) (t .usedFeatures) (wordsIn ls)
   pub warnings : u .warnings ≡ putWords (t .warnings) (t .usedWarnings) (pairsIn ws)
@@ -103,7 +103,7 @@ module _ (f : Feature) (ps : List Point) (t : Sheet) (here : t .usedPositions + 
   feature-room : Room t → Room (withFeature f ps t)
   feature-room r = record { positions = rw placed-length here; features = rw lined-length line; warnings = r .warnings }
 
-  added-feature : (ls : List Lined) (ws : List Warning) (u : Sheet) → Added ls ws (withFeature f ps t) u → Added ((f, ps) ∷ ls) ws t u
+  added-feature : (ls : List PlacedFeature) (ws : List Warning) (u : Sheet) → Added ls ws (withFeature f ps t) u → Added ((f, ps) ∷ ls) ws t u
   unfolding positionsIn wordsIn
   added-feature ls ws u a =
       let room : u .usedFeatures ≤ length (t .features) = rw lined-length at (a .roomFeatures) in
@@ -126,7 +126,7 @@ module _ (w : Warning) (t : Sheet) (here : t .usedWarnings + 2 ≤ length (t .wa
   warning-room : Room t → Room (withWarning w t)
   warning-room r = record { positions = r .positions; features = r .features; warnings = rw paired-length here }
 
-  added-warning : (ls : List Lined) (ws : List Warning) (u : Sheet) → Added ls ws (withWarning w t) u → Added ls (w ∷ ws) t u
+  added-warning : (ls : List PlacedFeature) (ws : List Warning) (u : Sheet) → Added ls ws (withWarning w t) u → Added ls (w ∷ ws) t u
   unfolding pairsIn
   added-warning ls ws u a =
       let room : u .usedWarnings ≤ length (t .warnings) = rw paired-length at (a .roomWarnings) in
@@ -206,11 +206,11 @@ points-read (p ∷ ps) b s =
     let rest = simp (append-assoc, length-append) at (points-read ps (b ++ (p .x ∷ p .y ∷ [])) s) in
     simp (getD-append-seam, getD-append-add, rest)
 
-abbrev pub AllCounted : List Lined → Type 0
+abbrev pub AllCounted : List PlacedFeature → Type 0
 AllCounted [] = Unit {0}
 AllCounted (l ∷ ls) = (l .0 .count ≡ length (l .1)) × AllCounted ls
 
-pub well-counted : (ls : List Lined) → AllWellFormed ls → AllCounted ls
+pub well-counted : (ls : List PlacedFeature) → AllWellFormed ls → AllCounted ls
 well-counted [] h = tt
 well-counted (l ∷ ls) h = (h .0 .counted, well-counted ls (h .1))
 
@@ -218,12 +218,12 @@ line-read : (f : Feature) (a r : List ℕ) → lineAt (a ++ (wordsOf f ++ r)) (l
 line-read f a r = simp (getD-append-seam, getD-append-add)
 
 -- a first feature, then the rest
-next-read : (w : List ℕ) (q : List Float) (i p n c : ℕ) (f : Feature) (ps : List Point) (ls : List Lined) → lineAt w i ≡ f → f .count ≡ c
+next-read : (w : List ℕ) (q : List Float) (i p n c : ℕ) (f : Feature) (ps : List Point) (ls : List PlacedFeature) → lineAt w i ≡ f → f .count ≡ c
     → pointsOf q p c ≡ ps → featuresAt w q (i + 6) (p + 2 * c) n ≡ ls → featuresAt w q i p (suc n) ≡ (f, ps) ∷ ls
 unfolding featuresAt
 next-read w q i p n c f ps ls e k g h = rw (← h, ← g, ← k, ← e)
 
-features-read : (ls : List Lined) (a r : List ℕ) (b s : List Float) → AllCounted ls
+features-read : (ls : List PlacedFeature) (a r : List ℕ) (b s : List Float) → AllCounted ls
     → featuresAt (a ++ (wordsIn ls ++ r)) (b ++ (flats (positionsIn ls) ++ s)) (length a) (length b) (length ls) ≡ ls
 unfolding featuresAt wordsIn positionsIn flats
 features-read [] a r b s h = refl
@@ -266,7 +266,7 @@ module _ (es : List Event) (t : Sheet) (positions : t .usedPositions ≡ 0) (fea
   abbrev u : Sheet
   u = playAll es t
 
-  abbrev ls : List Lined
+  abbrev ls : List PlacedFeature
   ls = featuresIn es
 
   all : Added ls (warningsIn es) t u

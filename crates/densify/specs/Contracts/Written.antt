@@ -28,6 +28,7 @@ blockIn b = record { p0 = pointIn (getD b 0 []); c1 = pointIn (getD b 1 []); c2 
 abbrev pub pointWith : Float → Float → Point
 pointWith x y = record { x = x; y = y }
 
+-- all that stand from `from` to `to`
 unfoldable pub pointsIn : List Float → ℕ → ℕ → List Point
 pointsIn w from to = pointsOf w from ((to - from) / 2)
 

@@ -10,7 +10,6 @@ use lib.Ieee.{size}
 use lib.Ieee.Digits.{size-lt}
 use Rattle.root.specs.Root.{rootDigits, isqrt}
 
--- ---- whole roots
 -- r is the whole root of n: the largest number whose square is at most n
 pub record IsRoot (n r : ℕ) : Type 0 where
   pub least : r * r ≤ n

@@ -6,7 +6,6 @@ use Rattle.geodesy.specs.Contracts.Stages.{longitudeOf, stretchOf, northOf}
 use Rattle.similarity.specs.declared.projection.Projection.{Projection}
 use Rattle.similarity.specs.Projection.{round9Of, geoBy}
 
--- ---- `geoBy` in stages: the longitude that is given out with the exponential of the ordinate, and the latitude of its arc tangent
 -- the point's position on the plane
 unfoldable pub planeOf : Projection → Float → Float → Metres
 planeOf p x y =
