@@ -42,6 +42,9 @@ pub record Lent : Type 0 where
   pub features : List ℕ
   pub warnings : List ℕ
 
+abbrev pub lentBy : List Float → List Float → List ℕ → List ℕ → Lent
+lentBy work positions features warnings = record { work = work; positions = positions; features = features; warnings = warnings }
+
 abbrev pub blank : Lent → Sheet
 blank t =
     record {

@@ -8,7 +8,7 @@ ghost use Rattle.stream.specs.Payload.{payload};
 ghost use Rattle.scene.specs.Scene.{sceneOf};
 ghost use Rattle.register.specs.Register.{f0};
 ghost use Rattle.convert.specs.Contracts.Space.{sheetBy, Played};
-ghost use Rattle.geopic.specs.Geopic.{traceOf, Lent, blank, refusal, acceptance, clear, answerOf, lentAfter};
+ghost use Rattle.geopic.specs.Geopic.{traceOf, lentBy, blank, refusal, acceptance, clear, answerOf, lentAfter};
 ghost use Rattle.geopic.specs.Contracts.Opened.{Opens, Registers};
 use budget::Budget;
 use convert::Ctx;
@@ -114,7 +114,10 @@ fn draw(
     warnings: &mut [u32],
 ) -> State
     requires { ⌜ Registers (now s) v r ⌝ }
-    ensures { λ st. ⌜ Played (traceOf (sceneOf (payload (now (s .entry))))) (blank (record { work = now (work .entry); positions = now (positions .entry); features = now (features .entry); warnings = now (warnings .entry) })) (sheetBy (length (now (work .exit))) (now (positions .exit)) (now (features .exit)) (now (warnings .exit)) st) (st .budget) ⌝ }
+    ensures { λ st. ⌜ Played (traceOf (sceneOf (payload (now (s .entry)))))
+        (blank (lentBy (now (work .entry)) (now (positions .entry)) (now (features .entry)) (now (warnings .entry))))
+        (sheetBy (length (now (work .exit))) (now (positions .exit)) (now (features .exit)) (now (warnings .exit)) st)
+        (st .budget) ⌝ }
 {
     let w = write_warnings(s, v, warnings, r.controls);
     let fresh = Budget {
@@ -171,8 +174,12 @@ fn fill(
     warnings: &mut [u32],
 ) -> Answer
     requires { ⌜ Registers (now s) v r ⌝ }
-    ensures { λ a. ⌜ a ≡ answerOf (now (s .entry)) (record { work = now (work .entry); positions = now (positions .entry); features = now (features .entry); warnings = now (warnings .entry) }) ⌝ }
-    ensures { λ a. ⌜ record { work = now (work .exit); positions = now (positions .exit); features = now (features .exit); warnings = now (warnings .exit) } ≡ lentAfter (now (s .entry)) (record { work = now (work .entry); positions = now (positions .entry); features = now (features .entry); warnings = now (warnings .entry) }) ⌝ }
+    ensures { λ a. ⌜ a
+        ≡ answerOf (now (s .entry))
+        (lentBy (now (work .entry)) (now (positions .entry)) (now (features .entry)) (now (warnings .entry))) ⌝ }
+    ensures { λ a. ⌜ lentBy (now (work .exit)) (now (positions .exit)) (now (features .exit)) (now (warnings .exit))
+        ≡ lentAfter (now (s .entry))
+        (lentBy (now (work .entry)) (now (positions .entry)) (now (features .entry)) (now (warnings .entry))) ⌝ }
 {
     let st = draw(s, v, r, work, positions, features, warnings);
     clear_floats(work);
@@ -194,8 +201,12 @@ pub extern "C" fn geopic_place(
     features: &mut [u32],
     warnings: &mut [u32],
 ) -> Answer
-    ensures { λ r. ⌜ r ≡ answerOf (now (s .entry)) (record { work = now (work .entry); positions = now (positions .entry); features = now (features .entry); warnings = now (warnings .entry) }) ⌝ }
-    ensures { λ r. ⌜ record { work = now (work .exit); positions = now (positions .exit); features = now (features .exit); warnings = now (warnings .exit) } ≡ lentAfter (now (s .entry)) (record { work = now (work .entry); positions = now (positions .entry); features = now (features .entry); warnings = now (warnings .entry) }) ⌝ }
+    ensures { λ r. ⌜ r
+        ≡ answerOf (now (s .entry))
+        (lentBy (now (work .entry)) (now (positions .entry)) (now (features .entry)) (now (warnings .entry))) ⌝ }
+    ensures { λ r. ⌜ lentBy (now (work .exit)) (now (positions .exit)) (now (features .exit)) (now (warnings .exit))
+        ≡ lentAfter (now (s .entry))
+        (lentBy (now (work .entry)) (now (positions .entry)) (now (features .entry)) (now (warnings .entry))) ⌝ }
 {
     match open_stream(s) {
         Opened::Refused(number) => refuse(number),
