@@ -11,6 +11,7 @@ use Rattle.root.specs.Root.{rootDigits, isqrt, scaled, rootAt, rootOf}
 use Rattle.elementary.specs.Constants as K
 use Rattle.elementary.specs.Functions.{hypotOf}
 use Rattle.geodesy.specs.Geodesy.{normalizeLonOf}
+use Rattle.stream.specs.Conditions as conditions
 use Rattle.stream.specs.Numbers.{u16At, u32At, u64At, floatOf, floatAt}
 use Rattle.records.specs.Records.{plain, allTo, named, labelled, namedThen, counted, allZero, choiceWidth, choiceFits, valuesWidth, itemBegins, itemFits}
 use Rattle.records.specs.Records.{endOf, rescaleOf, choiceOf, featureOf, variableOf, placeOf, itemOf, pointsOf, pathWith, cubicsOf, polylineOf, pathOf, byTag, recordOf, part}
@@ -22,11 +23,11 @@ use Rattle.scene.specs.Scene as scene
 use Rattle.scene.specs.Scene.{Maybe, none, some, Point, sceneOf, valueOf, numberAt, bit, pointAt, pointsAt, cubicAt, cubicsAt, featureAt, variableAt, placeAt, formAt, pathAt, itemAt}
 use Rattle.scene.specs.Labels as labels
 use Rattle.scene.specs.Labels.{same, sumOf, meanOf, meanPoint, startOf, firstStart, meanOrStart, referencePoint, greater, consider, carries, bestPlace, bestItem, pointOfLabel}
-use Rattle.register.specs.Register.{isMercator, notZero, pxMode, mentioned, eventOf, featureEvent, featureEvents, isLon, lonEvent, variableEvents, events, controlsIn, controlsOf, bothOf, anchorOf, halfAnchor, placed, allPlaced, anchorPlaced, scaleValue, above0, effectiveScale, registrationBy, registrationOf}
+use Rattle.register.specs.Register.{isMercator, notZero, pxMode, mentioned, eventOf, featureEvent, featureEvents, isLon, lonEvent, variableEvents, events, controlsIn, controlsOf, bothOf, anchorOf, halfAnchor, placed, allPlaced, anchorPlaced, scaleValue, above0, effectiveScale, registrationBy, registrationOf, ofRegistration}
 use Rattle.register.specs.Contracts.Outcome.{registerRefusal}
 use Rattle.budget.specs.declared.Budget.{Budget}
 use Rattle.budget.specs.Budget.{grantOf, takeOf}
-use Rattle.densify.specs.Densify.{clamped, partsOf, samePoint, closeRingOf, sharpCorners, boxRingOf, leafOf, alongOf, samplesTo, segmentWant, segmentOf, segmentsOf, densifyPolylineOf}
+use Rattle.densify.specs.Densify.{clamped, partsOf, samePoint, closeRingOf, sharpCorners, boxRingOf, leafOf, distOf, flatOf, midOf, firstOf, secondOf, splitOf, flattenCubicOf, alongOf, samplesTo, segmentWant, segmentOf, segmentsOf, densifyPolylineOf}
 
 -- ---- the kinds of row; a float is its pattern
 pub data Row : Type 0 where
@@ -89,7 +90,7 @@ holds (sharp w h n) =
     eqb (length (densifyPolylineOf c100 K.one (ring .points) (ring .after) .points)) n
 holds (refused l n) = eqb (registerRefusal (sceneOf (l ++ 0 ∷ []))) n
 holds (piece left points short) =
-    let m = leafOf false origin (from left) in
+    let m = flattenCubicOf c0001 (record { p0 = origin; c1 = record { x = K.zero; y = K.two }; c2 = record { x = K.two; y = K.two }; p3 = record { x = K.two; y = K.zero } }) (from left) in
     eqb (length (m .points)) points && alike (m .after .hit) short
 
 abbrev pub allHold : List Row → Bool
@@ -170,5 +171,5 @@ table =
     ∷ []
 
 pub rows : allHold table ≡ true
-unfolding takeOf grantOf partsOf clamped closeRingOf samePoint sharpCorners boxRingOf leafOf densifyPolylineOf segmentsOf segmentOf segmentWant samplesTo alongOf hypotOf rootOf rootAt scaled isqrt rootDigits normalizeLonOf remEuclid360Of maxOf minOf ceilOf roundOf registerRefusal registrationOf registrationBy effectiveScale above0 scaleValue anchorPlaced allPlaced placed halfAnchor anchorOf bothOf controlsOf controlsIn events variableEvents lonEvent isLon featureEvents featureEvent eventOf mentioned pxMode notZero isMercator labels.variableOf same sumOf meanOf meanPoint startOf firstStart meanOrStart referencePoint greater consider carries bestPlace bestItem pointOfLabel sceneOf valueOf numberAt bit pointAt pointsAt cubicAt cubicsAt featureAt variableAt placeAt formAt pathAt itemAt scene.itemWith flattenIn part past turnOf recordsOf entries recordOf byTag endOf rescaleOf choiceOf featureOf variableOf placeOf itemOf pointsOf pathOf pathWith cubicsOf polylineOf records.itemWith itemFits itemBegins valuesWidth choiceFits choiceWidth namedThen counted labelled named plain allTo allZero floatAt floatOf u16At u32At u64At absOf ofBits toBits ofInt toUnsigned neg add sub mul div rem lt eq le ne isNan sum round units odd size climb span
+unfolding takeOf grantOf partsOf clamped closeRingOf samePoint sharpCorners boxRingOf leafOf distOf flatOf midOf firstOf secondOf splitOf flattenCubicOf densifyPolylineOf segmentsOf segmentOf segmentWant samplesTo alongOf hypotOf rootOf rootAt scaled isqrt rootDigits normalizeLonOf remEuclid360Of maxOf minOf ceilOf roundOf ofRegistration conditions.firstOf registrationOf registrationBy effectiveScale above0 scaleValue anchorPlaced allPlaced placed halfAnchor anchorOf bothOf controlsOf controlsIn events variableEvents lonEvent isLon featureEvents featureEvent eventOf mentioned pxMode notZero isMercator labels.variableOf same sumOf meanOf meanPoint startOf firstStart meanOrStart referencePoint greater consider carries bestPlace bestItem pointOfLabel sceneOf valueOf numberAt bit pointAt pointsAt cubicAt cubicsAt featureAt variableAt placeAt formAt pathAt itemAt scene.itemWith flattenIn part past turnOf recordsOf entries recordOf byTag endOf rescaleOf choiceOf featureOf variableOf placeOf itemOf pointsOf pathOf pathWith cubicsOf polylineOf records.itemWith itemFits itemBegins valuesWidth choiceFits choiceWidth namedThen counted labelled named plain allTo allZero floatAt floatOf u16At u32At u64At absOf ofBits toBits ofInt toUnsigned neg add sub mul div rem lt eq le ne isNan sum round units odd size climb span
 rows = refl
