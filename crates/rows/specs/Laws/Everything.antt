@@ -1,27 +1,13 @@
--- What the theorems here compute with: to unfold `everything` is to unfold all that its line names, the definitions of a whole call down to the operations on floats.
-use lib.Ieee.{ofBits, toBits, ofInt, toUnsigned, neg, add, sub, mul, div, rem, lt, eq, le, ne, isNan, sum, round, units, odd, size, climb, span}
-use Rattle.float.specs.Functions as floatFunctions
-use Rattle.float.specs.Horner as horner
-use Rattle.root.specs.Root as roots
-use Rattle.elementary.specs.Functions as elementaryFunctions
-use Rattle.elementary.specs.Series as series
-use Rattle.geodesy.specs.Geodesy as geodesy
-use Rattle.similarity.specs.Fit as fit
+-- What a whole call is computed with, from its blocks to its floats: to unfold `everything` is to unfold all that its line names.
+use Rattle.register.specs.Laws.Everything as registration
 use Rattle.similarity.specs.Projection as projection
-use Rattle.stream.specs.Numbers as numbers
-use Rattle.stream.specs.Conditions as conditions
 use Rattle.stream.specs.Blocks as blocks
 use Rattle.stream.specs.Payload as payload
-use Rattle.records.specs.Records as records
 use Rattle.records.specs.Walk as walk
-use Rattle.records.specs.Search as search
 use Rattle.records.specs.Layout as layout
 use Rattle.records.specs.Limits as limits
 use Rattle.records.specs.Values as values
 use Rattle.records.specs.Conditions as refusals
-use Rattle.scene.specs.Scene as scene
-use Rattle.scene.specs.Labels as labels
-use Rattle.register.specs.Register as register
 use Rattle.budget.specs.Budget as budget
 use Rattle.densify.specs.Densify as densify
 use Rattle.densify.specs.Positions as positions
@@ -31,5 +17,5 @@ use Rattle.convert.specs.Space as space
 use Rattle.geopic.specs.Geopic as geopic
 
 unfoldable pub everything : Type 0
-unfolding floatFunctions.absOf floatFunctions.maxOf floatFunctions.minOf floatFunctions.truncOf floatFunctions.ceilOf floatFunctions.roundOf floatFunctions.remEuclid360Of horner.horner roots.rootDigits roots.isqrt roots.scaled roots.rootAt roots.rootOf elementaryFunctions.heldOf elementaryFunctions.toRadiansOf elementaryFunctions.toDegreesOf elementaryFunctions.hypotOf elementaryFunctions.turnOf elementaryFunctions.quadrantOf elementaryFunctions.restOf elementaryFunctions.sineAt elementaryFunctions.cosineAt elementaryFunctions.sinOf elementaryFunctions.cosOf elementaryFunctions.tanOf elementaryFunctions.lnAt elementaryFunctions.lnOf elementaryFunctions.twoTo elementaryFunctions.expAt elementaryFunctions.expOf elementaryFunctions.halvedOf elementaryFunctions.atanAt elementaryFunctions.atanUp elementaryFunctions.atanOf elementaryFunctions.angleOf elementaryFunctions.sidedOf elementaryFunctions.atan2Of elementaryFunctions.acosOf series.seriesOf series.evenOf series.oddOf series.factorial series.quotient series.terms series.sineTable series.cosineTable series.logarithmTable series.exponentialTable series.arctangentTable geodesy.normalizeLonOf geodesy.mercatorForwardOf geodesy.mercatorInverseOf fit.markOf fit.added fit.sumsOf fit.dividedBy fit.meansOf fit.momented fit.momentsOf fit.fitAt fit.solvedOf fit.roundOf fit.again fit.fitMarks fit.fitOf projection.planeOffsetOf projection.toLonLatOf projection.projectionOf projection.projectOf projection.round9Of projection.geoOf projection.geoBy numbers.u16At numbers.u32At numbers.u64At numbers.floatOf numbers.floatAt blocks.sized blocks.wordSum blocks.checked blocks.allChecked blocks.ofBlocks conditions.firstOf payload.payloads payload.payload records.plain records.allTo records.named records.labelled records.namedThen records.counted records.allZero records.endOf records.rescaleOf records.choiceWidth records.choiceFits records.choiceOf records.featureOf records.variableOf records.placeOf records.valuesWidth records.itemBegins records.itemFits records.itemWith records.itemOf records.pointsOf records.pathWith records.cubicsOf records.polylineOf records.pathOf records.byTag records.recordOf walk.entries walk.ends records.part search.past search.turnOf search.recordsOf layout.before layout.stepOf layout.inOrder layout.laidOutFrom layout.laidOut limits.number limits.near limits.choiceFloats limits.limitedAt limits.allLimited limits.limited values.flattenIn values.rescaleIn values.notAbove refusals.ofValues refusals.ofRecords refusals.ofStream scene.valueOf scene.numberAt scene.bit scene.pointAt scene.pointsAt scene.cubicAt scene.cubicsAt scene.featureAt scene.variableAt scene.placeAt scene.formAt scene.pathAt scene.itemWith scene.itemAt scene.sceneOf labels.same labels.variableOf labels.sumOf labels.meanOf labels.meanPoint labels.startOf labels.firstStart labels.meanOrStart labels.referencePoint labels.greater labels.consider labels.bestPlace labels.carries labels.bestItem labels.pointOfLabel register.isMercator register.notZero register.pxMode register.mentioned register.eventOf register.featureEvent register.featureEvents register.isLon register.lonEvent register.variableEvents register.events register.controlsIn register.warningsIn register.controlsOf register.bothOf register.anchorOf register.halfAnchor register.placed register.allPlaced register.anchorPlaced register.scaleValue register.above0 register.effectiveScale register.registrationBy register.registrationOf register.ofRegistration register.anyDeclared register.ignoredWith register.viewWarnings register.halfWarnings register.registerWarnings budget.grantOf budget.takeOf densify.clamped densify.distOf densify.flatOf densify.midOf densify.firstOf densify.secondOf densify.leafOf densify.splitOf densify.flattenCubicOf densify.cubicsOf densify.formPoints densify.samePoint densify.closeRingOf densify.pathPointsOf densify.partsOf densify.alongOf densify.samplesTo densify.segmentWant densify.segmentOf densify.segmentsOf densify.densifyPolylineOf densify.byTolerance densify.arcVerticesOf densify.roundTo densify.ellipsePoint densify.ellipseRingOf densify.sharpCorners densify.cornerPoint densify.roundedCorners densify.quarterOf densify.boxRingOf positions.flats positions.pointsOf positions.put positions.placedBy lines.putWords convert.featureOf convert.strokeOf convert.unwrittenOf convert.pointOf convert.fillOf convert.shapeTrace convert.workOf convert.polylineOrPolygonOf convert.ringTrace convert.outlineOf convert.pathOf convert.pathsOf convert.boxOf convert.ellipseOf convert.circleOf convert.dotOf convert.shapeOf convert.onScreen convert.propsOf convert.pointsTrace convert.pathsTrace convert.drawnOf convert.itemOf convert.itemsOf convert.spentOf convert.convertOf convert.drawsIn space.played space.playAll space.ofSpace geopic.traceOf geopic.sheetOf geopic.early geopic.conditions geopic.numberOf geopic.answerOf geopic.clear geopic.sliceBy geopic.lentAfter ofBits toBits ofInt toUnsigned neg add sub mul div rem lt eq le ne isNan sum round units odd size climb span
+unfolding registration.everything projection.planeOffsetOf projection.toLonLatOf projection.projectionOf projection.projectOf projection.round9Of projection.geoOf projection.geoBy blocks.sized blocks.wordSum blocks.checked blocks.allChecked blocks.ofBlocks payload.payloads payload.payload walk.ends layout.before layout.stepOf layout.inOrder layout.laidOutFrom layout.laidOut limits.number limits.near limits.choiceFloats limits.limitedAt limits.allLimited limits.limited values.rescaleIn values.notAbove refusals.ofValues refusals.ofRecords refusals.ofStream budget.grantOf budget.takeOf densify.clamped densify.distOf densify.flatOf densify.midOf densify.firstOf densify.secondOf densify.leafOf densify.splitOf densify.flattenCubicOf densify.cubicsOf densify.formPoints densify.samePoint densify.closeRingOf densify.pathPointsOf densify.partsOf densify.alongOf densify.samplesTo densify.segmentWant densify.segmentOf densify.segmentsOf densify.densifyPolylineOf densify.byTolerance densify.arcVerticesOf densify.roundTo densify.ellipsePoint densify.ellipseRingOf densify.sharpCorners densify.cornerPoint densify.roundedCorners densify.quarterOf densify.boxRingOf positions.flats positions.pointsOf positions.put positions.placedBy lines.putWords convert.featureOf convert.strokeOf convert.unwrittenOf convert.pointOf convert.fillOf convert.shapeTrace convert.workOf convert.polylineOrPolygonOf convert.ringTrace convert.outlineOf convert.pathOf convert.pathsOf convert.boxOf convert.ellipseOf convert.circleOf convert.dotOf convert.shapeOf convert.onScreen convert.propsOf convert.pointsTrace convert.pathsTrace convert.drawnOf convert.itemOf convert.itemsOf convert.spentOf convert.convertOf convert.drawsIn space.played space.playAll space.ofSpace geopic.traceOf geopic.sheetOf geopic.early geopic.conditions geopic.numberOf geopic.answerOf geopic.clear geopic.sliceBy geopic.lentAfter
 everything = Unit {0}
