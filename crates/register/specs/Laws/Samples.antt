@@ -60,13 +60,13 @@ abbrev px : List ℕ
 px = 103 ∷ 101 ∷ 111 ∷ 95 ∷ 112 ∷ 120 ∷ []
 
 refusals :
-    -- 10: the scale 1e9, and the next above
+    -- row 10: the scale 1e9, and the next above
     (refusal (mercator ++ anchor 0 0 ++ option 3 most) ≡ 0)
     × (refusal (mercator ++ anchor 0 0 ++ option 3 (most + 1)) ≡ 14)
-    -- 11: the latitude 85.06, and the next above
+    -- row 11: the latitude 85.06, and the next above
     × (refusal (mercator ++ anchor 0 edge) ≡ 0)
     × (refusal (mercator ++ anchor 0 (edge + 1)) ≡ 8)
-    -- the other numbers: no frame, no anchor, a scale of zero, pixels without a view's scale
+    -- refusals 7, 10, 12 and 13: no frame, no anchor, a scale of zero, pixels without a view's scale
     × (refusal (1 ∷ float one ++ anchor 0 0) ≡ 7)
     × (refusal mercator ≡ 10)
     × (refusal (mercator ++ anchor 0 0 ++ option 3 0) ≡ 12)
@@ -157,7 +157,7 @@ fits :
 unfolding everything
 fits = (refl, refl)
 
--- 11: A and B at one point of the canvas
+-- refusal 11: A and B at one point of the canvas
 coincide : refusal (mercator ++ features-AB ++ place (65 ∷ []) one one ++ place (66 ∷ []) one one) ≡ 11
 unfolding everything
 coincide = refl
@@ -177,7 +177,7 @@ places-to (suc n) = places-to n ++ place ((33 + n) ∷ []) (along n) 0
 abbrev scene-of : ℕ → Scene
 scene-of n = sceneOf (mercator ++ features-to n ++ places-to n ++ 0 ∷ [])
 
--- 9: 65 of them. 64 pass conditions 7 to 9; their fit is not computed here.
+-- refusal 9: 65 of them. 64 pass conditions 7 to 9; their fit is not computed here.
 too-many :
     (registerRefusal (scene-of 65) ≡ 9)
     × (length (controlsOf (scene-of 64)) ≡ 64)
