@@ -3,4 +3,5 @@ pub mod Names
 pub mod Outcomes
 pub mod Near
 pub mod Sound
+pub mod Everything
 pub mod Samples

@@ -1,2 +1,2 @@
--- Document 01's table and its reference sheet, and a scene's draws, computed from the definitions of all crates at once.
+-- Document 01's table and its reference sheet, two refused calls, and the draws of two scenes, computed from the definitions of all crates at once.
 pub mod Laws

@@ -5,28 +5,17 @@ use mathlib.Core.List.{List, [], _∷_, _++_}
 use Prim.Native.Nat.{ℕ, _+_, _/_, _%_, _^_}
 use lib.Dec.{eqb}
 use lib.ListN.{length, replicate}
-use lib.Ieee.{Float, binary64, ofBits, toBits, ofInt, toUnsigned, neg, add, sub, mul, div, rem, lt, eq, le, ne, isNan, sum, round, units, odd, size, climb, span}
-use Rattle.float.specs.Functions.{absOf, maxOf, minOf, ceilOf, roundOf, remEuclid360Of}
-use Rattle.root.specs.Root.{rootDigits, isqrt, scaled, rootAt, rootOf}
+use lib.Ieee.{Float, binary64, ofBits, toBits}
+use Rattle.float.specs.Functions.{roundOf}
 use Rattle.elementary.specs.Constants as K
-use Rattle.elementary.specs.Functions.{hypotOf}
 use Rattle.geodesy.specs.Geodesy.{normalizeLonOf}
-use Rattle.stream.specs.Numbers.{u16At, u32At, u64At, floatOf, floatAt}
-use Rattle.records.specs.Records.{plain, allTo, named, labelled, namedThen, counted, allZero, choiceWidth, choiceFits, valuesWidth, itemBegins, itemFits}
-use Rattle.records.specs.Records.{endOf, rescaleOf, choiceOf, featureOf, variableOf, placeOf, itemOf, pointsOf, pathWith, cubicsOf, polylineOf, pathOf, byTag, recordOf, part}
-use Rattle.records.specs.Records as records
-use Rattle.records.specs.Walk.{entries}
-use Rattle.records.specs.Search.{past, turnOf, recordsOf}
-use Rattle.records.specs.Values.{flattenIn}
-use Rattle.scene.specs.Scene as scene
-use Rattle.scene.specs.Scene.{Maybe, none, some, Point, sceneOf, valueOf, numberAt, bit, pointAt, pointsAt, cubicAt, cubicsAt, featureAt, variableAt, placeAt, formAt, pathAt, itemAt}
-use Rattle.scene.specs.Labels as labels
-use Rattle.scene.specs.Labels.{same, sumOf, meanOf, meanPoint, startOf, firstStart, meanOrStart, referencePoint, greater, consider, carries, bestPlace, bestItem, pointOfLabel}
-use Rattle.register.specs.Register.{isMercator, notZero, pxMode, mentioned, eventOf, featureEvent, featureEvents, isLon, lonEvent, variableEvents, events, controlsIn, controlsOf, bothOf, anchorOf, halfAnchor, placed, allPlaced, anchorPlaced, scaleValue, above0, effectiveScale, registrationBy, registrationOf}
+use Rattle.scene.specs.Scene.{Maybe, none, some, Point, sceneOf}
+use Rattle.scene.specs.Labels.{pointOfLabel}
 use Rattle.register.specs.Contracts.Outcome.{registerRefusal}
 use Rattle.budget.specs.declared.Budget.{Budget}
-use Rattle.budget.specs.Budget.{grantOf, takeOf}
-use Rattle.densify.specs.Densify.{clamped, partsOf, samePoint, closeRingOf, sharpCorners, boxRingOf, leafOf, alongOf, samplesTo, segmentWant, segmentOf, segmentsOf, densifyPolylineOf}
+use Rattle.budget.specs.Budget.{takeOf}
+use Rattle.densify.specs.Densify.{Block, partsOf, boxRingOf, flattenCubicOf, densifyPolylineOf}
+use Rattle.rows.specs.Laws.Everything.{everything}
 
 -- ---- the kinds of row; a float is its pattern
 pub data Row : Type 0 where
@@ -42,8 +31,8 @@ pub data Row : Type 0 where
   sharp : (w h positions : ℕ) → Row
   -- the registration's refusal of a scene, 0 where it is accepted
   refused : (records : List ℕ) (number : ℕ) → Row
-  -- a piece that is not flat: what is left; how many points it makes, and whether that is short
-  piece : (left points : ℕ) (short : Bool) → Row
+  -- a cubic that is not flat: what is left; how many points it makes, and whether that is short
+  cubic : (left points : ℕ) (short : Bool) → Row
 
 -- ---- the check
 abbrev f : ℕ → Float
@@ -60,6 +49,16 @@ from left = record { left = left; hit = false }
 
 abbrev origin : Point
 origin = record { x = K.zero; y = K.zero }
+
+-- far from flat: it bends through the corners of a square of 2
+abbrev bent : Block
+bent =
+    record {
+      p0 = origin;
+      c1 = record { x = K.zero; y = K.two };
+      c2 = record { x = K.two; y = K.two };
+      p3 = record { x = K.two; y = K.zero };
+    }
 
 -- 100
 abbrev c100 : Float
@@ -88,8 +87,8 @@ holds (sharp w h n) =
     let ring = boxRingOf c100 K.one c0001 origin (f w) (f h) K.zero (from 2000000) in
     eqb (length (densifyPolylineOf c100 K.one (ring .points) (ring .after) .points)) n
 holds (refused l n) = eqb (registerRefusal (sceneOf (l ++ 0 ∷ []))) n
-holds (piece left points short) =
-    let m = leafOf false origin (from left) in
+holds (cubic left points short) =
+    let m = flattenCubicOf c0001 bent (from left) in
     eqb (length (m .points)) points && alike (m .after .hit) short
 
 abbrev pub allHold : List Row → Bool
@@ -165,10 +164,10 @@ table =
     -- 11: the latitude 85.06, and the next above
     ∷ refused (anchored 0 edge) 0
     ∷ refused (anchored 0 (edge + 1)) 8
-    -- 12: a piece that is not flat, with 1 left: one point, short
-    ∷ piece 1 1 true
+    -- 12: a piece that is not flat, here a whole cubic, with 1 left: one point, short
+    ∷ cubic 1 1 true
     ∷ []
 
 pub rows : allHold table ≡ true
-unfolding takeOf grantOf partsOf clamped closeRingOf samePoint sharpCorners boxRingOf leafOf densifyPolylineOf segmentsOf segmentOf segmentWant samplesTo alongOf hypotOf rootOf rootAt scaled isqrt rootDigits normalizeLonOf remEuclid360Of maxOf minOf ceilOf roundOf registerRefusal registrationOf registrationBy effectiveScale above0 scaleValue anchorPlaced allPlaced placed halfAnchor anchorOf bothOf controlsOf controlsIn events variableEvents lonEvent isLon featureEvents featureEvent eventOf mentioned pxMode notZero isMercator labels.variableOf same sumOf meanOf meanPoint startOf firstStart meanOrStart referencePoint greater consider carries bestPlace bestItem pointOfLabel sceneOf valueOf numberAt bit pointAt pointsAt cubicAt cubicsAt featureAt variableAt placeAt formAt pathAt itemAt scene.itemWith flattenIn part past turnOf recordsOf entries recordOf byTag endOf rescaleOf choiceOf featureOf variableOf placeOf itemOf pointsOf pathOf pathWith cubicsOf polylineOf records.itemWith itemFits itemBegins valuesWidth choiceFits choiceWidth namedThen counted labelled named plain allTo allZero floatAt floatOf u16At u32At u64At absOf ofBits toBits ofInt toUnsigned neg add sub mul div rem lt eq le ne isNan sum round units odd size climb span
+unfolding everything
 rows = refl

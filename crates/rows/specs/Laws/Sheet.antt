@@ -1,87 +1,61 @@
--- Document 01's reference sheet: the host's call on its stream, computed from the definitions.
+-- Document 01's reference sheet: the host's call on its stream, computed from the definitions. Two refused calls beside it: one for want of room, one early.
 use mathlib.Core.Path.{_≡_, refl}
 use mathlib.Core.Bool.{Bool, true, false, _&&_}
 use mathlib.Core.List.{List, [], _∷_, _++_}
 use Prim.Native.Nat.{ℕ, _+_, _-_, _/_, _%_, _^_}
-use lib.ListN.{length, replicate}
+use lib.ListN.{length, replicate, take, drop}
 use lib.IntN.{pos}
-use lib.Ieee.{Float, binary64, ofBits, toBits, ofInt, toUnsigned, neg, add, sub, mul, div, rem, lt, eq, le, ne, isNan, sum, round, units, odd, size, climb, span}
-use Rattle.float.specs.Functions as floatFunctions
-use Rattle.float.specs.Horner as horner
-use Rattle.root.specs.Root as roots
-use Rattle.elementary.specs.Functions as elementaryFunctions
-use Rattle.elementary.specs.Series as series
-use Rattle.geodesy.specs.Geodesy as geodesy
-use Rattle.similarity.specs.Fit as fit
-use Rattle.similarity.specs.Projection as projection
-use Rattle.stream.specs.Numbers as numbers
-use Rattle.stream.specs.Blocks as blocks
-use Rattle.stream.specs.Payload as payload
-use Rattle.records.specs.Records as records
-use Rattle.records.specs.Walk as walk
-use Rattle.records.specs.Search as search
-use Rattle.records.specs.Layout as layout
-use Rattle.records.specs.Limits as limits
-use Rattle.records.specs.Values as values
-use Rattle.scene.specs.Scene as scene
-use Rattle.scene.specs.Labels as labels
+use lib.Ieee.{Float, binary64, ofBits, ofInt, neg, mul, eq}
+use Rattle.float.specs.Functions.{roundOf}
+use Rattle.similarity.specs.Projection.{billion}
+use Rattle.stream.specs.Blocks.{wordSum}
 use Rattle.register.specs.Register as register
-use Rattle.budget.specs.Budget as budget
-use Rattle.densify.specs.Densify as densify
-use Rattle.densify.specs.Positions as positions
-use Rattle.geojson.specs.Lines as lines
-use Rattle.convert.specs.Convert as convert
-use Rattle.convert.specs.Space as space
-use Rattle.geopic.specs.Geopic as geopic
+use Rattle.geopic.specs.Geopic.{Lent, refusal, answerOf, lentAfter}
+use Rattle.rows.specs.Laws.Everything.{everything}
+use Rattle.rows.specs.Laws.Scenes.{f0, f1, f2, variable, item}
 
 -- ---- one block with a right check: a payload of at most 508 bytes
 abbrev word : ℕ → List ℕ
 word n = n % 256 ∷ n / 256 % 256 ∷ n / 65536 % 256 ∷ n / 16777216 % 256 ∷ []
 
 abbrev block : ℕ → List ℕ → List ℕ
-block i p = p ++ word ((blocks.wordSum p 0 127 + i) % 2 ^ 32)
+block i p = p ++ word ((wordSum p 0 127 + i) % 2 ^ 32)
 
 abbrev short : List ℕ → List ℕ
 short p = p ++ replicate (508 - length p) 0
 
--- ---- floats: 0, 1 and 2
-abbrev f0 : List ℕ
-f0 = replicate 8 0
+-- rescale 1, a record for the frame, geo_lat 0, geo_lon 0 and a box at (0, 0), w 2, h 2
+abbrev stream-with : List ℕ → List ℕ
+stream-with frame =
+    block 0 (short (1 ∷ f1 ++ frame ++ variable register.geoLat f0 ++ variable register.geoLon f0 ++ item 0 0 7 ++ f0 ++ f0 ++ f2 ++ f2))
 
-abbrev f1 : List ℕ
-f1 = replicate 6 0 ++ 240 ∷ 63 ∷ []
-
-abbrev f2 : List ℕ
-f2 = replicate 6 0 ++ 0 ∷ 64 ∷ []
-
--- ---- records
-abbrev variable : List ℕ → List ℕ → List ℕ
-variable name v = 4 ∷ length name ∷ name ++ v
-
--- a box at the origin, without a label or a span
-abbrev box : List ℕ → List ℕ → List ℕ
-box w h = 6 ∷ 0 ∷ 0 ∷ 0 ∷ replicate 8 0 ++ 7 ∷ f0 ++ f0 ++ w ++ h
-
--- rescale 1, geo_frame 1, geo_lat 0, geo_lon 0 and a box at (0, 0), w 2, h 2
+-- with geo_frame 1
 abbrev pub stream : List ℕ
-stream = block 0 (short (1 ∷ f1 ++ variable register.geoFrame f1 ++ variable register.geoLat f0 ++ variable register.geoLon f0 ++ box f2 f2))
+stream = stream-with (variable register.geoFrame f1)
 
--- what is lent
-abbrev pub lent : geopic.Lent
-lent = record { work = replicate 32 (ofBits binary64 0); positions = replicate 32 (ofBits binary64 0); features = replicate 12 0; warnings = replicate 4 0 }
+-- ---- what is lent: nothing of it is zero, so that what is cleared can be told from what is as it was
+abbrev o : Float
+o = ofBits binary64 0
+
+abbrev whole : ℕ → Float
+whole n = ofInt binary64 (pos n)
+
+-- with so many words for features
+abbrev pub lent-with : ℕ → Lent
+lent-with words = record { work = replicate 32 (whole 11); positions = replicate 32 (whole 12); features = replicate words 13; warnings = replicate 4 14 }
+
+abbrev pub lent : Lent
+lent = lent-with 12
 
 -- ---- the P lines: each number to the nearest whole number of 10⁻⁹ degree, by value
 abbrev pub agree : List Float → List Float → Bool
 agree [] [] = true
 agree [] (n ∷ ns) = false
 agree (v ∷ vs) [] = false
-agree (v ∷ vs) (n ∷ ns) = eq (floatFunctions.roundOf (mul binary64 v projection.billion)) n && agree vs ns
-
-abbrev o : Float
-o = ofBits binary64 0
+agree (v ∷ vs) (n ∷ ns) = eq (roundOf (mul binary64 v billion)) n && agree vs ns
 
 abbrev p : Float
-p = ofInt binary64 (pos 898315)
+p = whole 898315
 
 abbrev m : Float
 m = neg p
@@ -92,10 +66,27 @@ ring = m ∷ m ∷ o ∷ m ∷ p ∷ m ∷ p ∷ o ∷ p ∷ p ∷ o ∷ p ∷ m
 
 pub sheet :
     -- R 0 0, 9 positions, 1 feature line, B 1999988 0
-    (geopic.answerOf stream lent ≡ record { number = 0; method = 0; controls = 0; spent = 0; positions = 9; features = 1; warnings = 0; left = 1999988 })
-    -- F 0 2 0 0 0 9, and the rest of its slice as it was
-    × (geopic.lentAfter stream lent .features ≡ 0 ∷ 2 ∷ 0 ∷ 0 ∷ 0 ∷ 9 ∷ replicate 6 0)
+    (answerOf stream lent ≡ record { number = 0; method = 0; controls = 0; spent = 0; positions = 9; features = 1; warnings = 0; left = 1999988 })
+    -- work is cleared
+    × (lentAfter stream lent .work ≡ replicate 32 o)
     -- the P lines, and the rest of the slice as it was
-    × (agree (geopic.lentAfter stream lent .positions) (ring ++ replicate 14 o) ≡ true)
-unfolding floatFunctions.absOf floatFunctions.maxOf floatFunctions.minOf floatFunctions.truncOf floatFunctions.ceilOf floatFunctions.roundOf floatFunctions.remEuclid360Of horner.horner roots.rootDigits roots.isqrt roots.scaled roots.rootAt roots.rootOf elementaryFunctions.heldOf elementaryFunctions.toRadiansOf elementaryFunctions.toDegreesOf elementaryFunctions.hypotOf elementaryFunctions.turnOf elementaryFunctions.quadrantOf elementaryFunctions.restOf elementaryFunctions.sineAt elementaryFunctions.cosineAt elementaryFunctions.sinOf elementaryFunctions.cosOf elementaryFunctions.tanOf elementaryFunctions.lnAt elementaryFunctions.lnOf elementaryFunctions.twoTo elementaryFunctions.expAt elementaryFunctions.expOf elementaryFunctions.halvedOf elementaryFunctions.atanAt elementaryFunctions.atanUp elementaryFunctions.atanOf elementaryFunctions.angleOf elementaryFunctions.sidedOf elementaryFunctions.atan2Of elementaryFunctions.acosOf series.seriesOf series.evenOf series.oddOf series.factorial series.quotient series.terms series.sineTable series.cosineTable series.logarithmTable series.exponentialTable series.arctangentTable geodesy.normalizeLonOf geodesy.mercatorForwardOf geodesy.mercatorInverseOf fit.markOf fit.added fit.sumsOf fit.dividedBy fit.meansOf fit.momented fit.momentsOf fit.fitAt fit.solvedOf fit.roundOf fit.again fit.fitMarks fit.fitOf projection.planeOffsetOf projection.toLonLatOf projection.projectionOf projection.projectOf projection.round9Of projection.geoOf projection.geoBy numbers.u16At numbers.u32At numbers.u64At numbers.floatOf numbers.floatAt blocks.sized blocks.wordSum blocks.checked blocks.allChecked payload.payloads payload.payload records.plain records.allTo records.named records.labelled records.namedThen records.counted records.allZero records.endOf records.rescaleOf records.choiceWidth records.choiceFits records.choiceOf records.featureOf records.variableOf records.placeOf records.valuesWidth records.itemBegins records.itemFits records.itemWith records.itemOf records.pointsOf records.pathWith records.cubicsOf records.polylineOf records.pathOf records.byTag records.recordOf walk.entries walk.ends records.part search.past search.turnOf search.recordsOf layout.before layout.stepOf layout.inOrder layout.laidOutFrom layout.laidOut limits.number limits.near limits.choiceFloats limits.limitedAt limits.allLimited limits.limited values.flattenIn values.rescaleIn values.notAbove scene.valueOf scene.numberAt scene.bit scene.pointAt scene.pointsAt scene.cubicAt scene.cubicsAt scene.featureAt scene.variableAt scene.placeAt scene.formAt scene.pathAt scene.itemWith scene.itemAt scene.sceneOf labels.same labels.variableOf labels.sumOf labels.meanOf labels.meanPoint labels.startOf labels.firstStart labels.meanOrStart labels.referencePoint labels.greater labels.consider labels.bestPlace labels.carries labels.bestItem labels.pointOfLabel register.isMercator register.notZero register.pxMode register.mentioned register.eventOf register.featureEvent register.featureEvents register.isLon register.lonEvent register.variableEvents register.events register.controlsIn register.warningsIn register.controlsOf register.bothOf register.anchorOf register.halfAnchor register.placed register.allPlaced register.anchorPlaced register.scaleValue register.above0 register.effectiveScale register.registrationBy register.registrationOf register.registerRefusal register.anyDeclared register.ignoredWith register.viewWarnings register.halfWarnings register.registerWarnings budget.grantOf budget.takeOf densify.clamped densify.distOf densify.flatOf densify.midOf densify.firstOf densify.secondOf densify.leafOf densify.splitOf densify.flattenCubicOf densify.cubicsOf densify.formPoints densify.samePoint densify.closeRingOf densify.pathPointsOf densify.partsOf densify.alongOf densify.samplesTo densify.segmentWant densify.segmentOf densify.segmentsOf densify.densifyPolylineOf densify.byTolerance densify.arcVerticesOf densify.roundTo densify.ellipsePoint densify.ellipseRingOf densify.sharpCorners densify.cornerPoint densify.roundedCorners densify.quarterOf densify.boxRingOf positions.flats positions.pointsOf positions.put positions.placedBy lines.putWords convert.featureOf convert.strokeOf convert.unwrittenOf convert.pointOf convert.fillOf convert.shapeTrace convert.workOf convert.polylineOrPolygonOf convert.ringTrace convert.outlineOf convert.pathOf convert.pathsOf convert.boxOf convert.ellipseOf convert.circleOf convert.dotOf convert.shapeOf convert.onScreen convert.propsOf convert.pointsTrace convert.pathsTrace convert.drawnOf convert.itemOf convert.itemsOf convert.spentOf convert.convertOf convert.drawsIn convert.warningsIn space.played space.playAll geopic.traceOf geopic.sheetOf geopic.conditions geopic.firstFrom geopic.numberOf geopic.answerOf geopic.clear geopic.sliceBy geopic.lentAfter ofBits toBits ofInt toUnsigned neg add sub mul div rem lt eq le ne isNan sum round units odd size climb span
-sheet = (refl, refl, refl)
+    × (agree (take 18 (lentAfter stream lent .positions)) ring ≡ true)
+    × (drop 18 (lentAfter stream lent .positions) ≡ replicate 14 (whole 12))
+    -- F 0 2 0 0 0 9, and the rest of the slice as it was
+    × (lentAfter stream lent .features ≡ 0 ∷ 2 ∷ 0 ∷ 0 ∷ 0 ∷ 9 ∷ replicate 6 13)
+    -- no W line, and the slice as it was
+    × (lentAfter stream lent .warnings ≡ replicate 4 14)
+unfolding everything
+sheet = (refl, refl, refl, refl, refl, refl)
+
+-- with a word too few for the feature line: 17, and every slice is cleared
+pub no-room :
+    (answerOf stream (lent-with 5) ≡ refusal 17)
+    × (lentAfter stream (lent-with 5) ≡ record { work = replicate 32 o; positions = replicate 32 o; features = replicate 5 0; warnings = replicate 4 0 })
+unfolding everything
+no-room = (refl, refl)
+
+-- without a frame: 7, and every slice is as it was
+pub no-frame : (answerOf (stream-with []) lent ≡ refusal 7) × (lentAfter (stream-with []) lent ≡ lent)
+unfolding everything
+no-frame = (refl, refl)
