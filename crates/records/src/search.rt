@@ -20,7 +20,8 @@ enum Turn {
     Past,
 }
 
-// What a search found: whether a record, where it stands in the payload, and where the one after it. Where `some` is false, `at` is where the search ended, and `next` is free.
+// What a search found: whether a record, where it stands in the payload, and where the one after it. Where `some` is
+// false, `at` is where the search ended, and `next` is free.
 pub struct Hit {
     pub some: bool,
     pub at: usize,

@@ -14,7 +14,8 @@ pub struct Point {
     pub y: f64,
 }
 
-// A number, or a point, that may be absent: `some` says whether it is there. Where it is false the other fields are free.
+// A number, or a point, that may be absent: `some` says whether it is there. Where it is false the other fields are
+// free.
 #[repr(C)]
 pub struct Value {
     pub some: bool,

@@ -23,7 +23,8 @@ use stream::short;
 use stream::word;
 
 // In each answer `some` says whether there is one; `next` is where to ask for the one after it. A name stands at `at` and takes `len` bytes.
-// Where `some` is false the other fields are free, except `next` of a FeatureName or a Variable: records of greater tags stand from there on.
+// Where `some` is false the other fields are free, except `next` of a FeatureName or a Variable: records of greater
+// tags stand from there on.
 #[repr(C)]
 pub struct Feature {
     pub some: bool,
