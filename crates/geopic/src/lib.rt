@@ -40,9 +40,8 @@ pub struct Answer {
     pub left: usize,
 }
 
-// What a stream comes to before a slice is looked at: the number of its refusal, or its registration with what one
-// walk over
-// the variables told.
+// What a stream comes to before a slice is looked at: the number of its refusal, or its registration with what one walk
+// over the variables told.
 pub enum Opened {
     Refused(u32),
     Registered(Survey, Registration),
