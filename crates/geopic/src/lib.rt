@@ -94,13 +94,13 @@ fn open_stream(s: &[u8]) -> Opened
     if number != 0 {
         return Opened::Refused(number);
     }
-    let v = survey_variables(s);
-    let o = register(s, v);
+    let survey = survey_variables(s);
+    let o = register(s, survey);
     if o.number != 0 {
         return Opened::Refused(o.number);
     }
     let r = o.registration;
-    Opened::Registered(v, r)
+    Opened::Registered(survey, r)
 }
 
 // The registration's warnings, then every item.
