@@ -1,5 +1,5 @@
 -- Conditions 15 to 18, and what the lent slices hold: a second look at the events. The first thing that lacks room decides.
-use Prim.Native.Nat.{ℕ, _+_, _-_, _*_}
+use Prim.Native.Nat.{ℕ, _+_, _*_}
 use mathlib.Core.Bool.{Bool, true, false}
 use mathlib.Core.List.{List, [], _∷_}
 use lib.ListN.{length}

@@ -8,9 +8,8 @@ ghost use lib.ListN.{length};
 ghost use Rattle.stream.specs.Payload.{payload};
 ghost use Rattle.stream.specs.Contracts.Payload.{room};
 ghost use Rattle.scene.specs.Contracts.Answers.{Labels, PathWithin, pointsFrom, pathsFrom, pathsBy, itemsAt, itemBy};
-ghost use Rattle.densify.specs.Densify.{boxRingOf, ellipseRingOf};
-ghost use Rattle.convert.specs.Convert.{ringTrace, pointsTrace, pathsOf, pathsTrace, withPart, onScreen, itemOf, itemsOf, convertOf};
-ghost use Rattle.convert.specs.Contracts.Space.{sheetBy, Fits, Played};
+ghost use Rattle.convert.specs.Convert.{pointsTrace, pathsOf, pathsTrace, withPart, onScreen, itemOf, itemsOf, convertOf};
+ghost use Rattle.convert.specs.Contracts.Space.{sheetBy, Fits, Draws, boxTrace, ellipseTrace};
 use crate::laying::lay_path;
 use crate::laying::lay_points;
 use crate::positions::spot;
@@ -46,7 +45,9 @@ fn draw_box(
     st: State,
 ) -> State
     requires { ⌜ Fits (sheetBy (length (now work)) (now positions) (now features) (now warnings) st) (st .budget) ⌝ }
-    ensures { λ r. ⌜ Played (ringTrace cx p (boxRingOf (cx .step) (cx .projection .registration .scale) (cx .flatten) (record { x = x; y = y }) w h rad (st .budget))) (sheetBy (length (now (work .entry))) (now (positions .entry)) (now (features .entry)) (now (warnings .entry)) st) (sheetBy (length (now (work .exit))) (now (positions .exit)) (now (features .exit)) (now (warnings .exit)) r) (r .budget) ⌝ }
+    ensures { λ r. ⌜ Draws (boxTrace cx p x y w h rad (st .budget))
+        (now (work .entry)) (now (positions .entry)) (now (features .entry)) (now (warnings .entry)) st
+        (now (work .exit)) (now (positions .exit)) (now (features .exit)) (now (warnings .exit)) r ⌝ }
 {
     let scale = cx.projection.registration.scale;
     let d = box_ring(
@@ -78,7 +79,9 @@ fn draw_ellipse(
     st: State,
 ) -> State
     requires { ⌜ Fits (sheetBy (length (now work)) (now positions) (now features) (now warnings) st) (st .budget) ⌝ }
-    ensures { λ r. ⌜ Played (ringTrace cx p (ellipseRingOf (cx .step) (cx .projection .registration .scale) (cx .flatten) (record { x = x; y = y }) rx ry (st .budget))) (sheetBy (length (now (work .entry))) (now (positions .entry)) (now (features .entry)) (now (warnings .entry)) st) (sheetBy (length (now (work .exit))) (now (positions .exit)) (now (features .exit)) (now (warnings .exit)) r) (r .budget) ⌝ }
+    ensures { λ r. ⌜ Draws (ellipseTrace cx p x y rx ry (st .budget))
+        (now (work .entry)) (now (positions .entry)) (now (features .entry)) (now (warnings .entry)) st
+        (now (work .exit)) (now (positions .exit)) (now (features .exit)) (now (warnings .exit)) r ⌝ }
 {
     let scale = cx.projection.registration.scale;
     let d = ellipse_ring(
@@ -109,7 +112,10 @@ fn draw_points(
     st: State,
 ) -> State
     requires { ⌜ Fits (sheetBy (length (now work)) (now positions) (now features) (now warnings) st) (st .budget) ⌝ }
-    ensures { λ r. ⌜ Played (pointsTrace cx p closed (pointsFrom (payload (now (s .entry))) next 0) (pointsFrom (payload (now (s .entry))) next 1) (st .budget)) (sheetBy (length (now (work .entry))) (now (positions .entry)) (now (features .entry)) (now (warnings .entry)) st) (sheetBy (length (now (work .exit))) (now (positions .exit)) (now (features .exit)) (now (warnings .exit)) r) (r .budget) ⌝ }
+    ensures { λ r. ⌜ Draws (pointsTrace cx p closed (pointsFrom (payload (now (s .entry))) next 0)
+        (pointsFrom (payload (now (s .entry))) next 1) (st .budget))
+        (now (work .entry)) (now (positions .entry)) (now (features .entry)) (now (warnings .entry)) st
+        (now (work .exit)) (now (positions .exit)) (now (features .exit)) (now (warnings .exit)) r ⌝ }
 {
     let points = points_of(s, next, 0);
     if !points.some {
@@ -122,7 +128,8 @@ fn draw_points(
 
 // The next fill path, none where none was left before.
 fn next_outline(s: &[u8], q: usize, more: bool) -> Path
-    ensures { λ r. ⌜ cond more (pathsFrom (payload (now (s .entry))) q 1) [] ≡ pathsBy (payload (now (s .entry))) 1 r ⌝ }
+    ensures { λ r. ⌜ cond more (pathsFrom (payload (now (s .entry))) q 1) []
+        ≡ pathsBy (payload (now (s .entry))) 1 r ⌝ }
     ensures { λ r. ⌜ (r .some ≡ true → PathWithin (room (now (s .entry))) q r) ⌝ }
 {
     if !more {
@@ -169,8 +176,12 @@ fn draw_each(
     warnings: &mut [u32],
     st: State,
 ) -> State
-    requires { ⌜ (room (now s) < 4294967295) × Fits (sheetBy (length (now work)) (now positions) (now features) (now warnings) st) (st .budget) ⌝ }
-    ensures { λ r. ⌜ Played (pathsOf cx p many 0 (pathsFrom (payload (now (s .entry))) next 0) (pathsFrom (payload (now (s .entry))) next 1) (st .budget)) (sheetBy (length (now (work .entry))) (now (positions .entry)) (now (features .entry)) (now (warnings .entry)) st) (sheetBy (length (now (work .exit))) (now (positions .exit)) (now (features .exit)) (now (warnings .exit)) r) (r .budget) ⌝ }
+    requires { ⌜ (room (now s) < 4294967295)
+        × Fits (sheetBy (length (now work)) (now positions) (now features) (now warnings) st) (st .budget) ⌝ }
+    ensures { λ r. ⌜ Draws (pathsOf cx p many 0 (pathsFrom (payload (now (s .entry))) next 0)
+        (pathsFrom (payload (now (s .entry))) next 1) (st .budget))
+        (now (work .entry)) (now (positions .entry)) (now (features .entry)) (now (warnings .entry)) st
+        (now (work .exit)) (now (positions .exit)) (now (features .exit)) (now (warnings .exit)) r ⌝ }
 {
     let mut state = st;
     let mut q = next;
@@ -217,8 +228,12 @@ fn draw_paths(
     warnings: &mut [u32],
     st: State,
 ) -> State
-    requires { ⌜ (room (now s) < 4294967295) × Fits (sheetBy (length (now work)) (now positions) (now features) (now warnings) st) (st .budget) ⌝ }
-    ensures { λ r. ⌜ Played (pathsTrace cx p (pathsFrom (payload (now (s .entry))) next 0) (pathsFrom (payload (now (s .entry))) next 1) (st .budget)) (sheetBy (length (now (work .entry))) (now (positions .entry)) (now (features .entry)) (now (warnings .entry)) st) (sheetBy (length (now (work .exit))) (now (positions .exit)) (now (features .exit)) (now (warnings .exit)) r) (r .budget) ⌝ }
+    requires { ⌜ (room (now s) < 4294967295)
+        × Fits (sheetBy (length (now work)) (now positions) (now features) (now warnings) st) (st .budget) ⌝ }
+    ensures { λ r. ⌜ Draws (pathsTrace cx p (pathsFrom (payload (now (s .entry))) next 0)
+        (pathsFrom (payload (now (s .entry))) next 1) (st .budget))
+        (now (work .entry)) (now (positions .entry)) (now (features .entry)) (now (warnings .entry)) st
+        (now (work .exit)) (now (positions .exit)) (now (features .exit)) (now (warnings .exit)) r ⌝ }
 {
     let first = next_path(s, next, 0);
     if !first.some {
@@ -250,8 +265,11 @@ fn draw_item(
     warnings: &mut [u32],
     st: State,
 ) -> State
-    requires { ⌜ (room (now s) < 4294967295) × Fits (sheetBy (length (now work)) (now positions) (now features) (now warnings) st) (st .budget) ⌝ }
-    ensures { λ r. ⌜ Played (itemOf onScreen cx i (itemBy (payload (now (s .entry))) it) (st .budget)) (sheetBy (length (now (work .entry))) (now (positions .entry)) (now (features .entry)) (now (warnings .entry)) st) (sheetBy (length (now (work .exit))) (now (positions .exit)) (now (features .exit)) (now (warnings .exit)) r) (r .budget) ⌝ }
+    requires { ⌜ (room (now s) < 4294967295)
+        × Fits (sheetBy (length (now work)) (now positions) (now features) (now warnings) st) (st .budget) ⌝ }
+    ensures { λ r. ⌜ Draws (itemOf onScreen cx i (itemBy (payload (now (s .entry))) it) (st .budget))
+        (now (work .entry)) (now (positions .entry)) (now (features .entry)) (now (warnings .entry)) st
+        (now (work .exit)) (now (positions .exit)) (now (features .exit)) (now (warnings .exit)) r ⌝ }
 {
     let p = props_of(it, i);
     match shape_of(it) {
@@ -324,8 +342,12 @@ fn draw_items(
     warnings: &mut [u32],
     st: State,
 ) -> State
-    requires { ⌜ (room (now s) < 4294967295) × Fits (sheetBy (length (now work)) (now positions) (now features) (now warnings) st) (st .budget) × Labels (payload (now s)) from ⌝ }
-    ensures { λ r. ⌜ Played (itemsOf onScreen cx 0 (itemsAt (payload (now (s .entry))) 0) (st .budget)) (sheetBy (length (now (work .entry))) (now (positions .entry)) (now (features .entry)) (now (warnings .entry)) st) (sheetBy (length (now (work .exit))) (now (positions .exit)) (now (features .exit)) (now (warnings .exit)) r) (r .budget) ⌝ }
+    requires { ⌜ (room (now s) < 4294967295)
+        × Fits (sheetBy (length (now work)) (now positions) (now features) (now warnings) st) (st .budget)
+        × Labels (payload (now s)) from ⌝ }
+    ensures { λ r. ⌜ Draws (itemsOf onScreen cx 0 (itemsAt (payload (now (s .entry))) 0) (st .budget))
+        (now (work .entry)) (now (positions .entry)) (now (features .entry)) (now (warnings .entry)) st
+        (now (work .exit)) (now (positions .exit)) (now (features .exit)) (now (warnings .exit)) r ⌝ }
 {
     let mut state = st;
     let mut q = from;
@@ -365,8 +387,12 @@ pub fn convert(
     warnings: &mut [u32],
     st: State,
 ) -> State
-    requires { ⌜ (room (now s) < 4294967295) × Fits (sheetBy (length (now work)) (now positions) (now features) (now warnings) st) (st .budget) × Labels (payload (now s)) from ⌝ }
-    ensures { λ r. ⌜ Played (convertOf onScreen cx (itemsAt (payload (now (s .entry))) 0) (st .budget)) (sheetBy (length (now (work .entry))) (now (positions .entry)) (now (features .entry)) (now (warnings .entry)) st) (sheetBy (length (now (work .exit))) (now (positions .exit)) (now (features .exit)) (now (warnings .exit)) r) (r .budget) ⌝ }
+    requires { ⌜ (room (now s) < 4294967295)
+        × Fits (sheetBy (length (now work)) (now positions) (now features) (now warnings) st) (st .budget)
+        × Labels (payload (now s)) from ⌝ }
+    ensures { λ r. ⌜ Draws (convertOf onScreen cx (itemsAt (payload (now (s .entry))) 0) (st .budget))
+        (now (work .entry)) (now (positions .entry)) (now (features .entry)) (now (warnings .entry)) st
+        (now (work .exit)) (now (positions .exit)) (now (features .exit)) (now (warnings .exit)) r ⌝ }
 {
     let r = draw_items(s, from, cx, work, positions, features, warnings, st);
     let left = r.budget;

@@ -40,7 +40,8 @@ fn sample_segment(
     at: usize,
 ) -> Done
     requires { ⌜ (n < 4294967295) × (at ≤ length (now out)) ⌝ }
-    ensures { λ r. ⌜ Written (now (out .entry)) (now (out .exit)) at (plain (samplesTo (λ k. alongOf (pointIn a) (pointIn b) k n) n) budget) r ⌝ }
+    ensures { λ r. ⌜ Written (now (out .entry)) (now (out .exit)) at
+        (plain (samplesTo (λ k. alongOf (pointIn a) (pointIn b) k n) n) budget) r ⌝ }
 {
     let mut next = at;
     let mut k = 1usize;
@@ -72,7 +73,8 @@ fn sample_polyline(
     at: usize,
 ) -> Done
     requires { ⌜ (from ≤ to) × (to ≤ length (now work)) × (at ≤ length (now out)) ⌝ }
-    ensures { λ r. ⌜ Written (now (out .entry)) (now (out .exit)) at (densifyPolylineOf step scale (pointsIn (now (work .entry)) from to) budget) r ⌝ }
+    ensures { λ r. ⌜ Written (now (out .entry)) (now (out .exit)) at
+        (densifyPolylineOf step scale (pointsIn (now (work .entry)) from to) budget) r ⌝ }
 {
     if to - from < 2 {
         return Done {
@@ -124,7 +126,9 @@ pub fn densify_polyline(
     at: usize,
 ) -> Done
     requires { ⌜ (from ≤ to) × (to ≤ length (now work)) × (at ≤ length (now out)) ⌝ }
-    ensures { λ r. ⌜ Written (now (out .entry)) (now (out .exit)) at (placing t (densifyPolylineOf step (t .registration .scale) (pointsIn (now (work .entry)) from to) budget)) r ⌝ }
+    ensures { λ r. ⌜ Written (now (out .entry)) (now (out .exit)) at
+        (placing t (densifyPolylineOf step (t .registration .scale) (pointsIn (now (work .entry)) from to) budget))
+        r ⌝ }
 {
     let d = sample_polyline(step, t.registration.scale, work, from, to, budget, out, at);
     if !d.ok {

@@ -85,8 +85,11 @@ pub extern "C" fn densify_path(
     left: usize,
     work: &mut [f64],
 ) -> Drawing
-    ensures { λ r. ⌜ (pathFits (room (now (s .entry))) p ≡ true → Shown (now (work .entry)) (now (work .exit)) (pathPointsOf tol (drawnBy (payload (now (s .entry))) p) (fresh left)) r) ⌝ }
-    ensures { λ r. ⌜ (pathFits (room (now (s .entry))) p ≡ false → (now (work .exit) ≡ now (work .entry)) × (r ≡ undrawn left)) ⌝ }
+    ensures { λ r. ⌜ (pathFits (room (now (s .entry))) p ≡ true
+        → Shown (now (work .entry)) (now (work .exit))
+        (pathPointsOf tol (drawnBy (payload (now (s .entry))) p) (fresh left)) r) ⌝ }
+    ensures { λ r. ⌜ (pathFits (room (now (s .entry))) p ≡ false
+        → (now (work .exit) ≡ now (work .entry)) × (r ≡ undrawn left)) ⌝ }
 {
     if !is_path(s.len() / 512 * 508, p) {
         return Drawing {
@@ -115,7 +118,8 @@ pub extern "C" fn densify_ellipse(
     left: usize,
     work: &mut [f64],
 ) -> Drawing
-    ensures { λ r. ⌜ Shown (now (work .entry)) (now (work .exit)) (ellipseRingOf step scale tol (record { x = x; y = y }) rx ry (fresh left)) r ⌝ }
+    ensures { λ r. ⌜ Shown (now (work .entry)) (now (work .exit))
+        (ellipseRingOf step scale tol (record { x = x; y = y }) rx ry (fresh left)) r ⌝ }
 {
     let b = Budget {
         left: left,
@@ -137,7 +141,8 @@ pub extern "C" fn densify_box(
     left: usize,
     work: &mut [f64],
 ) -> Drawing
-    ensures { λ r. ⌜ Shown (now (work .entry)) (now (work .exit)) (boxRingOf step scale tol (record { x = x; y = y }) w h rad (fresh left)) r ⌝ }
+    ensures { λ r. ⌜ Shown (now (work .entry)) (now (work .exit))
+        (boxRingOf step scale tol (record { x = x; y = y }) w h rad (fresh left)) r ⌝ }
 {
     let b = Budget {
         left: left,
@@ -155,7 +160,10 @@ pub extern "C" fn densify_line(
     left: usize,
     out: &mut [f64],
 ) -> Drawing
-    ensures { λ r. ⌜ Shown (now (out .entry)) (now (out .exit)) (placing (projectionOf reg) (densifyPolylineOf step (reg .scale) (pointsIn (now (work .entry)) 0 (length (now (work .entry)))) (fresh left))) r ⌝ }
+    ensures { λ r. ⌜ Shown (now (out .entry)) (now (out .exit))
+        (placing (projectionOf reg)
+        (densifyPolylineOf step (reg .scale) (pointsIn (now (work .entry)) 0 (length (now (work .entry))))
+        (fresh left))) r ⌝ }
 {
     let b = Budget {
         left: left,
@@ -188,7 +196,8 @@ pub extern "C" fn densify_arc_vertices(step: f64, scale: f64, radius: f64, tol: 
 
 #[no_mangle]
 pub extern "C" fn densify_draw(left: usize, hit: bool, want: usize, floor: usize) -> Grant
-    ensures { λ r. ⌜ record { granted = r .granted; budget = record { left = r .left; hit = r .hit } } ≡ takeOf (record { left = left; hit = hit }) want floor ⌝ }
+    ensures { λ r. ⌜ record { granted = r .granted; budget = record { left = r .left; hit = r .hit } }
+        ≡ takeOf (record { left = left; hit = hit }) want floor ⌝ }
 {
     let b = Budget {
         left: left,

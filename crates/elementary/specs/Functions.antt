@@ -1,6 +1,6 @@
 -- The elementary functions of document 01, for every f64, operation by operation.
 use mathlib.Core.Bool.{true, false}
-use Prim.Native.Nat.{zero, suc, _-_, _*_, _/_, _^_, _≤_}
+use Prim.Native.Nat.{zero, suc, _-_, _*_, _/_, _^_}
 use lib.IntN.{pos, negℤ}
 use lib.Ieee.{Float, nan, inf, fin, binary64, up, down, minus, size, round, ofInt, isNan, neg, add, sub, mul, div, rem, lt, eq}
 use Rattle.float.specs.Functions.{pick, absOf, minOf, truncOf, roundOf}

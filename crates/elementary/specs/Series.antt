@@ -1,5 +1,5 @@
 -- Series by Horner, and the tables of their coefficients, each one quotient rounded once. A table's rule gives the term at k, and the table runs from the highest k down to 0.
-use mathlib.Core.Bool.{Bool, true, false}
+use mathlib.Core.Bool.{Bool, false}
 use mathlib.Core.List.{List, [], _∷_}
 use Prim.Native.Nat.{ℕ, zero, suc, _+_, _*_, _%_}
 use lib.Dec.{eqb}

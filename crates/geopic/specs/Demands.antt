@@ -18,7 +18,7 @@ use Rattle.convert.specs.Features.{AllWellFormed, positionsIn, featuresIn, warn
 use Rattle.geopic.specs.Geopic.{fresh, ctxOf, traceOf, Lent, early, conditions, answerOf, clear, lentAfter}
 use Rattle.geopic.specs.Laws.Conditions.{number-is, number-none, none-number}
 use Rattle.geopic.specs.Laws.Calls.{untouched, cleared}
-use Rattle.geopic.specs.Laws.Scenes.{scene-well-formed, formed-read, scene-geo, scene-features, scene-warnings, scene-counts, scene-tails, scene-claim, scene-grants, scene-left, scene-spent, scene-six}
+use Rattle.geopic.specs.Laws.Scenes.{formed-read, scene-geo, scene-features, scene-warnings, scene-counts, scene-tails, scene-claim, scene-grants, scene-left, scene-spent, scene-six}
 
 -- 3, its first sentence. The claim holds of any list of draws from any allowance.
 pub demand-3-any : (allowance : ℕ) (ds : List Draw) → Claim allowance ds

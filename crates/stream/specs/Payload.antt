@@ -1,5 +1,5 @@
 -- The payload of a stream, or of a part of it that starts at a block: what its blocks hold, joined.
-use Prim.Native.Nat.{ℕ, zero, suc, _+_, _/_}
+use Prim.Native.Nat.{ℕ, zero, suc, _/_}
 use mathlib.Core.List.{List, [], _++_}
 use lib.ListN.{length, take, drop}
 

@@ -10,15 +10,16 @@ use Rattle.scene.specs.declared.sections.Path.{Path}
 use Rattle.scene.specs.Scene.{Maybe, none, some, given, Point, DrawnPath}
 use Rattle.budget.specs.declared.Budget.{Budget}
 use Rattle.densify.specs.declared.writing.Done.{Done}
-use Rattle.densify.specs.Densify.{Made, closeRingOf, pathPointsOf}
+use Rattle.densify.specs.Densify.{Made, closeRingOf, pathPointsOf, ellipseRingOf, boxRingOf}
 use Rattle.densify.specs.Contracts.Written.{pointsIn, drawnBy}
 use Rattle.densify.specs.Positions.{flats}
 use Rattle.geojson.specs.declared.Feature.{Feature}
 use Rattle.geojson.specs.Lines.{putWords, wordsOf}
 use Rattle.convert.specs.declared.laying.Laying.{Laying}
+use Rattle.convert.specs.declared.state.Ctx.{Ctx}
 use Rattle.convert.specs.declared.state.Props.{Props}
 use Rattle.convert.specs.declared.state.State.{State}
-use Rattle.convert.specs.Convert.{feature, Trace, closedOutline, workOf}
+use Rattle.convert.specs.Convert.{Trace, closedOutline, workOf, ringTrace}
 use Rattle.convert.specs.Space.{Sheet, playAll}
 
 -- ---- what the code holds
@@ -56,6 +57,17 @@ pub record Played (trace : Trace) (t u : Sheet) (b : Budget) : Type 0 where
   pub features : length (u .features) ≡ length (t .features)
   pub warnings : length (u .warnings) ≡ length (t .warnings)
   pub fits : Fits u b
+
+-- the same from slices and a state to slices and a state
+abbrev pub Draws : Trace → List Float → List Float → List ℕ → List ℕ → State → List Float → List Float → List ℕ → List ℕ → State → Type 0
+Draws t w p f v st w′ p′ f′ v′ r = Played t (sheetBy (length w) p f v st) (sheetBy (length w′) p′ f′ v′ r) (r .budget)
+
+-- a box, and an ellipse with its two radii
+abbrev pub boxTrace : Ctx → Props → Float → Float → Float → Float → Float → Budget → Trace
+boxTrace cx p x y w h rad b = ringTrace cx p (boxRingOf (cx .step) (cx .projection .registration .scale) (cx .flatten) (record { x = x; y = y }) w h rad b)
+
+abbrev pub ellipseTrace : Ctx → Props → Float → Float → Float → Float → Budget → Trace
+ellipseTrace cx p x y rx ry b = ringTrace cx p (ellipseRingOf (cx .step) (cx .projection .registration .scale) (cx .flatten) (record { x = x; y = y }) rx ry b)
 
 -- a feature's line behind its positions, which end at `to`
 abbrev pub lineBy : Props → ℕ → ℕ → ℕ → Feature

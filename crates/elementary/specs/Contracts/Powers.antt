@@ -1,6 +1,6 @@
 -- What the power of two asks of its exponent.
 use mathlib.Core.Bool.{Bool}
-use Prim.Native.Nat.{ℕ, _-_, _^_, _≤_}
+use Prim.Native.Nat.{ℕ, _≤_}
 use lib.Ieee.{Float, minus, size}
 use lib.Ieee.Exact.{HasValue}
 

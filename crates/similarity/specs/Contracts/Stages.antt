@@ -4,7 +4,7 @@ use Rattle.geodesy.specs.declared.LonLat.{LonLat}
 use Rattle.geodesy.specs.declared.Metres.{Metres}
 use Rattle.geodesy.specs.Contracts.Stages.{longitudeOf, stretchOf, northOf}
 use Rattle.similarity.specs.declared.projection.Projection.{Projection}
-use Rattle.similarity.specs.Projection.{round9Of, geoBy}
+use Rattle.similarity.specs.Projection.{round9Of}
 
 -- the point's position on the plane
 unfoldable pub planeOf : Projection → Float → Float → Metres
