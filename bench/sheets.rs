@@ -56,8 +56,8 @@ impl Lent {
     }
 }
 
-/// Seconds and positions of one call.
-type Run = (f64, usize);
+/// Seconds and positions of one call, none of a sheet that is refused.
+type Run = (f64, Option<usize>);
 
 fn module(stream: &[u8], lent: &mut Lent) -> Run {
     let start = Instant::now();
@@ -76,8 +76,7 @@ fn module(stream: &[u8], lent: &mut Lent) -> Run {
         )
     };
     let seconds = start.elapsed().as_secs_f64();
-    assert_eq!(answer.number, 0);
-    (seconds, answer.positions)
+    (seconds, (answer.number == 0).then_some(answer.positions))
 }
 
 macro_rules! rust {
@@ -89,14 +88,14 @@ macro_rules! rust {
             let parsed = $crate_name::stream::parse(stream).unwrap_or_else(|n| panic!("refused by {n}"));
             let scene = $crate_name::georeference_scene(&parsed.scene, &parsed.options);
             let seconds = start.elapsed().as_secs_f64();
-            let scene = black_box(scene).unwrap_or_else(|e| panic!("{}", e.message));
+            let Ok(scene) = black_box(scene) else { return (seconds, None) };
             let count = |g: &Geometry| match g {
                 Geometry::Point(_) => 1,
                 Geometry::LineString(p) => p.len(),
                 Geometry::Polygon(rings) => rings[0].len(),
             };
             let features = &scene.features.features;
-            (seconds, features.iter().map(|f| count(&f.geometry)).sum())
+            (seconds, Some(features.iter().map(|f| count(&f.geometry)).sum()))
         }
     };
 }
@@ -123,13 +122,18 @@ fn timed_stream(stream: &[u8], lent: &mut Lent, rounds: usize) -> Timed {
         all[1].push(seconds);
         assert_eq!(ours, theirs, "as many positions by both");
         all[2].push(library(stream).0);
-        positions = ours;
+        positions = ours.expect("accepted");
     }
-    let seconds = all.map(|mut v| {
-        v.sort_by(f64::total_cmp);
-        v[v.len() / 2]
-    });
-    Timed { seconds, positions }
+    Timed {
+        seconds: all.map(median),
+        positions,
+    }
+}
+
+/// NaN of none.
+fn median(mut v: Vec<f64>) -> f64 {
+    v.sort_by(f64::total_cmp);
+    v.get(v.len() / 2).copied().unwrap_or(f64::NAN)
 }
 
 fn row(name: &str, figures: [f64; 3], ratios: [f64; 2]) {
@@ -271,10 +275,186 @@ fn controls(n: usize) -> Doc {
     })
 }
 
-/// As many host features as labels, of which none is the other's name: the product.
-fn product(n: usize) -> Doc {
-    let doc = (0..n).fold(dots(1), |d, i| d.feature(&format!("F{i:07}"), 7.0, 45.0));
-    (0..n).fold(doc, |d, i| d.place(&format!("L{i:07}"), [i as f64, 0.0]))
+/// As many names as labels. A name is that of a host feature or of a pair of variables.
+#[derive(Clone, Copy)]
+struct Names {
+    title: &'static str,
+    pairs: bool,
+    /// the names in their order, none where a pair lacks its `_lat`
+    name: fn(usize, usize) -> String,
+    label: fn(usize, usize) -> String,
+    half: bool,
+    refused: bool,
+}
+
+fn scattered(i: usize) -> usize {
+    i * 2_654_435_761 % (1 << 24)
+}
+
+impl Names {
+    const fn features(title: &'static str, name: fn(usize, usize) -> String) -> Names {
+        Names { title, pairs: false, name, label: |i, _| format!("L{i:07}"), half: false, refused: false }
+    }
+
+    const fn pairs(title: &'static str, name: fn(usize, usize) -> String) -> Names {
+        Names { pairs: true, ..Names::features(title, name) }
+    }
+
+    fn doc(&self, n: usize) -> Doc {
+        let mut doc = dots(1);
+        for i in 0..n {
+            let name = (self.name)(i, n);
+            let lon = 7.0 + (i % 64) as f64 * 1e-5;
+            if !self.pairs {
+                doc = doc.feature(&name, lon, 45.0);
+                continue;
+            }
+            doc = doc.var(&format!("{name}_lon"), lon);
+            if !(self.half && i % 2 == 1) {
+                doc = doc.var(&format!("{name}_lat"), 45.0);
+            }
+        }
+        (0..n).fold(doc, |d, i| d.place(&(self.label)(i, n), [i as f64, 0.0]))
+    }
+}
+
+/// What is asked of names and labels: none resolves, in order and in none; all do, so that there are too many; all are
+/// one, and both sides of it; every other one is a control point's again, or lacks its `_lat`.
+const NAMES: [Names; 9] = [
+    Names::features("host features, none resolves", |i, _| format!("F{i:07}")),
+    Names {
+        label: |i, _| format!("L{:07}", scattered(i)),
+        ..Names::features("host features in no order", |i, _| format!("F{:07}", scattered(i)))
+    },
+    Names {
+        label: |i, n| format!("F{:07}", n - i),
+        refused: true,
+        ..Names::features("host features, all resolve", |i, _| format!("F{i:07}"))
+    },
+    Names {
+        label: |_, _| "F".into(),
+        ..Names::features("host features, one name and label", |_, _| "F".into())
+    },
+    Names {
+        label: |i, _| if i < 32 { format!("A{i:02}") } else { format!("L{i:07}") },
+        ..Names::features("host features, half of them anchors", |i, _| {
+            if i % 2 == 0 { format!("A{:02}", i / 2 % 32) } else { format!("F{i:07}") }
+        })
+    },
+    Names::pairs("pairs, none resolves", |i, _| format!("p{i:07}")),
+    Names {
+        label: |i, n| format!("p{:07}", n - i),
+        refused: true,
+        ..Names::pairs("pairs, all resolve", |i, _| format!("p{i:07}"))
+    },
+    Names { half: true, ..Names::pairs("pairs, half of them whole", |i, _| format!("p{i:07}")) },
+    Names {
+        label: |i, _| if i < 32 { format!("p{i:07}") } else { format!("L{i:07}") },
+        ..Names::pairs("pairs, 32 of them anchors", |i, _| format!("p{i:07}"))
+    },
+];
+
+/// Names beside as many labels. The Rust takes the product of both, so its largest are timed once or not at all.
+fn names(lent: &mut Lent, rounds: usize) {
+    for kind in NAMES {
+        for n in [500, 2000, 8000, 16000, 64000] {
+            let rounds = if n > 2000 { 1 } else { rounds };
+            let stream = kind.doc(n).stream();
+            let mut all: [Vec<f64>; 3] = Default::default();
+            for _ in 0..rounds {
+                let (seconds, ours) = module(&stream, lent);
+                assert_eq!(ours.is_none(), kind.refused, "{} {n}", kind.title);
+                all[0].push(seconds);
+                if n < 64000 || std::env::var_os("GEOPIC_BENCH_ALL").is_some() {
+                    all[1].push(standins(&stream).0);
+                    all[2].push(library(&stream).0);
+                }
+            }
+            let s = all.map(median);
+            row(&format!("{n} {}", kind.title), s.map(|s| s * 1e6), [s[0] / s[1], s[0] / s[2]]);
+        }
+    }
+}
+
+/// Streams of the largest size, by the module alone.
+fn largest_names(lent: &mut Lent) {
+    const PAYLOAD: usize = 65_536 * write::PAYLOAD;
+    let digits = b"0123456789abcdefghijklmnopqrstuvwxyzABCDEFGHIJKLMNOPQRSTUVWXYZ-_";
+    let four = |i: usize| -> String {
+        (0..4).rev().map(|k| digits[i >> (6 * k) & 63] as char).collect()
+    };
+    let long = |i: usize| -> String { "z".repeat(27) + &four(i) };
+    let feature = |name: &str| Doc::new().feature(name, 7.0, 45.0).records()[1].clone();
+    let place = |name: &str| Doc::new().place(name, [1.0, 2.0]).records()[1].clone();
+    let item = |name: &str| Doc::new().item(Item::new(LINE).label(name)).records()[1].clone();
+    let geo = sheet().records();
+    let fill = |name: &dyn Fn(usize) -> String, label: &dyn Fn(usize) -> Vec<u8>, share: f64| -> Vec<u8> {
+        let mut payload = geo[0].clone();
+        let mut i = 0;
+        while (payload.len() as f64) < PAYLOAD as f64 * share - 400.0 {
+            payload.extend(feature(&name(i)));
+            i += 1;
+        }
+        payload.extend(geo[1..].concat());
+        let mut j = 0;
+        loop {
+            let record = label(j);
+            if payload.len() + record.len() >= PAYLOAD {
+                break;
+            }
+            payload.extend(record);
+            j += 1;
+        }
+        payload.push(0);
+        write::blocks(&payload)
+    };
+    let mut one = |title: &str, stream: Vec<u8>| {
+        let (seconds, ours) = module(&stream, lent);
+        println!("{title:60}{seconds:8.3}  {}", if ours.is_some() { "accepted" } else { "refused" });
+    };
+    let all = 1 << 24;
+    one("names and items in no order", fill(&|i| four(scattered(i)), &|j| item(&four(scattered(j + 800_000))), 0.5));
+    one("names descending", fill(&|i| four(all - 1 - i), &|j| item(&four(scattered(j + 800_000))), 0.5));
+    one("names and places in no order", fill(&|i| four(scattered(i)), &|j| place(&four(scattered(j + 800_000))), 0.5));
+    one("27 bytes alike", fill(&|i| long(scattered(i)), &|j| item(&long(scattered(j + 800_000))), 0.5));
+    one("7 bytes alike", fill(&|i| "zzz".to_string() + &four(i), &|j| item(&("zzz".to_string() + &four(j + 800_000))), 0.5));
+    for k in [8, 12, 16, 20, 24] {
+        let name = |i: usize| -> String { "z".repeat(k) + &four(i) };
+        one(&format!("{k} bytes alike"), fill(&|i| name(scattered(i)), &|j| item(&name(scattered(j + 800_000))), 0.5));
+    }
+    one("an anchor in every batch",
+        fill(&|i| if i % 4000 == 0 { "A".into() } else { four(scattered(i)) },
+             &|j| if j == 0 { place("A") } else { item(&four(scattered(j + 800_000))) }, 0.5));
+    one("64 anchors in every batch, more names",
+        fill(&|i| if i % 125 == 0 { format!("A{}", i / 125 % 64) } else { four(scattered(i)) },
+             &|j| if j < 64 { place(&format!("A{j}")) } else { item(&four(scattered(j + 800_000))) }, 0.6));
+    one("200,000 names again and again, all resolve",
+        fill(&|i| four(scattered(i % 200_000)), &|j| place(&four(scattered(j % 200_000))), 0.5));
+    one("two names, one label", fill(&|i| ["a", "b"][i % 2].into(), &|_| item("c"), 0.5));
+    one("all names", fill(&|i| four(scattered(i)), &|_| vec![0; PAYLOAD], 1.0));
+    one("one label a million times", fill(&|_| "a".into(), &|_| place("a"), 0.00002));
+    let pairs = |count: usize| {
+        let mut payload = geo[0].clone();
+        let mut records = geo[1..].to_vec();
+        for i in 0..count {
+            let doc = Doc::new().var(&format!("{}_lat", four(i)), 45.0).var(&format!("{}_lon", four(i)), 7.0);
+            records.extend(doc.records()[1..].to_vec());
+        }
+        records.sort_by(|a, b| a[2..2 + a[1] as usize].cmp(&b[2..2 + b[1] as usize]));
+        payload.extend(records.concat());
+        let mut j = 0;
+        loop {
+            let record = item(&four(scattered(j + 800_000)));
+            if payload.len() + record.len() >= PAYLOAD {
+                break;
+            }
+            payload.extend(record);
+            j += 1;
+        }
+        payload.push(0);
+        write::blocks(&payload)
+    };
+    one("pairs and items", pairs(430_000));
 }
 
 type Sheet = (&'static str, fn() -> Doc);
@@ -291,12 +471,13 @@ const BY_POSITION: [Sheet; 7] = [
 ];
 
 /// Sheets that grow, at one size, for a profile.
-const OF_ONE_SIZE: [Sheet; 7] = [
+const OF_ONE_SIZE: [Sheet; 8] = [
     ("items", || dots(4000)),
     ("host features", || features(4000)),
     ("variables", || variables(4000)),
     ("pairs of variables", || pairs(4000)),
     ("control points", || controls(64)),
+    ("four control points", || controls(4)),
     ("single control point", || controls(1)),
     ("single item", || dots(1)),
 ];
@@ -307,7 +488,8 @@ fn one(name: &str) {
     let all = BY_POSITION.iter().chain(&OF_ONE_SIZE);
     for (_, sheet) in all.filter(|(n, _)| n.starts_with(name)) {
         let stream = sheet().stream();
-        for _ in 0..10 {
+        let times = std::env::var("GEOPIC_BENCH_TIMES").ok().and_then(|n| n.parse().ok()).unwrap_or(10);
+        for _ in 0..times {
             black_box(module(&stream, lent));
         }
     }
@@ -315,6 +497,24 @@ fn one(name: &str) {
 
 fn main() {
     let args: Vec<String> = std::env::args().skip(1).collect();
+    if let [mode] = &args[..] && mode == "large" {
+        let lent = &mut Lent::with_work(2048);
+        return largest_names(lent);
+    }
+    if let [mode] = &args[..] && mode == "names" {
+        let lent = &mut Lent::with_work(2048);
+        names(lent, 5);
+        return largest_names(lent);
+    }
+    if let [mode] = &args[..] && mode == "small" {
+        let lent = &mut Lent::with_work(2048);
+        growth("items", &[1, 4, 16, 64], dots, lent, 501);
+        growth("control points", &[1, 4, 16, 64], controls, lent, 501);
+        growth("host features", &[1000, 4000, 16000, 64000], features, lent, 21);
+        growth("variables", &[1000, 4000, 16000, 64000], variables, lent, 11);
+        growth("pairs of variables", &[1000, 4000, 16000], pairs, lent, 11);
+        return;
+    }
     if let [mode, name] = &args[..] {
         assert_eq!(mode, "one", "sheets [ROUNDS] or sheets one NAME");
         return one(name);
@@ -345,5 +545,10 @@ fn main() {
     growth("variables", &[1000, 4000, 16000, 64000], variables, lent, few);
     growth("pairs of variables", &[1000, 4000, 16000], pairs, lent, few);
     growth("control points", &[1, 4, 16, 64], controls, lent, rounds);
-    growth("features times labels", &[500, 1000, 2000], product, lent, few);
+
+    title("microseconds a sheet, so many names and as many labels");
+    names(lent, few);
+
+    println!("\nseconds a stream of 32 MiB, by the module");
+    largest_names(lent);
 }

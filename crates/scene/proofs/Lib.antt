@@ -3,7 +3,6 @@ pub mod Agreeing
 pub mod Keys
 pub mod Means
 pub mod Found
-pub mod Indexing
 pub mod Reading
 pub mod Items
 pub mod Starts

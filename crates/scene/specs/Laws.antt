@@ -1,6 +1,5 @@
 -- The laws of these definitions that callers use.
 pub mod Names
-pub mod Index
 pub mod Points
 pub mod Shift
 pub mod Widths

@@ -149,7 +149,7 @@ fn consider_point(b: Best, key: Key, x: f64, y: f64) -> Best
 }
 
 // The first place from q on, as the i-th.
-fn consider_place(s: &[u8], b: Best, q: usize, i: usize) -> Best
+pub fn consider_place(s: &[u8], b: Best, q: usize, i: usize) -> Best
     ensures { λ r. ⌜ bestBy r ≡ considerPlace (bestBy b) i (placesAt (payload (now (s .entry))) q) ⌝ }
 {
     let c = next_place(s, q);
@@ -215,7 +215,7 @@ fn consider_reference(s: &[u8], b: Best, it: Item, i: usize) -> Best
 }
 
 // The first item from q on, as the i-th.
-fn consider_item(s: &[u8], b: Best, q: usize, i: usize) -> Best
+pub fn consider_item(s: &[u8], b: Best, q: usize, i: usize) -> Best
     ensures { λ r. ⌜ bestBy r ≡ considerItem (bestBy b) i (itemsAt (payload (now (s .entry))) q) ⌝ }
 {
     let it = next_item(s, q);

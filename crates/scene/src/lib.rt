@@ -1,6 +1,5 @@
 // The scene that a stream holds. A position is one of the payload; a question that starts at a position asks of the records from there on.
 mod choices;
-mod index;
 mod labels;
 mod names;
 mod numbers;
@@ -14,9 +13,10 @@ pub use choices::frame;
 pub use choices::rescale;
 pub use choices::scale;
 pub use choices::view_scale;
-pub use index::find_label;
-pub use index::index_labels;
-pub use index::slot_of;
+pub use labels::Best;
+pub use labels::Key;
+pub use labels::consider_item;
+pub use labels::consider_place;
 pub use labels::point_of_label;
 pub use labels::reference_point;
 pub use names::is_named;

@@ -1,0 +1,2 @@
+-- The laws of these definitions that callers use.
+pub mod Order

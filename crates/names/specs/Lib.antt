@@ -1,0 +1,3 @@
+-- A table of names.
+pub mod Contracts
+pub mod Laws

@@ -1,0 +1,172 @@
+// One walk over places and items for the names of a table: which of them have a point, and where.
+//
+// What was found stands in 64 slots, four numbers of a key and two of a point. Mark m of an entry, from 1 to 64, is slot m - 1; mark 65 is that no slot was left.
+ghost use mathlib.Core.Path.{_≡_};
+ghost use Prim.Native.Nat.{_≤_, _<_};
+ghost use lib.ListN.{length};
+ghost use Rattle.stream.specs.Payload.{payload};
+ghost use Rattle.stream.specs.Contracts.Payload.{room};
+ghost use Rattle.names.specs.Contracts.Table.{Table, Unmarked};
+ghost use Rattle.names.specs.Contracts.Batch.{Noted};
+use crate::table::find_name;
+use records::find;
+use records::wide;
+use scene::Best;
+use scene::Key;
+use scene::consider_item;
+use scene::consider_place;
+use stream::byte;
+
+fn no_best() -> Best
+{
+    Best {
+        some: false,
+        key: Key {
+            top: false,
+            line: 0,
+            col: 0,
+            order: 0,
+        },
+        x: 0.0,
+        y: 0.0,
+    }
+}
+
+// What slot m holds.
+fn best_at(keys: &[u32], spots: &[f64], m: usize) -> Best
+{
+    Best {
+        some: true,
+        key: Key {
+            top: keys[4 * m] != 0,
+            line: keys[4 * m + 1],
+            col: keys[4 * m + 2],
+            order: keys[4 * m + 3] as usize,
+        },
+        x: spots[2 * m],
+        y: spots[2 * m + 1],
+    }
+}
+
+fn put_best(keys: &mut [u32], spots: &mut [f64], m: usize, b: Best)
+{
+    let key = b.key;
+    let top = if key.top { 1u32 } else { 0u32 };
+    keys[4 * m] = top;
+    keys[4 * m + 1] = key.line;
+    keys[4 * m + 2] = key.col;
+    keys[4 * m + 3] = key.order as u32;
+    spots[2 * m] = b.x;
+    spots[2 * m + 1] = b.y;
+}
+
+// What was found for an entry with the mark m.
+fn best_of(keys: &[u32], spots: &[f64], m: usize) -> Best
+{
+    if m == 0 {
+        return no_best();
+    }
+    if m > 64 {
+        return no_best();
+    }
+    best_at(keys, spots, m - 1)
+}
+
+// The best for entry k is b from now on. How many slots are used then.
+fn hold(t: &mut [u32], keys: &mut [u32], spots: &mut [f64], used: usize, k: usize, b: Best) -> usize
+{
+    if !b.some {
+        return used;
+    }
+    let e = t[k];
+    if e >= 2181038080 {
+        return used;
+    }
+    if e >= 33554432 {
+        put_best(keys, spots, (e / 33554432) as usize - 1, b);
+        return used;
+    }
+    if used >= 64 {
+        t[k] = e + 2181038080;
+        return used;
+    }
+    put_best(keys, spots, used, b);
+    t[k] = e + 33554432 * (used as u32 + 1);
+    used + 1
+}
+
+// The place at q, the i-th, has the name of entry k.
+fn note_place(s: &[u8], t: &mut [u32], keys: &mut [u32], spots: &mut [f64], used: usize, k: usize, q: usize, i: usize) -> usize
+{
+    let old = best_of(keys, spots, (t[k] / 33554432) as usize);
+    hold(t, keys, spots, used, k, consider_place(s, old, q, i))
+}
+
+fn note_item(s: &[u8], t: &mut [u32], keys: &mut [u32], spots: &mut [f64], used: usize, k: usize, q: usize, i: usize) -> usize
+{
+    let old = best_of(keys, spots, (t[k] / 33554432) as usize);
+    hold(t, keys, spots, used, k, consider_item(s, old, q, i))
+}
+
+// How many slots are used, and where the items are asked for: behind the places.
+pub struct Walked {
+    pub used: usize,
+    pub end: usize,
+}
+
+fn note_places(s: &[u8], p: usize, t: &mut [u32], count: usize, more: u64, keys: &mut [u32], spots: &mut [f64]) -> Walked
+{
+    let mut used = 0usize;
+    let mut q = p;
+    let mut i = 0usize;
+    loop {
+        let h = find(s, q, 5, 0);
+        if !h.some {
+            return Walked {
+                used: used,
+                end: h.at,
+            };
+        }
+        let at = h.at;
+        let n = wide(byte(s, 0, at + 1));
+        let f = find_name(s, t, count, at + 1, n, more);
+        if f.some {
+            used = note_place(s, t, keys, spots, used, f.at, at, i);
+        }
+        q = h.next;
+        i += 1;
+    }
+}
+
+fn note_items(s: &[u8], p: usize, t: &mut [u32], count: usize, more: u64, keys: &mut [u32], spots: &mut [f64], places: usize) -> usize
+{
+    let mut used = places;
+    let mut q = p;
+    let mut i = 0usize;
+    loop {
+        let h = find(s, q, 6, 0);
+        if !h.some {
+            return used;
+        }
+        let at = h.at;
+        let n = wide(byte(s, 0, at + 3));
+        if n != 0 {
+            let f = find_name(s, t, count, at + 3, n, more);
+            if f.some {
+                used = note_item(s, t, keys, spots, used, f.at, at, i);
+            }
+        }
+        q = h.next;
+        i += 1;
+    }
+}
+
+// The labels from p on, for the names of the first `count` entries, none of which has a mark. How many slots are used then.
+pub fn note_labels(s: &[u8], p: usize, t: &mut [u32], count: usize, more: u64, keys: &mut [u32], spots: &mut [f64]) -> usize
+    requires { ⌜ (room (now s) < 33554432) × (more ≤ 4) × Table more (payload (now s)) (now t) count × Unmarked (now t) count
+        × (length (now keys) ≡ 256) × (length (now spots) ≡ 128) ⌝ }
+    ensures { λ r. ⌜ Noted more (payload (now (s .entry))) (now (t .entry)) (now (t .exit)) count (now (spots .exit)) r p ⌝ }
+{
+    let w = note_places(s, p, t, count, more, keys, spots);
+    note_items(s, w.end, t, count, more, keys, spots, w.used)
+}

@@ -1,0 +1,152 @@
+// A table of names: the positions where their lengths stand in the payload, in the order of the names, no name twice.
+//
+// Names are ordered by their length, then by their bytes, so that eight bytes from the length on decide most comparisons.
+// The names of one table have lengths that are `more` too great: 4 for `_lon` variables, whose ending is not counted, else 0.
+ghost use mathlib.Core.Path.{_≡_};
+ghost use Prim.Native.Nat.{_+_, _-_, _≤_, _<_, _%_};
+ghost use lib.ListN.{length, getD, set};
+ghost use Rattle.stream.specs.Payload.{payload};
+ghost use Rattle.stream.specs.Contracts.Payload.{room};
+ghost use Rattle.records.specs.Records.{part};
+ghost use Rattle.names.specs.Contracts.Table.{nameAt, markOf, orderOf, Stands, Table, Searched, Inserted};
+use crate::words::word_at;
+use stream::byte;
+
+// A payload has fewer bytes than this: what an entry is beyond it, is a mark.
+const SPAN: usize = 33554432;
+
+// The weight of the first of eight bytes.
+const FIRST: u64 = 72057594037927936;
+
+// Whether the name was found, and where; where it belongs if not.
+pub struct Found {
+    pub some: bool,
+    pub at: usize,
+}
+
+// The order of the n bytes at p and the n bytes at q: 0 if they come before, 1 if they are the same, 2 if they come after.
+fn order_bytes(s: &[u8], p: usize, q: usize, n: usize) -> u8
+{
+    let mut i = 0usize;
+    while i < n {
+        let x = byte(s, 0, p + i);
+        let y = byte(s, 0, q + i);
+        if x < y {
+            return 0;
+        }
+        if y < x {
+            return 2;
+        }
+        i += 1;
+    }
+    1
+}
+
+// How many bits of the first eight bytes are not those of a name of n bytes and its length.
+fn spare_bits(n: usize) -> u64
+{
+    if n >= 7 {
+        return 0;
+    }
+    8 * (7 - n as u64)
+}
+
+// The length of a name of n bytes and its first bytes, as a number: the name stands behind p.
+fn word_of(s: &[u8], p: usize, n: usize, more: u64) -> u64
+{
+    word_at(s, p) % FIRST + (n as u64 + more) * FIRST
+}
+
+// The order of the name whose length stands at p and the n bytes behind q, of which w are the first without the spare bits.
+fn order(s: &[u8], p: usize, q: usize, n: usize, w: u64, more: u64) -> u8
+    requires { ⌜ Stands more (payload (now s)) p × (q + 9 + n ≤ room (now s)) × (n + more ≤ 255) ⌝ }
+    ensures { λ r. ⌜ r ≡ orderOf (nameAt more (payload (now (s .entry))) p) (part (payload (now (s .entry))) (q + 1) n) ⌝ }
+{
+    let x = word_at(s, p) >> spare_bits(n);
+    if x < w {
+        return 0;
+    }
+    if w < x {
+        return 2;
+    }
+    if n <= 7 {
+        return 1;
+    }
+    order_bytes(s, p + 8, q + 8, n - 7)
+}
+
+// The n bytes behind p among the first `count` entries, by halves.
+pub fn find_name(s: &[u8], t: &[u32], count: usize, p: usize, n: usize, more: u64) -> Found
+    requires { ⌜ (p + 9 + n ≤ room (now s)) × (n + more ≤ 255) × Table more (payload (now s)) (now t) count ⌝ }
+    ensures { λ r. ⌜ Searched more (payload (now (s .entry))) (now (t .entry)) count
+        (part (payload (now (s .entry))) (p + 1) n) (r .some) (r .at) ⌝ }
+{
+    let w = word_of(s, p, n, more) >> spare_bits(n);
+    let mut lo = 0usize;
+    let mut hi = count;
+    while lo < hi {
+        let mid = lo + (hi - lo) / 2;
+        let o = order(s, t[mid] as usize % SPAN, p, n, w, more);
+        if o == 1 {
+            return Found {
+                some: true,
+                at: mid,
+            };
+        }
+        if o == 0 {
+            lo = mid + 1;
+        } else {
+            hi = mid;
+        }
+    }
+    Found {
+        some: false,
+        at: lo,
+    }
+}
+
+// The entries from `at` to n - 1 move up by one.
+fn make_room(t: &mut [u32], at: usize, n: usize)
+{
+    let mut k = n;
+    while k > at {
+        t[k] = t[k - 1];
+        k -= 1;
+    }
+}
+
+// The name of n bytes whose length stands at p becomes one of the first `count` entries, unless it is one of them. How many there are then. Most names come in their order: the last entry is looked at first.
+pub fn insert(s: &[u8], t: &mut [u32], count: usize, p: usize, n: usize, more: u64) -> usize
+    requires { ⌜ (p < 33554432) × Stands more (payload (now s)) p × (n + more ≡ getD (payload (now s)) p 0) × (n + more ≤ 255)
+        × (count < length (now t)) × Table more (payload (now s)) (now t) count ⌝ }
+    ensures { λ r. ⌜ Inserted more (payload (now (s .entry))) (now (t .entry)) (now (t .exit)) count r
+        (part (payload (now (s .entry))) (p + 1) n) ⌝ }
+{
+    if count > 0 {
+        let w = word_of(s, p, n, more) >> spare_bits(n);
+        let last = t[count - 1] as usize % SPAN;
+        if order(s, last, p, n, w, more) == 0 {
+            t[count] = p as u32;
+            return count + 1;
+        }
+    }
+    let f = find_name(s, t, count, p, n, more);
+    if f.some {
+        return count;
+    }
+    let at = f.at;
+    make_room(t, at, count);
+    t[at] = p as u32;
+    count + 1
+}
+
+// The mark of entry k, which has none from then on.
+pub fn unmark(t: &mut [u32], k: usize) -> usize
+    requires { ⌜ k < length (now t) ⌝ }
+    ensures { λ r. ⌜ (r ≡ markOf (getD (now (t .entry)) k 0))
+        × (now (t .exit) ≡ set (now (t .entry)) k (getD (now (t .entry)) k 0 % 33554432)) ⌝ }
+{
+    let e = t[k];
+    t[k] = e % 33554432;
+    (e / 33554432) as usize
+}
