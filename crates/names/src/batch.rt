@@ -2,14 +2,17 @@
 //
 // What was found stands in 64 slots, four numbers of a key and two of a point. Mark m of an entry, from 1 to 64, is slot m - 1; mark 65 is that no slot was left.
 ghost use mathlib.Core.Path.{_≡_};
-ghost use Prim.Native.Nat.{_≤_, _<_};
-ghost use lib.ListN.{length};
+ghost use mathlib.Core.Bool.{true, false};
+ghost use Prim.Native.Nat.{_+_, _*_, _≤_, _<_};
+ghost use lib.ListN.{length, getD};
 ghost use Rattle.stream.specs.Payload.{payload};
 ghost use Rattle.stream.specs.Contracts.Payload.{room};
+ghost use Rattle.scene.specs.Contracts.Answers.{bestBy, itemsAt};
 ghost use Rattle.names.specs.Contracts.Table.{Table, Unmarked};
-ghost use Rattle.names.specs.Contracts.Batch.{Noted};
+ghost use Rattle.names.specs.Contracts.Batch.{slotsOf, Slot, Had, Put, Held, Met, placeStep, placesStep, itemStep, itemsStep, Noted};
 use crate::table::find_name;
 use records::find;
+use records::seek;
 use records::wide;
 use scene::Best;
 use scene::Key;
@@ -18,6 +21,7 @@ use scene::consider_place;
 use stream::byte;
 
 fn no_best() -> Best
+    ensures { λ r. ⌜ r .some ≡ false ⌝ }
 {
     Best {
         some: false,
@@ -34,6 +38,8 @@ fn no_best() -> Best
 
 // What slot m holds.
 fn best_at(keys: &[u32], spots: &[f64], m: usize) -> Best
+    requires { ⌜ (4 * m + 4 ≤ length (now keys)) × (2 * m + 2 ≤ length (now spots)) ⌝ }
+    ensures { λ r. ⌜ Slot (now (keys .entry)) (now (spots .entry)) m r ⌝ }
 {
     Best {
         some: true,
@@ -49,10 +55,11 @@ fn best_at(keys: &[u32], spots: &[f64], m: usize) -> Best
 }
 
 fn put_best(keys: &mut [u32], spots: &mut [f64], m: usize, b: Best)
+    requires { ⌜ (4 * m + 4 ≤ length (now keys)) × (2 * m + 2 ≤ length (now spots)) × (b .key .order < 4294967296) ⌝ }
+    ensures { λ r. ⌜ Put (now (keys .entry)) (now (keys .exit)) (now (spots .entry)) (now (spots .exit)) m b ⌝ }
 {
     let key = b.key;
-    let top = if key.top { 1u32 } else { 0u32 };
-    keys[4 * m] = top;
+    keys[4 * m] = key.top as u32;
     keys[4 * m + 1] = key.line;
     keys[4 * m + 2] = key.col;
     keys[4 * m + 3] = key.order as u32;
@@ -62,6 +69,8 @@ fn put_best(keys: &mut [u32], spots: &mut [f64], m: usize, b: Best)
 
 // What was found for an entry with the mark m.
 fn best_of(keys: &[u32], spots: &[f64], m: usize) -> Best
+    requires { ⌜ (length (now keys) ≡ 256) × (length (now spots) ≡ 128) ⌝ }
+    ensures { λ r. ⌜ Had (now (keys .entry)) (now (spots .entry)) m r ⌝ }
 {
     if m == 0 {
         return no_best();
@@ -74,6 +83,10 @@ fn best_of(keys: &[u32], spots: &[f64], m: usize) -> Best
 
 // The best for entry k is b from now on. How many slots are used then.
 fn hold(t: &mut [u32], keys: &mut [u32], spots: &mut [f64], used: usize, k: usize, b: Best) -> usize
+    requires { ⌜ (k < length (now t)) × (length (now keys) ≡ 256) × (length (now spots) ≡ 128)
+        × (b .some ≡ true → b .key .order < 4294967296) ⌝ }
+    ensures { λ r. ⌜ Held k (bestBy b) (slotsOf (now (t .entry)) (now (keys .entry)) (now (spots .entry)) used)
+        (slotsOf (now (t .exit)) (now (keys .exit)) (now (spots .exit)) r) ⌝ }
 {
     if !b.some {
         return used;
@@ -95,17 +108,65 @@ fn hold(t: &mut [u32], keys: &mut [u32], spots: &mut [f64], used: usize, k: usiz
     used + 1
 }
 
-// The place at q, the i-th, has the name of entry k.
-fn note_place(s: &[u8], t: &mut [u32], keys: &mut [u32], spots: &mut [f64], used: usize, k: usize, q: usize, i: usize) -> usize
+// The place at q, the i-th: a candidate for the name that it has, if that is one of the first `count` entries.
+fn note_place(
+    s: &[u8],
+    t: &mut [u32],
+    count: usize,
+    more: u64,
+    keys: &mut [u32],
+    spots: &mut [f64],
+    used: usize,
+    q: usize,
+    i: usize,
+) -> usize
+    requires { ⌜ (q + 10 + getD (payload (now s)) (q + 1) 0 ≤ room (now s)) × (getD (payload (now s)) (q + 1) 0 + more ≤ 255)
+        × (i < 4294967296) × Table more (payload (now s)) (now t) count × (length (now keys) ≡ 256) × (length (now spots) ≡ 128) ⌝ }
+    ensures { λ r. ⌜ Met more (payload (now (s .entry))) count
+        (slotsOf (now (t .entry)) (now (keys .entry)) (now (spots .entry)) used)
+        (slotsOf (now (t .exit)) (now (keys .exit)) (now (spots .exit)) r) (placeStep (payload (now (s .entry))) q i) ⌝ }
 {
+    let n = wide(byte(s, 0, q + 1));
+    let f = find_name(s, t, count, q + 1, n, more);
+    if !f.some {
+        return used;
+    }
+    let k = f.at;
     let old = best_of(keys, spots, (t[k] / 33554432) as usize);
-    hold(t, keys, spots, used, k, consider_place(s, old, q, i))
+    let b = consider_place(s, old, q, i);
+    hold(t, keys, spots, used, k, b)
 }
 
-fn note_item(s: &[u8], t: &mut [u32], keys: &mut [u32], spots: &mut [f64], used: usize, k: usize, q: usize, i: usize) -> usize
+// The item at q, the i-th, if it has a label.
+fn note_item(
+    s: &[u8],
+    t: &mut [u32],
+    count: usize,
+    more: u64,
+    keys: &mut [u32],
+    spots: &mut [f64],
+    used: usize,
+    q: usize,
+    i: usize,
+) -> usize
+    requires { ⌜ (q + 12 + getD (payload (now s)) (q + 3) 0 ≤ room (now s)) × (getD (payload (now s)) (q + 3) 0 + more ≤ 255)
+        × (i < 4294967296) × Table more (payload (now s)) (now t) count × (length (now keys) ≡ 256) × (length (now spots) ≡ 128) ⌝ }
+    ensures { λ r. ⌜ Met more (payload (now (s .entry))) count
+        (slotsOf (now (t .entry)) (now (keys .entry)) (now (spots .entry)) used)
+        (slotsOf (now (t .exit)) (now (keys .exit)) (now (spots .exit)) r) (itemStep (payload (now (s .entry))) q i) ⌝ }
 {
+    let n = wide(byte(s, 0, q + 3));
+    if n == 0 {
+        return used;
+    }
+    let f = find_name(s, t, count, q + 3, n, more);
+    if !f.some {
+        return used;
+    }
+    let k = f.at;
     let old = best_of(keys, spots, (t[k] / 33554432) as usize);
-    hold(t, keys, spots, used, k, consider_item(s, old, q, i))
+    let b = consider_item(s, old, q, i);
+    hold(t, keys, spots, used, k, b)
 }
 
 // How many slots are used, and where the items are asked for: behind the places.
@@ -115,30 +176,36 @@ pub struct Walked {
 }
 
 fn note_places(s: &[u8], p: usize, t: &mut [u32], count: usize, more: u64, keys: &mut [u32], spots: &mut [f64]) -> Walked
+    requires { ⌜ (room (now s) < 33554432) × (more ≤ 4) × Table more (payload (now s)) (now t) count
+        × (length (now keys) ≡ 256) × (length (now spots) ≡ 128) ⌝ }
+    ensures { λ r. ⌜ Met more (payload (now (s .entry))) count
+        (slotsOf (now (t .entry)) (now (keys .entry)) (now (spots .entry)) 0)
+        (slotsOf (now (t .exit)) (now (keys .exit)) (now (spots .exit)) (r .used)) (placesStep (payload (now (s .entry))) p) ⌝ }
+    ensures { λ r. ⌜ itemsAt (payload (now (s .entry))) p ≡ itemsAt (payload (now (s .entry))) (r .end) ⌝ }
 {
     let mut used = 0usize;
     let mut q = p;
     let mut i = 0usize;
     loop {
-        let h = find(s, q, 5, 0);
+        let h = seek(s, q, 5, 0);
         if !h.some {
             return Walked {
                 used: used,
                 end: h.at,
             };
         }
-        let at = h.at;
-        let n = wide(byte(s, 0, at + 1));
-        let f = find_name(s, t, count, at + 1, n, more);
-        if f.some {
-            used = note_place(s, t, keys, spots, used, f.at, at, i);
-        }
+        used = note_place(s, t, count, more, keys, spots, used, h.at, i);
         q = h.next;
         i += 1;
     }
 }
 
 fn note_items(s: &[u8], p: usize, t: &mut [u32], count: usize, more: u64, keys: &mut [u32], spots: &mut [f64], places: usize) -> usize
+    requires { ⌜ (room (now s) < 33554432) × (more ≤ 4) × Table more (payload (now s)) (now t) count
+        × (length (now keys) ≡ 256) × (length (now spots) ≡ 128) ⌝ }
+    ensures { λ r. ⌜ Met more (payload (now (s .entry))) count
+        (slotsOf (now (t .entry)) (now (keys .entry)) (now (spots .entry)) places)
+        (slotsOf (now (t .exit)) (now (keys .exit)) (now (spots .exit)) r) (itemsStep (payload (now (s .entry))) p) ⌝ }
 {
     let mut used = places;
     let mut q = p;
@@ -148,14 +215,7 @@ fn note_items(s: &[u8], p: usize, t: &mut [u32], count: usize, more: u64, keys: 
         if !h.some {
             return used;
         }
-        let at = h.at;
-        let n = wide(byte(s, 0, at + 3));
-        if n != 0 {
-            let f = find_name(s, t, count, at + 3, n, more);
-            if f.some {
-                used = note_item(s, t, keys, spots, used, f.at, at, i);
-            }
-        }
+        used = note_item(s, t, count, more, keys, spots, used, h.at, i);
         q = h.next;
         i += 1;
     }

@@ -3,12 +3,13 @@
 // Names are ordered by their length, then by their bytes, so that eight bytes from the length on decide most comparisons.
 // The names of one table have lengths that are `more` too great: 4 for `_lon` variables, whose ending is not counted, else 0.
 ghost use mathlib.Core.Path.{_≡_};
-ghost use Prim.Native.Nat.{_+_, _-_, _≤_, _<_, _%_};
+ghost use Prim.Native.Nat.{_+_, _-_, _*_, _≤_, _<_, _%_};
 ghost use lib.ListN.{length, getD, set};
 ghost use Rattle.stream.specs.Payload.{payload};
 ghost use Rattle.stream.specs.Contracts.Payload.{room};
 ghost use Rattle.records.specs.Records.{part};
-ghost use Rattle.names.specs.Contracts.Table.{nameAt, markOf, orderOf, Stands, Table, Searched, Inserted};
+ghost use Rattle.names.specs.Contracts.Words.{wordOf, frontOf};
+ghost use Rattle.names.specs.Contracts.Table.{nameAt, markOf, orderOf, Stands, Table, Searched, Opened, Inserted};
 use crate::words::word_at;
 use stream::byte;
 
@@ -26,6 +27,8 @@ pub struct Found {
 
 // The order of the n bytes at p and the n bytes at q: 0 if they come before, 1 if they are the same, 2 if they come after.
 fn order_bytes(s: &[u8], p: usize, q: usize, n: usize) -> u8
+    requires { ⌜ (p + n ≤ room (now s)) × (q + n ≤ room (now s)) ⌝ }
+    ensures { λ r. ⌜ r ≡ orderOf (part (payload (now (s .entry))) p n) (part (payload (now (s .entry))) q n) ⌝ }
 {
     let mut i = 0usize;
     while i < n {
@@ -44,6 +47,7 @@ fn order_bytes(s: &[u8], p: usize, q: usize, n: usize) -> u8
 
 // How many bits of the first eight bytes are not those of a name of n bytes and its length.
 fn spare_bits(n: usize) -> u64
+    ensures { λ r. ⌜ r ≡ 8 * (7 - n) ⌝ }
 {
     if n >= 7 {
         return 0;
@@ -53,13 +57,16 @@ fn spare_bits(n: usize) -> u64
 
 // The length of a name of n bytes and its first bytes, as a number: the name stands behind p.
 fn word_of(s: &[u8], p: usize, n: usize, more: u64) -> u64
+    requires { ⌜ (p + 8 ≤ room (now s)) × (n + more ≤ 255) ⌝ }
+    ensures { λ r. ⌜ r ≡ wordOf (payload (now (s .entry))) p (n + more) ⌝ }
 {
     word_at(s, p) % FIRST + (n as u64 + more) * FIRST
 }
 
 // The order of the name whose length stands at p and the n bytes behind q, of which w are the first without the spare bits.
 fn order(s: &[u8], p: usize, q: usize, n: usize, w: u64, more: u64) -> u8
-    requires { ⌜ Stands more (payload (now s)) p × (q + 9 + n ≤ room (now s)) × (n + more ≤ 255) ⌝ }
+    requires { ⌜ Stands more (payload (now s)) p × (q + 9 + n ≤ room (now s)) × (n + more ≤ 255)
+        × (w ≡ frontOf (wordOf (payload (now s)) q (n + more)) n) ⌝ }
     ensures { λ r. ⌜ r ≡ orderOf (nameAt more (payload (now (s .entry))) p) (part (payload (now (s .entry))) (q + 1) n) ⌝ }
 {
     let x = word_at(s, p) >> spare_bits(n);
@@ -107,6 +114,8 @@ pub fn find_name(s: &[u8], t: &[u32], count: usize, p: usize, n: usize, more: u6
 
 // The entries from `at` to n - 1 move up by one.
 fn make_room(t: &mut [u32], at: usize, n: usize)
+    requires { ⌜ (at ≤ n) × (n < length (now t)) ⌝ }
+    ensures { λ r. ⌜ Opened (now (t .entry)) (now (t .exit)) at n ⌝ }
 {
     let mut k = n;
     while k > at {

@@ -65,6 +65,12 @@ pub record Searched (more : ℕ) (l t : List ℕ) (n : ℕ) (x : List ℕ) (b : 
   pub is : b ≡ true → nameOf more l (getD t k 0) ≡ x
   pub gap : b ≡ false → Gap more l t n x k
 
+-- entries from `at` to n - 1 moved up by one
+pub record Opened (t t′ : List ℕ) (at n : ℕ) : Type 0 where
+  pub size : length t′ ≡ length t
+  pub low : (i : ℕ) → i ≤ at → getD t′ i 0 ≡ getD t i 0
+  pub high : (i : ℕ) → at ≤ i → i < n → getD t′ (i + 1) 0 ≡ getD t i 0
+
 -- x became one of them, unless it was
 pub record Inserted (more : ℕ) (l t t′ : List ℕ) (n r : ℕ) (x : List ℕ) : Type 0 where
   pub count : (n ≤ r) × (r ≤ n + 1)

@@ -1,5 +1,5 @@
 -- The big-endian numbers that stand at p of a list of bytes: their order is that of the bytes.
-use Prim.Native.Nat.{ℕ, _+_, _*_}
+use Prim.Native.Nat.{ℕ, _+_, _-_, _*_, _/_, _%_, _^_}
 use mathlib.Core.List.{List}
 use lib.ListN.{getD}
 
@@ -11,3 +11,11 @@ be32At l p = 65536 * be16At l p + be16At l (p + 2)
 
 unfoldable pub be64At : List ℕ → ℕ → ℕ
 be64At l p = 4294967296 * be32At l p + be32At l (p + 4)
+
+-- the eight bytes at p, the first of them being v
+unfoldable pub wordOf : List ℕ → ℕ → ℕ → ℕ
+wordOf l p v = be64At l p % 72057594037927936 + v * 72057594037927936
+
+-- of eight bytes a name's length and its first bytes, where it has n
+abbrev pub frontOf : ℕ → ℕ → ℕ
+frontOf x n = x / 2 ^ (8 * (7 - n))

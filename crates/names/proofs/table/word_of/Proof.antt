@@ -1,0 +1,31 @@
+use borrow.Author.Needs.{needs}
+use Rattle.names.specs.Contracts.Words.{wordOf}
+use Rattle.names.proofs.table.word_of.Statement.{statement}
+use Rattle.names.proofs.table.word_of.Tie as tie
+use Rattle.names.proofs.table.word_of.Reads as reads
+use Rattle.names.proofs.table.word_of.Lts as lts
+use Rattle.names.proofs.words.word_at.Reads as word-at-reads
+
+-- src/table.rt:63:5
+word-at-requires : tie.Need-word-at-requires
+word-at-requires c κs = search needs
+
+-- src/table.rt:63:30
+add-result : tie.Need-add-result
+add-result c = search needs
+
+-- src/table.rt:63:29
+mul-result : tie.Need-mul-result
+mul-result c = search needs
+
+-- src/table.rt:63:5
+add-result-2 : tie.Need-add-result-2
+add-result-2 c = search needs
+
+-- src/table.rt:59:1
+returns : tie.Need-returns
+unfolding wordOf
+returns c = search needs
+
+pub word-of-spec : {M : Type 1} → statement M
+word-of-spec = tie.close (tie.spec word-at-requires add-result mul-result add-result-2 returns)
