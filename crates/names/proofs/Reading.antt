@@ -140,7 +140,21 @@ behind l r n h =
     ap (λ (z : ℕ). drop 7 (take z (drop (r + 1) l))) m ∙ drop-take 7 (n - 7) (drop (r + 1) l) ∙ ap (take (n - 7)) (drop-drop 7 (r + 1) l ∙ ap (λ (z : ℕ). drop z l) j)
 
 -- ---- the name whose length stands at p, and the n bytes behind q
-module _ (l : List ℕ) (b : Bytes l) (more p q n : ℕ) (st : Stands more l p) (fq : q + 9 + n ≤ length l) where
+-- x and w are the numbers of what is compared of them
+pub record Pair (more : ℕ) (l : List ℕ) (p q n x w : ℕ) : Type 0 where
+  pub bytes : Bytes l
+  pub stands : Stands more l p
+  pub fits : q + 9 + n ≤ length l
+  pub own : x ≡ frontOf (be64At l p) n
+  pub sought : w ≡ frontOf (wordOf l q (n + more)) n
+
+module _ {more : ℕ} {l : List ℕ} {p q n x w : ℕ} (pair : Pair more l p q n x w) where
+  abbrev b : Bytes l
+  b = pair .bytes
+
+  abbrev st : Stands more l p
+  st = pair .stands
+
   abbrev head : ℕ
   head = getD l p 0
 
@@ -167,114 +181,113 @@ module _ (l : List ℕ) (b : Bytes l) (more p q n : ℕ) (st : Stands more l p) 
   longer : n + more < head → 2 ≡ orderOf (nameAt more l p) B
   longer h = sym (order-more _ _ (before-less (length B) (length (nameAt more l p)) _ _ (omega (arith, len-b, len-name, st .least))))
 
-  module _ (x w : ℕ) {v : ℕ} (ev : v ≡ be64At l p) (ex : x ≡ frontOf v n) (ew : w ≡ frontOf (wordOf l q (n + more)) n) where
-    abbrev As : List ℕ
-    As = take kept (drop (p + 1) l)
+  abbrev As : List ℕ
+  As = take kept (drop (p + 1) l)
 
-    abbrev Bs : List ℕ
-    Bs = take kept (drop (q + 1) l)
+  abbrev Bs : List ℕ
+  Bs = take kept (drop (q + 1) l)
 
-    x-is : x ≡ beOf head As
-    x-is = ex ∙ ap (λ (z : ℕ). frontOf z n) (ev ∙ own-first l b p (omega (arith, st .fits))) ∙ front-word l b p (omega (arith, st .fits)) head n
+  x-is : x ≡ beOf head As
+  x-is = pair .own ∙ ap (λ (z : ℕ). frontOf z n) (own-first l b p (omega (arith, st .fits))) ∙ front-word l b p (omega (arith, st .fits)) head n
 
-    w-is : w ≡ beOf (n + more) Bs
-    w-is = ew ∙ front-word l b q (omega arith) (n + more) n
+  w-is : w ≡ beOf (n + more) Bs
+  w-is = pair .sought ∙ front-word l b q (omega arith) (n + more) n
 
-    sizes : length As ≡ length Bs
-    sizes = front-size l (p + 1) kept (omega (arith, st .fits)) ∙ sym (front-size l (q + 1) kept (omega arith))
+  sizes : length As ≡ length Bs
+  sizes = front-size l (p + 1) kept (omega (arith, st .fits)) ∙ sym (front-size l (q + 1) kept (omega arith))
 
-    -- the lengths are the same
-    module _ (e : head ≡ n + more) where
-      fits : p + 9 + n ≤ length l
-      fits = omega (arith, st .fits)
+  -- the lengths are the same
+  module _ (e : head ≡ n + more) where
+    fits : p + 9 + n ≤ length l
+    fits = omega (arith, st .fits)
 
-      name-is : nameAt more l p ≡ A
-      unfolding nameAt
-      name-is = let g : head - more ≡ n = omega arith in rw g refl
+    name-is : nameAt more l p ≡ A
+    unfolding nameAt
+    name-is = let g : head - more ≡ n = omega arith in rw g refl
 
-      len-a : length A ≡ n
-      len-a = part-length l (p + 1) n (omega (arith, fits))
+    len-a : length A ≡ n
+    len-a = part-length l (p + 1) n (omega (arith, fits))
 
-      front-a : take kept A ≡ As
-      unfolding part
-      front-a = take-take kept n (drop (p + 1) l) (omega arith)
+    front-a : take kept A ≡ As
+    unfolding part
+    front-a = take-take kept n (drop (p + 1) l) (omega arith)
 
-      front-b : take kept B ≡ Bs
-      unfolding part
-      front-b = take-take kept n (drop (q + 1) l) (omega arith)
+    front-b : take kept B ≡ Bs
+    unfolding part
+    front-b = take-take kept n (drop (q + 1) l) (omega arith)
 
-      split-a : A ≡ As ++ drop kept A
-      split-a = rw front-a at (sym (take-append-drop kept A))
+    split-a : A ≡ As ++ drop kept A
+    split-a = rw front-a at (sym (take-append-drop kept A))
 
-      split-b : B ≡ Bs ++ drop kept B
-      split-b = rw front-b at (sym (take-append-drop kept B))
+    split-b : B ≡ Bs ++ drop kept B
+    split-b = rw front-b at (sym (take-append-drop kept B))
 
-      level-x : x ≡ beOf (n + more) As
-      level-x = rw e at x-is
+    level-x : x ≡ beOf (n + more) As
+    level-x = rw e at x-is
 
-      equal-less : x < w → 0 ≡ orderOf A B
-      equal-less h =
-          let g : before (As ++ drop kept A) (Bs ++ drop kept B) ≡ true = be-before (n + more) As Bs (drop kept A) (drop kept B) sizes (bytes-take l b (q + 1) kept) (omega (arith, level-x, w-is)) in
-          level-less A B (len-a ∙ sym len-b) (ap (λ (z : List ℕ). before z B) split-a ∙ ap (λ (z : List ℕ). before (As ++ drop kept A) z) split-b ∙ g)
+    equal-less : x < w → 0 ≡ orderOf A B
+    equal-less h =
+        let g : before (As ++ drop kept A) (Bs ++ drop kept B) ≡ true = be-before (n + more) As Bs (drop kept A) (drop kept B) sizes (bytes-take l b (q + 1) kept) (omega (arith, level-x, w-is)) in
+        level-less A B (len-a ∙ sym len-b) (ap (λ (z : List ℕ). before z B) split-a ∙ ap (λ (z : List ℕ). before (As ++ drop kept A) z) split-b ∙ g)
 
-      equal-more : w < x → 2 ≡ orderOf A B
-      equal-more h =
-          let g : before (Bs ++ drop kept B) (As ++ drop kept A) ≡ true = be-before (n + more) Bs As (drop kept B) (drop kept A) (sym sizes) (bytes-take l b (p + 1) kept) (omega (arith, level-x, w-is)) in
-          level-more A B (len-a ∙ sym len-b) (ap (λ (z : List ℕ). before z A) split-b ∙ ap (λ (z : List ℕ). before (Bs ++ drop kept B) z) split-a ∙ g)
+    equal-more : w < x → 2 ≡ orderOf A B
+    equal-more h =
+        let g : before (Bs ++ drop kept B) (As ++ drop kept A) ≡ true = be-before (n + more) Bs As (drop kept B) (drop kept A) (sym sizes) (bytes-take l b (p + 1) kept) (omega (arith, level-x, w-is)) in
+        level-more A B (len-a ∙ sym len-b) (ap (λ (z : List ℕ). before z A) split-b ∙ ap (λ (z : List ℕ). before (Bs ++ drop kept B) z) split-a ∙ g)
 
-      equal-same : x ≤ w → w ≤ x → orderOf A B ≡ orderOf (drop kept A) (drop kept B)
-      equal-same h k =
-          let g : As ≡ Bs = be-same (n + more) As Bs sizes (bytes-take l b (p + 1) kept) (bytes-take l b (q + 1) kept) (omega (arith, level-x, w-is)) in
-          let s : length (drop kept A) ≡ length (drop kept B) = simp length-drop (omega (arith, len-a, len-b)) in
-          ap (λ (z : List ℕ). orderOf z B) (split-a ∙ ap (λ (z : List ℕ). z ++ drop kept A) g) ∙ ap (orderOf (Bs ++ drop kept A)) split-b ∙ order-front Bs (drop kept A) (drop kept B) s
+    equal-same : x ≤ w → w ≤ x → orderOf A B ≡ orderOf (drop kept A) (drop kept B)
+    equal-same h k =
+        let g : As ≡ Bs = be-same (n + more) As Bs sizes (bytes-take l b (p + 1) kept) (bytes-take l b (q + 1) kept) (omega (arith, level-x, w-is)) in
+        let s : length (drop kept A) ≡ length (drop kept B) = simp length-drop (omega (arith, len-a, len-b)) in
+        ap (λ (z : List ℕ). orderOf z B) (split-a ∙ ap (λ (z : List ℕ). z ++ drop kept A) g) ∙ ap (orderOf (Bs ++ drop kept A)) split-b ∙ order-front Bs (drop kept A) (drop kept B) s
 
-    less-head : head < n + more → x < w
-    less-head h = rw (x-is, w-is) (be-less head (n + more) As Bs sizes (bytes-take l b (p + 1) kept) h)
+  less-head : head < n + more → x < w
+  less-head h = rw (x-is, w-is) (be-less head (n + more) As Bs sizes (bytes-take l b (p + 1) kept) h)
 
-    more-head : n + more < head → w < x
-    more-head h = rw (x-is, w-is) (be-less (n + more) head Bs As (sym sizes) (bytes-take l b (q + 1) kept) h)
+  more-head : n + more < head → w < x
+  more-head h = rw (x-is, w-is) (be-less (n + more) head Bs As (sym sizes) (bytes-take l b (q + 1) kept) h)
 
-    pub word-less : x < w → 0 ≡ orderOf (nameAt more l p) B
-    word-less h =
+  pub word-less : x < w → 0 ≡ orderOf (nameAt more l p) B
+  word-less h =
+      elim (decLt head (n + more)) [
+        | yes k ↦ shorter k
+        | no k ↦
+            elim (decLt (n + more) head) [
+              | yes m ↦ absurd (omega (arith, more-head m))
+              | no m ↦ let e : head ≡ n + more = omega arith in rw (name-is e) (equal-less e h)
+            ]
+      ]
+
+  pub word-more : w < x → 2 ≡ orderOf (nameAt more l p) B
+  word-more h =
+      elim (decLt (n + more) head) [
+        | yes k ↦ longer k
+        | no k ↦
+            elim (decLt head (n + more)) [
+              | yes m ↦ absurd (omega (arith, less-head m))
+              | no m ↦ let e : head ≡ n + more = omega arith in rw (name-is e) (equal-more e h)
+            ]
+      ]
+
+  module _ (f : x ≤ w) (g : w ≤ x) where
+    pub heads : head ≡ n + more
+    heads =
         elim (decLt head (n + more)) [
-          | yes k ↦ shorter k
+          | yes k ↦ absurd (omega (arith, less-head k))
           | no k ↦
               elim (decLt (n + more) head) [
                 | yes m ↦ absurd (omega (arith, more-head m))
-                | no m ↦ let e : head ≡ n + more = omega arith in rw (name-is e) (equal-less e h)
+                | no m ↦ omega arith
               ]
         ]
 
-    pub word-more : w < x → 2 ≡ orderOf (nameAt more l p) B
-    word-more h =
-        elim (decLt (n + more) head) [
-          | yes k ↦ longer k
-          | no k ↦
-              elim (decLt head (n + more)) [
-                | yes m ↦ absurd (omega (arith, less-head m))
-                | no m ↦ let e : head ≡ n + more = omega arith in rw (name-is e) (equal-more e h)
-              ]
-        ]
+    pub word-same : n ≤ 7 → 1 ≡ orderOf (nameAt more l p) B
+    word-same h =
+        let none : (a : List ℕ) → length a ≡ n → drop kept a ≡ [] = λ a e. drop-of-length-le a {i = kept} (omega arith) in
+        rw (name-is heads) (sym (equal-same heads f g ∙ order-same _ _ (none A (len-a heads) ∙ sym (none B len-b))))
 
-    module _ (f : x ≤ w) (g : w ≤ x) where
-      pub heads : head ≡ n + more
-      heads =
-          elim (decLt head (n + more)) [
-            | yes k ↦ absurd (omega (arith, less-head k))
-            | no k ↦
-                elim (decLt (n + more) head) [
-                  | yes m ↦ absurd (omega (arith, more-head m))
-                  | no m ↦ omega arith
-                ]
-          ]
-
-      pub word-same : n ≤ 7 → 1 ≡ orderOf (nameAt more l p) B
-      word-same h =
-          let none : (a : List ℕ) → length a ≡ n → drop kept a ≡ [] = λ a e. drop-of-length-le a {i = kept} (omega arith) in
-          rw (name-is heads) (sym (equal-same heads f g ∙ order-same _ _ (none A (len-a heads) ∙ sym (none B len-b))))
-
-      pub word-rest : {o : ℕ} → 7 < n → o ≡ orderOf (part l (p + 8) (n - 7)) (part l (q + 8) (n - 7)) → o ≡ orderOf (nameAt more l p) B
-      word-rest h e =
-          let k : kept ≡ 7 = omega arith in
-          let r : orderOf A B ≡ orderOf (drop 7 A) (drop 7 B) = rw k at (equal-same heads f g) in
-          rw (name-is heads) (e ∙ sym (r ∙ ap (λ (z : List ℕ). orderOf z (drop 7 B)) (behind l p n h) ∙ ap (orderOf (part l (p + 8) (n - 7))) (behind l q n h)))
+    pub word-rest : {o : ℕ} → 7 < n → o ≡ orderOf (part l (p + 8) (n - 7)) (part l (q + 8) (n - 7)) → o ≡ orderOf (nameAt more l p) B
+    word-rest h e =
+        let k : kept ≡ 7 = omega arith in
+        let r : orderOf A B ≡ orderOf (drop 7 A) (drop 7 B) = rw k at (equal-same heads f g) in
+        rw (name-is heads) (e ∙ sym (r ∙ ap (λ (z : List ℕ). orderOf z (drop 7 B)) (behind l p n h) ∙ ap (orderOf (part l (p + 8) (n - 7))) (behind l q n h)))

@@ -1,55 +1,66 @@
 use borrow.Author.Needs.{needs}
+use mathlib.Core.Path.{ap, _∙_}
+use Prim.Native.Nat.{ℕ, _+_, _/_, _^_, _≤_}
+use native.Mathlib.Omega.{arith}
+use Rattle.stream.specs.Payload.{payload}
+use Rattle.stream.specs.Contracts.Payload.{room}
+use Rattle.stream.specs.Laws.Payload.{payload-length, bytes-payload}
+use Rattle.names.specs.Contracts.Words.{be64At}
+use Rattle.names.proofs.Reading.{Pair, word-less, word-more, word-same, word-rest, heads}
 use Rattle.names.proofs.table.order.Statement.{statement}
 use Rattle.names.proofs.table.order.Tie as tie
-use Rattle.names.proofs.table.order.Reads as reads
-use Rattle.names.proofs.table.order.Lts as lts
-use Rattle.names.proofs.table.order_bytes.Reads as order-bytes-reads
-use Rattle.names.proofs.table.spare_bits.Reads as spare-bits-reads
-use Rattle.names.proofs.words.word_at.Reads as word-at-reads
 
--- src/table.rt:72:13
+pair : (v : tie.After-spare-bits) → let a = v .before .before .before .args in Pair (a .more) (payload (a .s .now)) (a .p) (a .q) (a .n) (v .before .word-at .result / 2 ^ v .spare-bits .result) (a .w)
+pair v =
+    let o = v .before .before .before in
+    let s = o .args .s .now in
+    record {
+      bytes = bytes-payload s (λ j. omega (arith, v .before .before .shared-slice-known .given j));
+      stands = o .pre .0;
+      fits = omega (arith, payload-length s);
+      own = ap (λ (z : ℕ). z / 2 ^ v .spare-bits .result) (v .before .word-at .ensures) ∙ ap (λ (z : ℕ). be64At (payload s) (o .args .p) / 2 ^ z) (v .spare-bits .ensures);
+      sought = o .pre .3;
+    }
+
+-- the name has n bytes too
+fits : (w : tie.Else3) → let a = w .before .before .before .before .before .before .args in a .p + 9 + a .n ≤ room (a .s .now)
+fits w =
+    let v = w .before .before .before in
+    let o = v .before .before .before in
+    omega (arith, heads (pair v) (omega arith) (omega arith), o .pre .0 .fits, payload-length (o .args .s .now))
+
 word-at-requires : tie.Need-word-at-requires
-word-at-requires c κs = ?
+word-at-requires c κs = omega (arith, c .before .pre .0 .fits, payload-length (c .before .args .s .now))
 
--- src/table.rt:72:30
 spare-bits-requires : tie.Need-spare-bits-requires
 spare-bits-requires c κs = search needs
 
--- src/table.rt:72:13
 shr-x : tie.Need-shr-x
 shr-x c = search needs
 
--- src/table.rt:74:9
 returns : tie.Need-returns
-returns c = ?
+returns c = word-less (pair (c .before)) (c .if1 .taken)
 
--- src/table.rt:77:9
 returns-2 : tie.Need-returns-2
-returns-2 c = ?
+returns-2 c = word-more (pair (c .before .before)) (c .if2 .taken)
 
--- src/table.rt:80:9
 returns-3 : tie.Need-returns-3
-returns-3 c = ?
+returns-3 c = word-same (pair (c .before .before .before)) (omega arith) (omega arith) (c .if3 .taken)
 
--- src/table.rt:82:20
 add-order-bytes : tie.Need-add-order-bytes
-add-order-bytes c = ?
+add-order-bytes c = omega (arith, fits c)
 
--- src/table.rt:82:27
 add-order-bytes-2 : tie.Need-add-order-bytes-2
 add-order-bytes-2 c = search needs
 
--- src/table.rt:82:34
 sub-order-bytes : tie.Need-sub-order-bytes
 sub-order-bytes c = search needs
 
--- src/table.rt:82:5
 order-bytes-requires : tie.Need-order-bytes-requires
-order-bytes-requires c κs = ?
+order-bytes-requires c κs = (omega (arith, fits c), omega arith)
 
--- src/table.rt:67:1
 returns-4 : tie.Need-returns-4
-returns-4 c = ?
+returns-4 c = word-rest (pair (c .before .before .before .before)) (omega arith) (omega arith) (omega arith) (c .order-bytes .ensures)
 
 pub order-spec : {M : Type 1} → statement M
 order-spec =
