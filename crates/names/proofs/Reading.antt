@@ -45,6 +45,10 @@ pub number-straight : (s : List ℕ) (p at : ℕ) → Straight s 0 p 8 at → be
 unfolding rest
 number-straight s p at h = number-same s (payload s) at p (h .same)
 
+-- a number without the spare bits
+pub front-is : (n : ℕ) {u v k : ℕ} → u ≡ v → k ≡ 8 * (7 - n) → u / 2 ^ k ≡ frontOf v n
+front-is n e f = rw (e, f) refl
+
 -- ---- a number by its list
 one-more : (l : List ℕ) (p k : ℕ) → p < length l → take (suc k) (drop p l) ≡ getD l p 0 ∷ take k (drop (p + 1) l)
 one-more l p k h = rw (drop-cons l p 0 h, add-one) refl

@@ -1,84 +1,91 @@
+use borrow.Author.Needs.{needs}
+use Prim.Native.Nat.{ℕ, _+_, _-_, _/_, _≤_, _<_}
+use native.Mathlib.Omega.{arith}
+use lib.ListN.{length}
+use Rattle.stream.specs.Payload.{payload}
+use Rattle.records.specs.Records.{part}
+use Rattle.names.proofs.Orders.{told-same, told-before, told-after}
+use Rattle.names.proofs.Reading.{front-is}
+use Rattle.names.proofs.Halves.{Between, between-all, between-up, between-down, between-hit, between-none}
 use Rattle.names.proofs.table.find_name.Statement.{statement}
 use Rattle.names.proofs.table.find_name.Tie as tie
-use Rattle.names.proofs.table.find_name.Reads as reads
-use Rattle.names.proofs.table.find_name.Lts as lts
-use Rattle.names.proofs.table.order.Reads as order-reads
-use Rattle.names.proofs.table.spare_bits.Reads as spare-bits-reads
-use Rattle.names.proofs.table.word_of.Reads as word-of-reads
 
 abbrev Inv-loop : tie.InvT-loop
-Inv-loop s t count p n more w lo₀ hi₀ lo hi = ?
+Inv-loop s t count p n more w lo₀ hi₀ lo hi = Between more (payload s) t count (part (payload s) (p + 1) n) lo hi
 
 abbrev μ-loop : tie.MeasureT-loop
-μ-loop s t count p n more w lo₀ hi₀ lo hi = ?
+μ-loop s t count p n more w lo₀ hi₀ lo hi = hi - lo
 
--- src/table.rt:91:13
+-- the middle lies within
+record Middle (lo hi count length : ℕ) : Type 0 where
+  pub low : lo ≤ lo + (hi - lo) / 2
+  pub high : lo + (hi - lo) / 2 < hi
+  pub within : hi ≤ count
+  pub fits : count ≤ length
+
+middle : (v : tie.In-loop Inv-loop μ-loop) → let l = v .before .loop in let a = v .before .before .before .before .before .before .args in Middle (l .lo) (l .hi) (a .count) (length (a .t .now))
+middle v =
+    let i = v .before .loop .inv in
+    record { low = omega arith; high = omega arith; within = i .within; fits = v .before .before .before .before .before .before .pre .2 .fits }
+
 word-of-requires : tie.Need-word-of-requires Inv-loop μ-loop
-word-of-requires c κs = ?
+word-of-requires c κs = search needs
 
--- src/table.rt:91:39
 spare-bits-requires : tie.Need-spare-bits-requires Inv-loop μ-loop
-spare-bits-requires c κs = ?
+spare-bits-requires c κs = search needs
 
--- src/table.rt:91:13
 shr-w : tie.Need-shr-w Inv-loop μ-loop
-shr-w c = ?
+shr-w c = search needs
 
--- src/table.rt:94:5
 loop-holds : tie.Need-loop-holds Inv-loop μ-loop
-loop-holds c = ?
+loop-holds c = between-all _ _ _ _ _
 
--- src/table.rt:95:25
 sub-mid : tie.Need-sub-mid Inv-loop μ-loop
-sub-mid c = ?
+sub-mid c = omega arith
 
--- src/table.rt:95:19
 add-mid : tie.Need-add-mid Inv-loop μ-loop
-add-mid c = ?
+add-mid c = omega (arith, middle c)
 
--- src/table.rt:96:26
 mul-order : tie.Need-mul-order Inv-loop μ-loop
-mul-order c = ?
+mul-order c = search needs
 
--- src/table.rt:96:26
 shared-slice-read-order : tie.Need-shared-slice-read-order Inv-loop μ-loop
-shared-slice-read-order c = ?
+shared-slice-read-order c = omega (arith, middle (c .before))
 
--- src/table.rt:96:26
 cast-order : tie.Need-cast-order Inv-loop μ-loop
-cast-order c = ?
+cast-order c = let l = c .before .before .loop in omega (arith, middle (c .before), c .shared-slice-known3 .given (l .lo + (l .hi - l .lo) / 2))
 
--- src/table.rt:96:13
 order-requires : tie.Need-order-requires Inv-loop μ-loop
-order-requires c κs = ?
+order-requires c κs = (c .before .before .before .before .before .before .before .pre .2 .stands _ (omega (arith, middle (c .before))), c .before .before .before .before .before .before .before .pre .0, c .before .before .before .before .before .before .before .pre .1, front-is _ (c .before .before .before .before .word-of .ensures) (c .before .before .before .spare-bits .ensures))
 
--- src/table.rt:98:13
 returns : tie.Need-returns Inv-loop μ-loop
-returns c = ?
+returns c =
+    let m = middle (c .before .before .before) in
+    between-hit _ _ _ _ _ (c .before .before .before .before .before .before .before .before .before .pre .2) _ (omega arith) (told-same _ _ (c .before .order .ensures) (omega arith))
 
--- src/table.rt:104:18
 add-lo : tie.Need-add-lo Inv-loop μ-loop
-add-lo c = ?
+add-lo c = omega (arith, middle (c .before .before .before .before))
 
--- src/table.rt:94:5
 loop-less : tie.Need-loop-less Inv-loop μ-loop
-loop-less c = ?
+loop-less c = omega (arith, middle (c .before .before .before .before))
 
--- src/table.rt:94:5
 loop-again : tie.Need-loop-again Inv-loop μ-loop
-loop-again c = ?
+loop-again c =
+    let l = c .before .before .before .before .before .loop in
+    let m = middle (c .before .before .before .before) in
+    between-up _ _ _ _ _ (c .before .before .before .before .before .before .before .before .before .before .pre .2) _ (omega arith) (l .lo) (l .hi) (l .inv) (m .high) (told-before _ _ (c .before .before .order .ensures) (omega arith))
 
--- src/table.rt:94:5
 loop-less-2 : tie.Need-loop-less-2 Inv-loop μ-loop
-loop-less-2 c = ?
+loop-less-2 c = omega (arith, middle (c .before .before .before .before))
 
--- src/table.rt:94:5
 loop-again-2 : tie.Need-loop-again-2 Inv-loop μ-loop
-loop-again-2 c = ?
+loop-again-2 c =
+    let l = c .before .before .before .before .before .loop in
+    let m = middle (c .before .before .before .before) in
+    between-down _ _ _ _ _ (c .before .before .before .before .before .before .before .before .before .before .pre .2) _ (omega arith) (l .lo) (l .hi) (l .inv) (m .low) (told-after _ _ (c .before .before .order .ensures) (λ e. omega arith) (λ e. omega arith))
 
--- src/table.rt:86:1
 returns-2 : tie.Need-returns-2 Inv-loop μ-loop
-returns-2 c = ?
+returns-2 c = between-none _ _ _ _ _ (c .before .loop .lo) (c .before .loop .hi) (c .before .loop .inv) (omega arith)
 
 pub find-name-spec : {M : Type 1} → statement M
 find-name-spec =
@@ -103,3 +110,4 @@ find-name-spec =
     loop-less-2
     loop-again-2
     returns-2)
+

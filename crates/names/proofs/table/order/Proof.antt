@@ -1,12 +1,10 @@
 use borrow.Author.Needs.{needs}
-use mathlib.Core.Path.{ap, _∙_}
-use Prim.Native.Nat.{ℕ, _+_, _/_, _^_, _≤_}
+use Prim.Native.Nat.{_+_, _/_, _^_, _≤_}
 use native.Mathlib.Omega.{arith}
 use Rattle.stream.specs.Payload.{payload}
 use Rattle.stream.specs.Contracts.Payload.{room}
 use Rattle.stream.specs.Laws.Payload.{payload-length, bytes-payload}
-use Rattle.names.specs.Contracts.Words.{be64At}
-use Rattle.names.proofs.Reading.{Pair, word-less, word-more, word-same, word-rest, heads}
+use Rattle.names.proofs.Reading.{Pair, word-less, word-more, word-same, word-rest, heads, front-is}
 use Rattle.names.proofs.table.order.Statement.{statement}
 use Rattle.names.proofs.table.order.Tie as tie
 
@@ -18,7 +16,7 @@ pair v =
       bytes = bytes-payload s (λ j. omega (arith, v .before .before .shared-slice-known .given j));
       stands = o .pre .0;
       fits = omega (arith, payload-length s);
-      own = ap (λ (z : ℕ). z / 2 ^ v .spare-bits .result) (v .before .word-at .ensures) ∙ ap (λ (z : ℕ). be64At (payload s) (o .args .p) / 2 ^ z) (v .spare-bits .ensures);
+      own = front-is _ (v .before .word-at .ensures) (v .spare-bits .ensures);
       sought = o .pre .3;
     }
 
