@@ -2,3 +2,5 @@ pub mod Numbers
 pub mod Orders
 pub mod Reading
 pub mod Halves
+pub mod Slots
+pub mod Noting

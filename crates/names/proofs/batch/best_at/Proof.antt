@@ -1,104 +1,85 @@
 use borrow.Author.Needs.{needs}
+use mathlib.Core.Path.{refl}
+use Prim.Native.Nat.{_+_, _*_}
+use native.Mathlib.Omega.{arith}
+use lib.Ieee.{nan}
+use Rattle.names.specs.Contracts.Batch.{slotAt}
+use Rattle.names.proofs.Slots.{slot-any}
 use Rattle.names.proofs.batch.best_at.Statement.{statement}
 use Rattle.names.proofs.batch.best_at.Tie as tie
-use Rattle.names.proofs.batch.best_at.Reads as reads
-use Rattle.names.proofs.batch.best_at.Lts as lts
 
--- src/batch.rt:47:23
 mul-t4 : tie.Need-mul-t4
 mul-t4 c = search needs
 
--- src/batch.rt:47:18
 mul-t5 : tie.Need-mul-t5
 mul-t5 c = search needs
 
--- src/batch.rt:47:18
 shared-slice-read-t7 : tie.Need-shared-slice-read-t7
 shared-slice-read-t7 c = search needs
 
--- src/batch.rt:48:24
 mul-t9 : tie.Need-mul-t9
 mul-t9 c = search needs
 
--- src/batch.rt:48:24
 add-t10 : tie.Need-add-t10
 add-t10 c = search needs
 
--- src/batch.rt:48:19
 mul-t11 : tie.Need-mul-t11
 mul-t11 c = search needs
 
--- src/batch.rt:48:19
 shared-slice-read-t13 : tie.Need-shared-slice-read-t13
 shared-slice-read-t13 c = search needs
 
--- src/batch.rt:49:23
 mul-t14 : tie.Need-mul-t14
 mul-t14 c = search needs
 
--- src/batch.rt:49:23
 add-t15 : tie.Need-add-t15
 add-t15 c = search needs
 
--- src/batch.rt:49:18
 mul-t16 : tie.Need-mul-t16
 mul-t16 c = search needs
 
--- src/batch.rt:49:18
 shared-slice-read-t18 : tie.Need-shared-slice-read-t18
 shared-slice-read-t18 c = search needs
 
--- src/batch.rt:50:25
 mul-t19 : tie.Need-mul-t19
 mul-t19 c = search needs
 
--- src/batch.rt:50:25
 add-t20 : tie.Need-add-t20
 add-t20 c = search needs
 
--- src/batch.rt:50:20
 mul-t21 : tie.Need-mul-t21
 mul-t21 c = search needs
 
--- src/batch.rt:50:20
 shared-slice-read-t23 : tie.Need-shared-slice-read-t23
 shared-slice-read-t23 c = search needs
 
--- src/batch.rt:50:20
 cast-t24 : tie.Need-cast-t24
-cast-t24 c = ?
+cast-t24 c = omega (arith, c .shared-slice-known4 .given (4 * c .before .before .before .before .args .m + 3))
 
--- src/batch.rt:52:18
 mul-t26 : tie.Need-mul-t26
 mul-t26 c = search needs
 
--- src/batch.rt:52:12
 mul-t27 : tie.Need-mul-t27
 mul-t27 c = search needs
 
--- src/batch.rt:52:12
 shared-slice-read-t29 : tie.Need-shared-slice-read-t29
 shared-slice-read-t29 c = search needs
 
--- src/batch.rt:53:18
 mul-t30 : tie.Need-mul-t30
 mul-t30 c = search needs
 
--- src/batch.rt:53:18
 add-t31 : tie.Need-add-t31
 add-t31 c = search needs
 
--- src/batch.rt:53:12
 mul-t32 : tie.Need-mul-t32
 mul-t32 c = search needs
 
--- src/batch.rt:53:12
 shared-slice-read-t34 : tie.Need-shared-slice-read-t34
 shared-slice-read-t34 c = search needs
 
--- src/batch.rt:40:1
 returns : tie.Need-returns
-returns c = ?
+unfolding slotAt
+returns c = record { there = refl; order = omega (arith, c .before .before .shared-slice-known4 .given (4 * c .before .before .before .before .before .before .args .m + 3)); is = λ d. slot-any (c .before .before .before .before .before .before .args .keys .now) (c .before .before .before .before .before .before .args .spots .now) (c .before .before .before .before .before .before .args .m) nan d (c .before .before .before .before .before .before .pre .1) }
 
 pub best-at-spec : {M : Type 1} → statement M
 best-at-spec =
@@ -128,3 +109,4 @@ best-at-spec =
     mul-t32
     shared-slice-read-t34
     returns)
+

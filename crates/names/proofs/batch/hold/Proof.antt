@@ -1,117 +1,90 @@
 use borrow.Author.Needs.{needs}
+use borrow.Author.Tests.{not-true, not-false}
+use native.Mathlib.Omega.{arith}
+use Rattle.names.proofs.Noting.{held-none, held-over, held-again, held-full, held-fresh}
 use Rattle.names.proofs.batch.hold.Statement.{statement}
 use Rattle.names.proofs.batch.hold.Tie as tie
-use Rattle.names.proofs.batch.hold.Reads as reads
-use Rattle.names.proofs.batch.hold.Lts as lts
-use Rattle.names.proofs.batch.put_best.Reads as put-best-reads
 
--- src/batch.rt:92:9
 returns : tie.Need-returns
-returns c = ?
+returns c = held-none _ _ _ _ _ (c .before .before .before .before .before .args .b) (not-true _ (c .if1 .taken))
 
--- src/batch.rt:94:13
 mul-e : tie.Need-mul-e
 mul-e c = search needs
 
--- src/batch.rt:94:13
 slice-read-e : tie.Need-slice-read-e
 slice-read-e c = search needs
 
--- src/batch.rt:96:9
 returns-2 : tie.Need-returns-2
-returns-2 c = ?
+returns-2 c = held-over _ _ _ _ _ (c .before .before .before .before .before .before .before .args .b) (c .if2 .taken)
 
--- src/batch.rt:99:31
 cast-put-best : tie.Need-cast-put-best
 cast-put-best c = search needs
 
--- src/batch.rt:99:31
 sub-put-best : tie.Need-sub-put-best
 sub-put-best c = search needs
 
--- src/batch.rt:99:9
 put-best-requires : tie.Need-put-best-requires
-put-best-requires c κs = ?
+put-best-requires c κs = (omega arith, omega arith, c .before .before .before .before .before .before .before .before .before .before .pre .3 (not-false _ (c .before .before .before .before .before .if1 .left)))
 
--- src/batch.rt:100:9
 same-length : tie.Need-same-length
 same-length c = search needs
 
--- src/batch.rt:100:9
 same-length-2 : tie.Need-same-length-2
 same-length-2 c = search needs
 
--- src/batch.rt:100:9
 returns-3 : tie.Need-returns-3
-returns-3 c = ?
+returns-3 c = held-again _ _ _ _ _ (c .before .before .before .before .before .before .before .before .before .before .before .before .before .before .before .args .b) (not-false _ (c .before .before .before .before .before .before .before .before .before .before .if1 .left)) (omega arith) (omega arith) _ _ (c .before .before .before .before .put-best .ensures)
 
--- src/batch.rt:103:16
 add-t : tie.Need-add-t
 add-t c = search needs
 
--- src/batch.rt:103:9
 mul-t : tie.Need-mul-t
 mul-t c = search needs
 
--- src/batch.rt:103:9
 slice-write-t : tie.Need-slice-write-t
 slice-write-t c = search needs
 
--- src/batch.rt:104:9
 same-length-3 : tie.Need-same-length-3
 same-length-3 c = search needs
 
--- src/batch.rt:104:9
 returns-4 : tie.Need-returns-4
-returns-4 c = ?
+returns-4 c = held-full _ _ _ _ _ (c .before .before .before .before .before .before .before .before .before .args .b) (not-false _ (c .before .before .before .before .if1 .left)) (c .before .before .before .before .before .before .before .before .before .pre .0) (omega arith) (omega arith)
 
--- src/batch.rt:106:5
 put-best-requires-2 : tie.Need-put-best-requires-2
-put-best-requires-2 c κs = ?
+put-best-requires-2 c κs = (omega arith, omega arith, c .before .before .before .before .before .before .before .before .before .before .before .pre .3 (not-false _ (c .before .before .before .before .before .before .if1 .left)))
 
--- src/batch.rt:107:28
 cast-t : tie.Need-cast-t
 cast-t c = search needs
 
--- src/batch.rt:107:28
 add-t-2 : tie.Need-add-t-2
 add-t-2 c = search needs
 
--- src/batch.rt:107:16
 mul-t-2 : tie.Need-mul-t-2
 mul-t-2 c = search needs
 
--- src/batch.rt:107:12
 add-t-3 : tie.Need-add-t-3
 add-t-3 c = search needs
 
--- src/batch.rt:107:5
 mul-t-3 : tie.Need-mul-t-3
 mul-t-3 c = search needs
 
--- src/batch.rt:107:5
 slice-write-t-2 : tie.Need-slice-write-t-2
 slice-write-t-2 c = search needs
 
--- src/batch.rt:108:5
 add-result : tie.Need-add-result
 add-result c = search needs
 
--- src/batch.rt:85:1
 same-length-4 : tie.Need-same-length-4
 same-length-4 c = search needs
 
--- src/batch.rt:85:1
 same-length-5 : tie.Need-same-length-5
 same-length-5 c = search needs
 
--- src/batch.rt:85:1
 same-length-6 : tie.Need-same-length-6
 same-length-6 c = search needs
 
--- src/batch.rt:85:1
 returns-5 : tie.Need-returns-5
-returns-5 c = ?
+returns-5 c = held-fresh _ _ _ _ _ (c .before .before .before .before .before .before .before .before .before .before .before .before .before .before .before .before .args .b) (not-false _ (c .before .before .before .before .before .before .before .before .before .before .before .if1 .left)) (c .before .before .before .before .before .before .before .before .before .before .before .before .before .before .before .before .pre .0) (omega arith) (omega arith) _ _ (c .before .before .before .before .put-best2 .ensures)
 
 pub hold-spec : {M : Type 1} → statement M
 hold-spec =
@@ -144,3 +117,4 @@ hold-spec =
     same-length-5
     same-length-6
     returns-5)
+

@@ -1,116 +1,90 @@
 use borrow.Author.Needs.{needs}
+use native.Mathlib.Omega.{arith}
+use lib.ListN.{length-set}
+use Rattle.names.proofs.Slots.{put-is}
 use Rattle.names.proofs.batch.put_best.Statement.{statement}
 use Rattle.names.proofs.batch.put_best.Tie as tie
-use Rattle.names.proofs.batch.put_best.Reads as reads
-use Rattle.names.proofs.batch.put_best.Lts as lts
 
--- src/batch.rt:62:19
 cast-keys : tie.Need-cast-keys
 cast-keys c = search needs
 
--- src/batch.rt:62:10
 mul-keys : tie.Need-mul-keys
 mul-keys c = search needs
 
--- src/batch.rt:62:5
 mul-keys-2 : tie.Need-mul-keys-2
 mul-keys-2 c = search needs
 
--- src/batch.rt:62:5
 slice-write-keys : tie.Need-slice-write-keys
 slice-write-keys c = search needs
 
--- src/batch.rt:63:10
 mul-keys-3 : tie.Need-mul-keys-3
 mul-keys-3 c = search needs
 
--- src/batch.rt:63:10
 add-keys : tie.Need-add-keys
 add-keys c = search needs
 
--- src/batch.rt:63:5
 mul-keys-4 : tie.Need-mul-keys-4
 mul-keys-4 c = search needs
 
--- src/batch.rt:63:5
 slice-write-keys-2 : tie.Need-slice-write-keys-2
-slice-write-keys-2 c = ?
+slice-write-keys-2 c = simp length-set (omega arith)
 
--- src/batch.rt:64:10
 mul-keys-5 : tie.Need-mul-keys-5
 mul-keys-5 c = search needs
 
--- src/batch.rt:64:10
 add-keys-2 : tie.Need-add-keys-2
 add-keys-2 c = search needs
 
--- src/batch.rt:64:5
 mul-keys-6 : tie.Need-mul-keys-6
 mul-keys-6 c = search needs
 
--- src/batch.rt:64:5
 slice-write-keys-3 : tie.Need-slice-write-keys-3
-slice-write-keys-3 c = ?
+slice-write-keys-3 c = simp length-set (omega arith)
 
--- src/batch.rt:65:23
 cast-keys-2 : tie.Need-cast-keys-2
 cast-keys-2 c = search needs
 
--- src/batch.rt:65:10
 mul-keys-7 : tie.Need-mul-keys-7
 mul-keys-7 c = search needs
 
--- src/batch.rt:65:10
 add-keys-3 : tie.Need-add-keys-3
 add-keys-3 c = search needs
 
--- src/batch.rt:65:5
 mul-keys-8 : tie.Need-mul-keys-8
 mul-keys-8 c = search needs
 
--- src/batch.rt:65:5
 slice-write-keys-4 : tie.Need-slice-write-keys-4
-slice-write-keys-4 c = ?
+slice-write-keys-4 c = simp length-set (omega arith)
 
--- src/batch.rt:66:11
 mul-spots : tie.Need-mul-spots
 mul-spots c = search needs
 
--- src/batch.rt:66:5
 mul-spots-2 : tie.Need-mul-spots-2
 mul-spots-2 c = search needs
 
--- src/batch.rt:66:5
 slice-write-spots : tie.Need-slice-write-spots
 slice-write-spots c = search needs
 
--- src/batch.rt:67:11
 mul-spots-3 : tie.Need-mul-spots-3
 mul-spots-3 c = search needs
 
--- src/batch.rt:67:11
 add-spots : tie.Need-add-spots
 add-spots c = search needs
 
--- src/batch.rt:67:5
 mul-spots-4 : tie.Need-mul-spots-4
 mul-spots-4 c = search needs
 
--- src/batch.rt:67:5
 slice-write-spots-2 : tie.Need-slice-write-spots-2
-slice-write-spots-2 c = ?
+slice-write-spots-2 c = simp length-set (omega arith)
 
--- src/batch.rt:57:1
 same-length : tie.Need-same-length
 same-length c = search needs
 
--- src/batch.rt:57:1
 same-length-2 : tie.Need-same-length-2
 same-length-2 c = search needs
 
--- src/batch.rt:57:1
 returns : tie.Need-returns
-returns c = ?
+returns c = put-is _ _ _ _ (c .before .before .before .pre .0) (c .before .before .before .pre .1)
 
 pub put-best-spec : {M : Type 1} → statement M
 put-best-spec =
@@ -143,3 +117,4 @@ put-best-spec =
     same-length
     same-length-2
     returns)
+
