@@ -4,3 +4,5 @@ pub mod Reading
 pub mod Halves
 pub mod Slots
 pub mod Noting
+pub mod Meeting
+pub mod Walking

@@ -1,0 +1,87 @@
+use borrow.Author.Needs.{needs}
+use borrow.Author.Tests.{not-true, not-false}
+use native.Mathlib.Omega.{arith}
+use Rattle.stream.specs.Payload.{payload}
+use Rattle.stream.specs.Laws.Payload.{rest-length}
+use Rattle.names.specs.Contracts.Batch.{slotsOf}
+use Rattle.names.proofs.Meeting.{length-is, item-steps, item-touches, item-unlabelled, met-none, met-gap, met-one, new-order}
+use Rattle.names.proofs.batch.note_item.Statement.{statement}
+use Rattle.names.proofs.batch.note_item.Tie as tie
+
+add-byte : tie.Need-add-byte
+add-byte c = search needs
+
+byte-requires : tie.Need-byte-requires
+byte-requires c κs = let o = c .before .before .before .before in (omega arith, omega (arith, rest-length (o .args .s .now) 0))
+
+wide-requires : tie.Need-wide-requires
+wide-requires c κs = search needs
+
+returns : tie.Need-returns
+returns c = let o = c .before .before .before .before .before .before .before in met-none (slotsOf (o .args .t .now) (o .args .keys .now) (o .args .spots .now) (o .args .used)) (λ i h b. item-unlabelled _ (o .args .q) (o .args .i) (length-is (o .args .s .now) _ (c .before .before .byte .ensures) (c .before .wide .ensures .0)) (c .if1 .taken) _ b)
+
+add-find-name : tie.Need-add-find-name
+add-find-name c = search needs
+
+find-name-requires : tie.Need-find-name-requires
+find-name-requires c κs = let o = c .before .before .before .before .before .before .before .before in let e = length-is (o .args .s .now) _ (c .before .before .before .byte .ensures) (c .before .before .wide .ensures .0) in (omega arith, omega arith, o .pre .3)
+
+same-length : tie.Need-same-length
+same-length c = search needs
+
+returns-2 : tie.Need-returns-2
+returns-2 c = let o = c .before .before .before .before .before .before .before .before .before .before .before in met-gap (slotsOf (o .args .t .now) (o .args .keys .now) (o .args .spots .now) (o .args .used)) (item-touches _ (o .args .q) (o .args .i) (length-is (o .args .s .now) _ (c .before .before .before .before .before .before .byte .ensures) (c .before .before .before .before .before .wide .ensures .0)) (c .before .before .before .before .if1 .left)) (c .before .before .find-name .ensures .gap (not-true _ (c .if2 .taken)))
+
+mul-best-of : tie.Need-mul-best-of
+mul-best-of c = let o = c .before .before .before .before .before .before .before .before .before .before .before .before .before in let h = c .before .before .before .before .find-name .ensures .within (not-false _ (c .before .before .if2 .left)) in let f = o .pre .3 .fits in search needs
+
+slice-read-best-of : tie.Need-slice-read-best-of
+slice-read-best-of c = let o = c .before .before .before .before .before .before .before .before .before .before .before .before .before .before in let h = c .before .before .before .before .before .find-name .ensures .within (not-false _ (c .before .before .before .if2 .left)) in let f = o .pre .3 .fits in omega arith
+
+cast-best-of : tie.Need-cast-best-of
+cast-best-of c = omega (arith, c .slice-known4 .given (c .before .before .before .before .before .find-name .result .at))
+
+best-of-requires : tie.Need-best-of-requires
+best-of-requires c κs = search needs
+
+consider-item-requires : tie.Need-consider-item-requires
+consider-item-requires c κs = search needs
+
+hold-requires : tie.Need-hold-requires
+hold-requires c κs = let o = c .before .before .before .before .before .before .before .before .before .before .before .before .before .before .before .before .before .before .before in let h = c .before .before .before .before .before .before .before .before .before .before .find-name .ensures .within (not-false _ (c .before .before .before .before .before .before .before .before .if2 .left)) in let f = o .pre .3 .fits in (omega arith, o .pre .4, o .pre .5, new-order (c .before .before .before .consider-item .result) (c .before .before .before .before .best-of .ensures) (item-steps (payload (o .args .s .now)) (o .args .q) _ (o .pre .2)) (c .before .before .before .consider-item .ensures))
+
+same-length-2 : tie.Need-same-length-2
+same-length-2 c = search needs
+
+same-length-3 : tie.Need-same-length-3
+same-length-3 c = search needs
+
+same-length-4 : tie.Need-same-length-4
+same-length-4 c = search needs
+
+returns-3 : tie.Need-returns-3
+returns-3 c = let o = c .before .before .before .before .before .before .before .before .before .before .before .before .before .before .before .before .before .before .before .before .before .before .before .before .before .before in met-one (slotsOf (o .args .t .now) (o .args .keys .now) (o .args .spots .now) (o .args .used)) (item-touches _ (o .args .q) (o .args .i) (length-is (o .args .s .now) _ (c .before .before .before .before .before .before .before .before .before .before .before .before .before .before .before .before .before .before .before .before .before .byte .ensures) (c .before .before .before .before .before .before .before .before .before .before .before .before .before .before .before .before .before .before .before .before .wide .ensures .0)) (c .before .before .before .before .before .before .before .before .before .before .before .before .before .before .before .before .before .before .before .if1 .left)) (o .pre .3) _ (c .before .before .before .before .before .before .before .before .before .before .before .before .before .before .before .before .before .find-name .ensures .within (not-false _ (c .before .before .before .before .before .before .before .before .before .before .before .before .before .before .before .if2 .left))) (c .before .before .before .before .before .before .before .before .before .before .before .before .before .before .before .before .before .find-name .ensures .is (not-false _ (c .before .before .before .before .before .before .before .before .before .before .before .before .before .before .before .if2 .left))) (c .before .before .before .before .before .before .before .before .before .before .before .best-of .result) (c .before .before .before .before .before .before .before .before .before .before .consider-item .result) (c .before .before .before .before .before .before .before .before .before .before .before .best-of .ensures) (item-steps (payload (o .args .s .now)) (o .args .q) _ (o .pre .2)) (c .before .before .before .before .before .before .before .before .before .before .consider-item .ensures) (c .before .before .before .before .before .before .hold .ensures)
+
+pub note-item-spec : {M : Type 1} → statement M
+note-item-spec =
+    tie.close
+    (tie.spec
+    add-byte
+    byte-requires
+    wide-requires
+    returns
+    add-find-name
+    find-name-requires
+    same-length
+    returns-2
+    mul-best-of
+    slice-read-best-of
+    cast-best-of
+    best-of-requires
+    consider-item-requires
+    hold-requires
+    same-length-2
+    same-length-3
+    same-length-4
+    returns-3)
+
