@@ -1,0 +1,88 @@
+use borrow.Author.Needs.{needs}
+use mathlib.Core.Path.{refl, _∙_}
+use Prim.Native.Nat.{ℕ, _+_, _-_, _≤_}
+use native.Mathlib.Omega.{arith}
+use mathlib.Core.List.{List}
+use lib.ListN.{getD, drop}
+use lib.Seq.{getD-drop}
+use Rattle.stream.specs.Payload.{payload}
+use Rattle.stream.specs.Contracts.Payload.{room}
+use Rattle.records.specs.declared.search.Hit.{Hit}
+use Rattle.records.specs.Laws.Search.{ItemFound, standing-tells}
+use Rattle.scene.proofs.Found.{One, one-found}
+use Rattle.scene.proofs.Items.{label-ends}
+use Rattle.names.specs.Contracts.Batch.{slotsOf, itemsStep}
+use Rattle.names.proofs.Walking.{Walk, walk-start, walk-on, walk-end, table-same, itemsFrom, items-all, items-none, items-one}
+use Rattle.names.proofs.batch.note_items.Statement.{statement}
+use Rattle.names.proofs.batch.note_items.Tie as tie
+
+abbrev Inv-loop : tie.InvT-loop
+Inv-loop s p t₀ count more keys₀ spots₀ places used₀ q₀ i₀ t keys spots used q i =
+    (i ≤ q)
+    × Walk more (payload s) count (slotsOf t₀ keys₀ spots₀ places) (slotsOf t keys spots used) (itemsStep (payload s) p) (itemsFrom (payload s) q i)
+
+abbrev μ-loop : tie.MeasureT-loop
+μ-loop s p t₀ count more keys₀ spots₀ places used₀ q₀ i₀ t keys spots used q i = room s - q
+
+one : (w : tie.Else1 Inv-loop μ-loop) → let v = w .before .before in One (v .before .before .before .before .before .before .args .s .now) (v .before .loop .q) 6 0 (v .find .result)
+one w = let v = w .before .before in one-found _ (v .before .loop .q) _ _ _ (v .find .ensures) (w .if1 .left)
+
+-- its label is short
+short : {s : List ℕ} {p : ℕ} {h : Hit} → One s p 6 0 h → ItemFound (drop (h .at) (payload s)) (h .at) (h .next) → getD (payload s) (h .at + 3) 0 ≤ 31
+short {s} {p} {h} o f = rw (← getD-drop (h .at) (payload s) 3 0) (f .short)
+
+loop-holds : tie.Need-loop-holds Inv-loop μ-loop
+loop-holds c = (omega arith, walk-start _ (items-all _ _))
+
+find-requires : tie.Need-find-requires Inv-loop μ-loop
+find-requires c κs = search needs
+
+same-length : tie.Need-same-length Inv-loop μ-loop
+same-length c = c .before .before .before .loop .inv .1 .met .stays .size
+
+same-length-2 : tie.Need-same-length-2 Inv-loop μ-loop
+same-length-2 c = c .before .before .before .loop .inv .1 .met .stays .keys
+
+same-length-3 : tie.Need-same-length-3 Inv-loop μ-loop
+same-length-3 c = c .before .before .before .loop .inv .1 .met .stays .spots
+
+returns : tie.Need-returns Inv-loop μ-loop
+returns c = walk-end (c .before .before .before .loop .inv .1) (items-none _ (c .before .before .before .loop .q) (c .before .before .before .loop .i) (c .before .before .find .result) (c .before .before .find .ensures) (c .if1 .taken))
+
+note-item-requires : tie.Need-note-item-requires Inv-loop μ-loop
+note-item-requires c κs =
+    let o = one (c .before .before .before) in
+    let n = label-ends o refl in
+    let m = short o (standing-tells (o .stands)) in
+    let w = c .before .before .before .before .before .before .loop .inv .1 .met .stays in
+    let i = c .before .before .before .before .before .before .loop .inv .0 in
+    (omega arith, omega arith, omega (arith, o), table-same (c .before .before .before .before .before .before .before .before .before .before .before .pre .2) w, w .keys ∙ c .before .before .before .before .before .before .before .before .before .before .before .pre .3, w .spots ∙ c .before .before .before .before .before .before .before .before .before .before .before .pre .4)
+
+add-i : tie.Need-add-i Inv-loop μ-loop
+add-i c = omega (arith, one (c .before .before .before .before .before .before .before .before .before .before), c .before .before .before .before .before .before .before .before .before .before .before .before .before .loop .inv .0)
+
+loop-less : tie.Need-loop-less Inv-loop μ-loop
+loop-less c = omega (arith, one (c .before .before .before .before .before .before .before .before .before .before))
+
+loop-again : tie.Need-loop-again Inv-loop μ-loop
+loop-again c =
+    let o = one (c .before .before .before .before .before .before .before .before .before .before) in
+    (omega (arith, o, c .before .before .before .before .before .before .before .before .before .before .before .before .before .loop .inv .0), walk-on (c .before .before .before .before .before .before .before .before .before .before .before .before .before .loop .inv .1) (c .before .before .before .before .before .before .note-item .ensures) (items-one _ (c .before .before .before .before .before .before .before .before .before .before .before .before .before .loop .q) (c .before .before .before .before .before .before .before .before .before .before .before .before .before .loop .i) (c .before .before .before .before .before .before .before .before .before .before .before .before .find .result) o))
+
+pub note-items-spec : {M : Type 1} → statement M
+note-items-spec =
+    tie.close
+    (tie.spec
+    Inv-loop
+    μ-loop
+    loop-holds
+    find-requires
+    same-length
+    same-length-2
+    same-length-3
+    returns
+    note-item-requires
+    add-i
+    loop-less
+    loop-again)
+
