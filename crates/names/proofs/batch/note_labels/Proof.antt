@@ -1,0 +1,41 @@
+use borrow.Author.Needs.{needs}
+use mathlib.Core.Path.{_∙_}
+use Rattle.names.proofs.Walking.{table-same, noted}
+use Rattle.names.proofs.batch.note_labels.Statement.{statement}
+use Rattle.names.proofs.batch.note_labels.Tie as tie
+
+note-places-requires : tie.Need-note-places-requires
+note-places-requires c κs = search needs
+
+note-items-requires : tie.Need-note-items-requires
+note-items-requires c κs =
+    let o = c .before .before .before .before .before .before .before .before .before .before .before .before .before .before .before .before .before .pre in
+    let w = c .before .before .before .before .before .before .before .before .before .note-places .ensures .0 .stays in
+    (o .0, o .1, table-same (o .2) w, w .keys ∙ o .4, w .spots ∙ o .5)
+
+same-length : tie.Need-same-length
+same-length c = search needs
+
+same-length-2 : tie.Need-same-length-2
+same-length-2 c = search needs
+
+same-length-3 : tie.Need-same-length-3
+same-length-3 c = search needs
+
+returns : tie.Need-returns
+returns c =
+    let o = c .before .before .before .before .before .before .before .before .before .before .before .before .before .before .before .before .before .before .before .before .before .before .before .before in
+    let v = c .before .before .before .before .before .before .before .before .before .before .before .before .before .before .before .before .note-places in
+    noted (o .args .more) _ (o .args .t .now) (o .args .count) (o .args .p) (v .result .end) (o .pre .2) (o .pre .3) (v .ensures .0) (v .ensures .1) (c .before .before .before .before .before .before .note-items .ensures)
+
+pub note-labels-spec : {M : Type 1} → statement M
+note-labels-spec =
+    tie.close
+    (tie.spec
+    note-places-requires
+    note-items-requires
+    same-length
+    same-length-2
+    same-length-3
+    returns)
+
