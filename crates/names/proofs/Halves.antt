@@ -11,7 +11,7 @@ use lib.Seq.{getD-set-same, getD-set-other}
 use Rattle.records.specs.Layout.{before}
 use Rattle.records.specs.Records.{part}
 use Rattle.scene.specs.Laws.Rising.{before-trans}
-use Rattle.names.specs.Contracts.Table.{nameAt, nameOf, keyOf, Stands, Table, Unmarked, In, Gap, Searched, Opened, Inserted}
+use Rattle.names.specs.Contracts.Table.{nameAt, nameOf, keyOf, Stands, Table, In, Gap, Searched, Opened, Inserted}
 
 -- ---- x belongs from lo to hi
 pub record Between (more : ℕ) (l t : List ℕ) (n : ℕ) (x : List ℕ) (lo hi : ℕ) : Type 0 where

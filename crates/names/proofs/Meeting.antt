@@ -1,24 +1,24 @@
 -- One label, for all names of a table.
 use mathlib.Core.Path.{_≡_, refl, sym, ap, subst, _∙_}
-use mathlib.Core.Logic.{inl, inr, ⊎-elim}
+use mathlib.Core.Logic.{inl, inr}
 use mathlib.Core.Bool.{Bool, true, false, true≢false}
 use mathlib.Core.List.{List, [], _∷_}
-use Prim.Native.Nat.{ℕ, _+_, _-_, _%_, _≤_, _<_}
+use Prim.Native.Nat.{ℕ, _+_, _-_, _≤_, _<_}
 use native.Mathlib.Decide.{decLt}
 use native.Mathlib.Omega.{arith}
 use lib.Ieee.{Float, nan}
 use lib.Dec.{ltb}
-use lib.ListN.{length, getD}
-use borrow.Author.Tests.{lt-ltb, le-ltb}
+use lib.ListN.{getD}
+use borrow.Author.Tests.{lt-ltb}
 use Rattle.stream.specs.Payload.{payload}
 use Rattle.stream.specs.Contracts.Payload.{rest}
 use Rattle.records.specs.Records.{part}
 use Rattle.scene.specs.declared.labels.Best as code-best
 use Rattle.scene.specs.Scene.{Maybe, none, some, given, Point, NamedPlace, DrawnItem}
 use Rattle.scene.specs.Labels.{same, pick, Key, Best, greater, consider, considerAt, carries, itemKey, placeKey, referencePoint}
-use Rattle.scene.specs.Contracts.Answers.{keyBy, bestBy, considerPlace, considerItem, placesAt, itemsAt}
+use Rattle.scene.specs.Contracts.Answers.{bestBy, considerPlace, considerItem, placesAt, itemsAt}
 use Rattle.names.specs.Contracts.Table.{nameOf, markOf, Table, Gap}
-use Rattle.names.specs.Contracts.Batch.{isSome, Slots, slotsOf, slotAt, Had, Kept, Stays, Held, Met, placeStep, itemStep}
+use Rattle.names.specs.Contracts.Batch.{isSome, Slots, slotAt, Had, Kept, Stays, Held, Met, placeStep, itemStep}
 use Rattle.names.specs.Laws.Order.{same-itself, key-not-same}
 
 -- ---- a label's length

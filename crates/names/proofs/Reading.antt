@@ -8,16 +8,16 @@ use native.Mathlib.Nat.{zero-add, suc-add}
 use native.Mathlib.Numerals.{add-one}
 use native.Mathlib.Omega.{arith}
 use lib.ListN.{length, getD, take, drop, length-take, length-drop, take-append-drop, drop-of-length-le, List·getD-eq-default}
-use lib.Seq.{drop-cons, getD-take, getD-drop, take-add, take-all, take-take, take-nil, drop-drop}
+use lib.Seq.{drop-cons, getD-take, getD-drop, take-add, take-take, take-nil, drop-drop}
 use Rattle.stream.specs.Payload.{payload}
 use Rattle.stream.specs.Contracts.Payload.{rest, Straight}
 use Rattle.stream.specs.Laws.Numbers.{Bytes}
 use Rattle.records.specs.Layout.{before}
 use Rattle.records.specs.Records.{part}
-use Rattle.records.specs.Laws.Names.{part-length, part-at}
+use Rattle.records.specs.Laws.Names.{part-length}
 use Rattle.scene.specs.Laws.Rising.{before-less}
 use Rattle.names.specs.Contracts.Words.{be16At, be32At, be64At, wordOf, frontOf}
-use Rattle.names.specs.Contracts.Table.{nameAt, keyOf, orderOf, Stands}
+use Rattle.names.specs.Contracts.Table.{nameAt, orderOf, Stands}
 use Rattle.names.proofs.Numbers.{beOf, Small, be-less, be-before, be-same, be-append, be-cut}
 use Rattle.names.proofs.Orders.{order-less, order-more, order-same, level-less, level-more, order-front}
 

@@ -3,22 +3,21 @@ use mathlib.Core.Path.{_≡_, refl, sym, ap, _∙_}
 use mathlib.Core.Logic.{inl, inr}
 use mathlib.Core.Bool.{Bool, true, false, not}
 use mathlib.Core.List.{List}
-use Prim.Native.Nat.{ℕ, zero, suc, _+_, _-_, _*_, _%_, _≤_, _<_}
+use Prim.Native.Nat.{ℕ, zero, _+_, _-_, _*_, _≤_}
 use native.Mathlib.Decide.{decLt}
 use native.Mathlib.Omega.{arith}
 use lib.Ieee.{Float}
-use lib.ListN.{length, getD}
+use lib.ListN.{getD}
 use Rattle.stream.specs.Payload.{payload}
 use Rattle.records.specs.declared.search.Hit.{Hit}
-use Rattle.records.specs.Records.{part}
 use Rattle.scene.specs.Scene.{Maybe, none, some}
-use Rattle.scene.specs.Labels.{same, pick, Best, bestPlace, carries, bestItem, pointOf, pointOfLabel}
-use Rattle.scene.specs.Contracts.Answers.{considerPlace, considerItem, placesAt, itemsAt, labelBy}
+use Rattle.scene.specs.Labels.{same, pick, Best, bestPlace, bestItem, pointOf, pointOfLabel}
+use Rattle.scene.specs.Contracts.Answers.{placesAt, itemsAt}
 use Rattle.scene.proofs.Found.{Answer, One}
 use Rattle.scene.proofs.Folds.{Chosen, no-place, next-place, no-item, next-item}
-use Rattle.names.specs.Contracts.Table.{nameAt, nameOf, markOf, marked, Table, Unmarked}
+use Rattle.names.specs.Contracts.Table.{nameAt, nameOf, markOf, Table, Unmarked}
 use Rattle.names.specs.Contracts.Batch.{isSome, spotOf, Slots, slotsOf, slotAt, Kept, Stays, Met, placeStep, placesStep, itemStep, itemsStep, Noted}
-use Rattle.names.proofs.Meeting.{kept-same, stays-same, met-none}
+use Rattle.names.proofs.Meeting.{kept-same, met-none}
 
 -- ---- one step after another
 pub table-same : {more : ℕ} {l : List ℕ} {n : ℕ} {z z′ : Slots} → Table more l (z .t) n → Stays z z′ → Table more l (z′ .t) n

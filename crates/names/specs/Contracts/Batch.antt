@@ -10,7 +10,7 @@ use lib.Ieee.{Float}
 use Rattle.records.specs.Records.{part}
 use Rattle.scene.specs.declared.labels.Best as code-best
 use Rattle.scene.specs.Scene.{Maybe, none, some, Point}
-use Rattle.scene.specs.Labels.{same, pick, Key, Best, bestPlace, carries, bestItem, pointOfLabel}
+use Rattle.scene.specs.Labels.{same, pick, Best, bestPlace, carries, bestItem, pointOfLabel}
 use Rattle.scene.specs.Contracts.Answers.{keyBy, considerPlace, considerItem, labelBy, placesAt, itemsAt}
 use Rattle.names.specs.Contracts.Table.{nameOf, markOf, marked, Table}
 

@@ -1,8 +1,8 @@
 -- The order of names, by their lengths and then by their bytes, is total.
-use mathlib.Core.Path.{_≡_, refl, sym, ap, _∙_}
+use mathlib.Core.Path.{_≡_, refl, sym, _∙_}
 use mathlib.Core.Bool.{true, false, true≢false}
 use mathlib.Core.List.{List, [], _∷_}
-use Prim.Native.Nat.{ℕ, _<_}
+use Prim.Native.Nat.{ℕ}
 use native.Mathlib.Decide.{decLt}
 use native.Mathlib.Omega.{arith}
 use lib.ListN.{length}
@@ -10,7 +10,7 @@ use borrow.Author.Tests.{lt-ltb, le-ltb, eq-eqb, ne-eqb}
 use Rattle.records.specs.Layout.{before}
 use Rattle.scene.specs.Labels.{same}
 use Rattle.scene.specs.Laws.Names.{same-lengths}
-use Rattle.scene.specs.Laws.Rising.{before-less, before-next, before-not-same, same-eq}
+use Rattle.scene.specs.Laws.Rising.{before-less, before-next, before-not-same}
 use Rattle.names.specs.Contracts.Table.{keyOf}
 
 pub same-itself : (a : List ℕ) → same a a ≡ true

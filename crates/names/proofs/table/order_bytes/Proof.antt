@@ -1,4 +1,3 @@
-use borrow.Author.Needs.{needs}
 use mathlib.Core.Path.{_≡_, refl, sym, _∙_}
 use Prim.Native.Nat.{_-_, _≤_}
 use native.Mathlib.Omega.{arith}
@@ -10,9 +9,6 @@ use Rattle.names.specs.Contracts.Table.{orderOf}
 use Rattle.names.proofs.Orders.{bytes-end, byte-less, byte-more, byte-same}
 use Rattle.names.proofs.table.order_bytes.Statement.{statement}
 use Rattle.names.proofs.table.order_bytes.Tie as tie
-use Rattle.names.proofs.table.order_bytes.Reads as reads
-use Rattle.names.proofs.table.order_bytes.Lts as lts
-use Rattle.stream.proofs.byte.Reads as byte-reads
 
 abbrev Inv-loop : tie.InvT-loop
 Inv-loop s p q n i₀ i =

@@ -2,8 +2,6 @@ use borrow.Author.Needs.{needs}
 use native.Mathlib.Omega.{arith}
 use Rattle.names.proofs.table.unmark.Statement.{statement}
 use Rattle.names.proofs.table.unmark.Tie as tie
-use Rattle.names.proofs.table.unmark.Reads as reads
-use Rattle.names.proofs.table.unmark.Lts as lts
 
 -- src/table.rt:158:13
 mul-e : tie.Need-mul-e

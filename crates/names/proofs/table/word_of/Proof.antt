@@ -2,9 +2,6 @@ use borrow.Author.Needs.{needs}
 use Rattle.names.specs.Contracts.Words.{wordOf}
 use Rattle.names.proofs.table.word_of.Statement.{statement}
 use Rattle.names.proofs.table.word_of.Tie as tie
-use Rattle.names.proofs.table.word_of.Reads as reads
-use Rattle.names.proofs.table.word_of.Lts as lts
-use Rattle.names.proofs.words.word_at.Reads as word-at-reads
 
 -- src/table.rt:63:5
 word-at-requires : tie.Need-word-at-requires
