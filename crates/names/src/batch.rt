@@ -120,11 +120,13 @@ fn note_place(
     q: usize,
     i: usize,
 ) -> usize
-    requires { ⌜ (q + 10 + getD (payload (now s)) (q + 1) 0 ≤ room (now s)) × (getD (payload (now s)) (q + 1) 0 + more ≤ 255)
-        × (i < 4294967296) × Table more (payload (now s)) (now t) count × (length (now keys) ≡ 256) × (length (now spots) ≡ 128) ⌝ }
+    requires { ⌜ (q + 10 + getD (payload (now s)) (q + 1) 0 ≤ room (now s))
+        × (getD (payload (now s)) (q + 1) 0 + more ≤ 255) × (i < 4294967296)
+        × Table more (payload (now s)) (now t) count × (length (now keys) ≡ 256) × (length (now spots) ≡ 128) ⌝ }
     ensures { λ r. ⌜ Met more (payload (now (s .entry))) count
         (slotsOf (now (t .entry)) (now (keys .entry)) (now (spots .entry)) used)
-        (slotsOf (now (t .exit)) (now (keys .exit)) (now (spots .exit)) r) (placeStep (payload (now (s .entry))) q i) ⌝ }
+        (slotsOf (now (t .exit)) (now (keys .exit)) (now (spots .exit)) r)
+        (placeStep (payload (now (s .entry))) q i) ⌝ }
 {
     let n = wide(byte(s, 0, q + 1));
     let f = find_name(s, t, count, q + 1, n, more);
@@ -149,11 +151,13 @@ fn note_item(
     q: usize,
     i: usize,
 ) -> usize
-    requires { ⌜ (q + 12 + getD (payload (now s)) (q + 3) 0 ≤ room (now s)) × (getD (payload (now s)) (q + 3) 0 + more ≤ 255)
-        × (i < 4294967296) × Table more (payload (now s)) (now t) count × (length (now keys) ≡ 256) × (length (now spots) ≡ 128) ⌝ }
+    requires { ⌜ (q + 12 + getD (payload (now s)) (q + 3) 0 ≤ room (now s))
+        × (getD (payload (now s)) (q + 3) 0 + more ≤ 255) × (i < 4294967296)
+        × Table more (payload (now s)) (now t) count × (length (now keys) ≡ 256) × (length (now spots) ≡ 128) ⌝ }
     ensures { λ r. ⌜ Met more (payload (now (s .entry))) count
         (slotsOf (now (t .entry)) (now (keys .entry)) (now (spots .entry)) used)
-        (slotsOf (now (t .exit)) (now (keys .exit)) (now (spots .exit)) r) (itemStep (payload (now (s .entry))) q i) ⌝ }
+        (slotsOf (now (t .exit)) (now (keys .exit)) (now (spots .exit)) r)
+        (itemStep (payload (now (s .entry))) q i) ⌝ }
 {
     let n = wide(byte(s, 0, q + 3));
     if n == 0 {
@@ -175,12 +179,21 @@ pub struct Walked {
     pub end: usize,
 }
 
-fn note_places(s: &[u8], p: usize, t: &mut [u32], count: usize, more: u64, keys: &mut [u32], spots: &mut [f64]) -> Walked
+fn note_places(
+    s: &[u8],
+    p: usize,
+    t: &mut [u32],
+    count: usize,
+    more: u64,
+    keys: &mut [u32],
+    spots: &mut [f64],
+) -> Walked
     requires { ⌜ (room (now s) < 33554432) × (more ≤ 4) × Table more (payload (now s)) (now t) count
         × (length (now keys) ≡ 256) × (length (now spots) ≡ 128) ⌝ }
     ensures { λ r. ⌜ Met more (payload (now (s .entry))) count
         (slotsOf (now (t .entry)) (now (keys .entry)) (now (spots .entry)) 0)
-        (slotsOf (now (t .exit)) (now (keys .exit)) (now (spots .exit)) (r .used)) (placesStep (payload (now (s .entry))) p) ⌝ }
+        (slotsOf (now (t .exit)) (now (keys .exit)) (now (spots .exit)) (r .used))
+        (placesStep (payload (now (s .entry))) p) ⌝ }
     ensures { λ r. ⌜ itemsAt (payload (now (s .entry))) p ≡ itemsAt (payload (now (s .entry))) (r .end) ⌝ }
 {
     let mut used = 0usize;
@@ -200,12 +213,22 @@ fn note_places(s: &[u8], p: usize, t: &mut [u32], count: usize, more: u64, keys:
     }
 }
 
-fn note_items(s: &[u8], p: usize, t: &mut [u32], count: usize, more: u64, keys: &mut [u32], spots: &mut [f64], places: usize) -> usize
+fn note_items(
+    s: &[u8],
+    p: usize,
+    t: &mut [u32],
+    count: usize,
+    more: u64,
+    keys: &mut [u32],
+    spots: &mut [f64],
+    places: usize,
+) -> usize
     requires { ⌜ (room (now s) < 33554432) × (more ≤ 4) × Table more (payload (now s)) (now t) count
         × (length (now keys) ≡ 256) × (length (now spots) ≡ 128) ⌝ }
     ensures { λ r. ⌜ Met more (payload (now (s .entry))) count
         (slotsOf (now (t .entry)) (now (keys .entry)) (now (spots .entry)) places)
-        (slotsOf (now (t .exit)) (now (keys .exit)) (now (spots .exit)) r) (itemsStep (payload (now (s .entry))) p) ⌝ }
+        (slotsOf (now (t .exit)) (now (keys .exit)) (now (spots .exit)) r)
+        (itemsStep (payload (now (s .entry))) p) ⌝ }
 {
     let mut used = places;
     let mut q = p;
@@ -222,10 +245,19 @@ fn note_items(s: &[u8], p: usize, t: &mut [u32], count: usize, more: u64, keys: 
 }
 
 // The labels from p on, for the names of the first `count` entries, none of which has a mark. How many slots are used then.
-pub fn note_labels(s: &[u8], p: usize, t: &mut [u32], count: usize, more: u64, keys: &mut [u32], spots: &mut [f64]) -> usize
-    requires { ⌜ (room (now s) < 33554432) × (more ≤ 4) × Table more (payload (now s)) (now t) count × Unmarked (now t) count
-        × (length (now keys) ≡ 256) × (length (now spots) ≡ 128) ⌝ }
-    ensures { λ r. ⌜ Noted more (payload (now (s .entry))) (now (t .entry)) (now (t .exit)) count (now (spots .exit)) r p ⌝ }
+pub fn note_labels(
+    s: &[u8],
+    p: usize,
+    t: &mut [u32],
+    count: usize,
+    more: u64,
+    keys: &mut [u32],
+    spots: &mut [f64],
+) -> usize
+    requires { ⌜ (room (now s) < 33554432) × (more ≤ 4) × Table more (payload (now s)) (now t) count
+        × Unmarked (now t) count × (length (now keys) ≡ 256) × (length (now spots) ≡ 128) ⌝ }
+    ensures { λ r. ⌜ Noted more (payload (now (s .entry))) (now (t .entry)) (now (t .exit)) count
+        (now (spots .exit)) r p ⌝ }
 {
     let w = note_places(s, p, t, count, more, keys, spots);
     note_items(s, w.end, t, count, more, keys, spots, w.used)

@@ -67,7 +67,8 @@ fn word_of(s: &[u8], p: usize, n: usize, more: u64) -> u64
 fn order(s: &[u8], p: usize, q: usize, n: usize, w: u64, more: u64) -> u8
     requires { ⌜ Stands more (payload (now s)) p × (q + 9 + n ≤ room (now s)) × (n + more ≤ 255)
         × (w ≡ frontOf (wordOf (payload (now s)) q (n + more)) n) ⌝ }
-    ensures { λ r. ⌜ r ≡ orderOf (nameAt more (payload (now (s .entry))) p) (part (payload (now (s .entry))) (q + 1) n) ⌝ }
+    ensures { λ r. ⌜ r ≡ orderOf (nameAt more (payload (now (s .entry))) p)
+        (part (payload (now (s .entry))) (q + 1) n) ⌝ }
 {
     let x = word_at(s, p) >> spare_bits(n);
     if x < w {
@@ -126,8 +127,8 @@ fn make_room(t: &mut [u32], at: usize, n: usize)
 
 // The name of n bytes whose length stands at p becomes one of the first `count` entries, unless it is one of them. How many there are then. Most names come in their order: the last entry is looked at first.
 pub fn insert(s: &[u8], t: &mut [u32], count: usize, p: usize, n: usize, more: u64) -> usize
-    requires { ⌜ (p < 33554432) × Stands more (payload (now s)) p × (n + more ≡ getD (payload (now s)) p 0) × (n + more ≤ 255)
-        × (count < length (now t)) × Table more (payload (now s)) (now t) count ⌝ }
+    requires { ⌜ (p < 33554432) × Stands more (payload (now s)) p
+        × (n + more ≡ getD (payload (now s)) p 0) × (n + more ≤ 255) × (count < length (now t)) × Table more (payload (now s)) (now t) count ⌝ }
     ensures { λ r. ⌜ Inserted more (payload (now (s .entry))) (now (t .entry)) (now (t .exit)) count r
         (part (payload (now (s .entry))) (p + 1) n) ⌝ }
 {

@@ -79,7 +79,9 @@ shared-slice-read-t34 c = search needs
 
 returns : tie.Need-returns
 unfolding slotAt
-returns c = record { there = refl; order = omega (arith, c .before .before .shared-slice-known4 .given (4 * c .before .before .before .before .before .before .args .m + 3)); is = λ d. slot-any (c .before .before .before .before .before .before .args .keys .now) (c .before .before .before .before .before .before .args .spots .now) (c .before .before .before .before .before .before .args .m) nan d (c .before .before .before .before .before .before .pre .1) }
+returns c =
+    let o = c .before .before .before .before .before .before in
+    record { there = refl; order = omega (arith, c .before .before .shared-slice-known4 .given (4 * o .args .m + 3)); is = λ d. slot-any (o .args .keys .now) (o .args .spots .now) (o .args .m) nan d (o .pre .1) }
 
 pub best-at-spec : {M : Type 1} → statement M
 best-at-spec =
@@ -109,4 +111,3 @@ best-at-spec =
     mul-t32
     shared-slice-read-t34
     returns)
-

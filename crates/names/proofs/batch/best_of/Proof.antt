@@ -36,4 +36,3 @@ best-of-spec =
     sub-best-at
     best-at-requires
     returns-3)
-

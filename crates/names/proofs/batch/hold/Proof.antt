@@ -24,7 +24,10 @@ sub-put-best : tie.Need-sub-put-best
 sub-put-best c = search needs
 
 put-best-requires : tie.Need-put-best-requires
-put-best-requires c κs = (omega arith, omega arith, c .before .before .before .before .before .before .before .before .before .before .pre .3 (not-false _ (c .before .before .before .before .before .if1 .left)))
+put-best-requires c κs =
+    let c1 = c .before .before .before .before .before in
+    let o = c1 .before .before .before .before .before in
+    (omega arith, omega arith, o .pre .3 (not-false _ (c1 .if1 .left)))
 
 same-length : tie.Need-same-length
 same-length c = search needs
@@ -33,7 +36,11 @@ same-length-2 : tie.Need-same-length-2
 same-length-2 c = search needs
 
 returns-3 : tie.Need-returns-3
-returns-3 c = held-again _ _ _ _ _ (c .before .before .before .before .before .before .before .before .before .before .before .before .before .before .before .args .b) (not-false _ (c .before .before .before .before .before .before .before .before .before .before .if1 .left)) (omega arith) (omega arith) _ _ (c .before .before .before .before .put-best .ensures)
+returns-3 c =
+    let c1 = c .before .before .before .before in
+    let c2 = c1 .before .before .before .before .before .before in
+    let o = c2 .before .before .before .before .before in
+    held-again _ _ _ _ _ (o .args .b) (not-false _ (c2 .if1 .left)) (omega arith) (omega arith) _ _ (c1 .put-best .ensures)
 
 add-t : tie.Need-add-t
 add-t c = search needs
@@ -48,10 +55,16 @@ same-length-3 : tie.Need-same-length-3
 same-length-3 c = search needs
 
 returns-4 : tie.Need-returns-4
-returns-4 c = held-full _ _ _ _ _ (c .before .before .before .before .before .before .before .before .before .args .b) (not-false _ (c .before .before .before .before .if1 .left)) (c .before .before .before .before .before .before .before .before .before .pre .0) (omega arith) (omega arith)
+returns-4 c =
+    let c1 = c .before .before .before .before in
+    let o = c1 .before .before .before .before .before in
+    held-full _ _ _ _ _ (o .args .b) (not-false _ (c1 .if1 .left)) (o .pre .0) (omega arith) (omega arith)
 
 put-best-requires-2 : tie.Need-put-best-requires-2
-put-best-requires-2 c κs = (omega arith, omega arith, c .before .before .before .before .before .before .before .before .before .before .before .pre .3 (not-false _ (c .before .before .before .before .before .before .if1 .left)))
+put-best-requires-2 c κs =
+    let c1 = c .before .before .before .before .before .before in
+    let o = c1 .before .before .before .before .before in
+    (omega arith, omega arith, o .pre .3 (not-false _ (c1 .if1 .left)))
 
 cast-t : tie.Need-cast-t
 cast-t c = search needs
@@ -84,7 +97,11 @@ same-length-6 : tie.Need-same-length-6
 same-length-6 c = search needs
 
 returns-5 : tie.Need-returns-5
-returns-5 c = held-fresh _ _ _ _ _ (c .before .before .before .before .before .before .before .before .before .before .before .before .before .before .before .before .args .b) (not-false _ (c .before .before .before .before .before .before .before .before .before .before .before .if1 .left)) (c .before .before .before .before .before .before .before .before .before .before .before .before .before .before .before .before .pre .0) (omega arith) (omega arith) _ _ (c .before .before .before .before .put-best2 .ensures)
+returns-5 c =
+    let c1 = c .before .before .before .before in
+    let c2 = c1 .before .before .before .before .before .before .before in
+    let o = c2 .before .before .before .before .before in
+    held-fresh _ _ _ _ _ (o .args .b) (not-false _ (c2 .if1 .left)) (o .pre .0) (omega arith) (omega arith) _ _ (c1 .put-best2 .ensures)
 
 pub hold-spec : {M : Type 1} → statement M
 hold-spec =
@@ -117,4 +134,3 @@ hold-spec =
     same-length-5
     same-length-6
     returns-5)
-

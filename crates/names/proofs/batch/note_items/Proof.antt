@@ -47,27 +47,41 @@ same-length-3 : tie.Need-same-length-3 Inv-loop μ-loop
 same-length-3 c = c .before .before .before .loop .inv .1 .met .stays .spots
 
 returns : tie.Need-returns Inv-loop μ-loop
-returns c = walk-end (c .before .before .before .loop .inv .1) (items-none _ (c .before .before .before .loop .q) (c .before .before .before .loop .i) (c .before .before .find .result) (c .before .before .find .ensures) (c .if1 .taken))
+returns c =
+    let c1 = c .before .before .before in
+    walk-end (c1 .loop .inv .1) (items-none _ (c1 .loop .q) (c1 .loop .i) (c .before .before .find .result) (c .before .before .find .ensures) (c .if1 .taken))
 
 note-item-requires : tie.Need-note-item-requires Inv-loop μ-loop
 note-item-requires c κs =
-    let o = one (c .before .before .before) in
+    let c1 = c .before .before .before in
+    let c2 = c1 .before .before .before in
+    let c3 = c2 .before .before .before .before .before in
+    let o = one c1 in
     let n = label-ends o refl in
     let m = short o (standing-tells (o .stands)) in
-    let w = c .before .before .before .before .before .before .loop .inv .1 .met .stays in
-    let i = c .before .before .before .before .before .before .loop .inv .0 in
-    (omega arith, omega arith, omega (arith, o), table-same (c .before .before .before .before .before .before .before .before .before .before .before .pre .2) w, w .keys ∙ c .before .before .before .before .before .before .before .before .before .before .before .pre .3, w .spots ∙ c .before .before .before .before .before .before .before .before .before .before .before .pre .4)
+    let w = c2 .loop .inv .1 .met .stays in
+    let i = c2 .loop .inv .0 in
+    (omega arith, omega arith, omega (arith, o), table-same (c3 .pre .2) w, w .keys ∙ c3 .pre .3, w .spots ∙ c3 .pre .4)
 
 add-i : tie.Need-add-i Inv-loop μ-loop
-add-i c = omega (arith, one (c .before .before .before .before .before .before .before .before .before .before), c .before .before .before .before .before .before .before .before .before .before .before .before .before .loop .inv .0)
+add-i c =
+    let c1 = c .before .before .before .before .before .before .before .before .before .before in
+    let c2 = c1 .before .before .before in
+    omega (arith, one c1, c2 .loop .inv .0)
 
 loop-less : tie.Need-loop-less Inv-loop μ-loop
-loop-less c = omega (arith, one (c .before .before .before .before .before .before .before .before .before .before))
+loop-less c =
+    let c1 = c .before .before .before .before .before .before .before .before .before .before in
+    omega (arith, one c1)
 
 loop-again : tie.Need-loop-again Inv-loop μ-loop
 loop-again c =
-    let o = one (c .before .before .before .before .before .before .before .before .before .before) in
-    (omega (arith, o, c .before .before .before .before .before .before .before .before .before .before .before .before .before .loop .inv .0), walk-on (c .before .before .before .before .before .before .before .before .before .before .before .before .before .loop .inv .1) (c .before .before .before .before .before .before .note-item .ensures) (items-one _ (c .before .before .before .before .before .before .before .before .before .before .before .before .before .loop .q) (c .before .before .before .before .before .before .before .before .before .before .before .before .before .loop .i) (c .before .before .before .before .before .before .before .before .before .before .before .before .find .result) o))
+    let c1 = c .before .before .before .before .before .before in
+    let c2 = c1 .before .before .before .before in
+    let c3 = c2 .before .before in
+    let c4 = c3 .before in
+    let o = one c2 in
+    (omega (arith, o, c4 .loop .inv .0), walk-on (c4 .loop .inv .1) (c1 .note-item .ensures) (items-one _ (c4 .loop .q) (c4 .loop .i) (c3 .find .result) o))
 
 pub note-items-spec : {M : Type 1} → statement M
 note-items-spec =
@@ -85,4 +99,3 @@ note-items-spec =
     add-i
     loop-less
     loop-again)
-

@@ -9,8 +9,10 @@ note-places-requires c κs = search needs
 
 note-items-requires : tie.Need-note-items-requires
 note-items-requires c κs =
-    let o = c .before .before .before .before .before .before .before .before .before .before .before .before .before .before .before .before .before .pre in
-    let w = c .before .before .before .before .before .before .before .before .before .note-places .ensures .0 .stays in
+    let c1 = c .before .before .before .before .before .before .before .before .before in
+    let c2 = c1 .before .before .before .before .before .before .before .before in
+    let o = c2 .pre in
+    let w = c1 .note-places .ensures .0 .stays in
     (o .0, o .1, table-same (o .2) w, w .keys ∙ o .4, w .spots ∙ o .5)
 
 same-length : tie.Need-same-length
@@ -24,9 +26,11 @@ same-length-3 c = search needs
 
 returns : tie.Need-returns
 returns c =
-    let o = c .before .before .before .before .before .before .before .before .before .before .before .before .before .before .before .before .before .before .before .before .before .before .before .before in
-    let v = c .before .before .before .before .before .before .before .before .before .before .before .before .before .before .before .before .note-places in
-    noted (o .args .more) _ (o .args .t .now) (o .args .count) (o .args .p) (v .result .end) (o .pre .2) (o .pre .3) (v .ensures .0) (v .ensures .1) (c .before .before .before .before .before .before .note-items .ensures)
+    let c1 = c .before .before .before .before .before .before in
+    let c2 = c1 .before .before .before .before .before .before .before .before .before .before in
+    let o = c2 .before .before .before .before .before .before .before .before in
+    let v = c2 .note-places in
+    noted (o .args .more) _ (o .args .t .now) (o .args .count) (o .args .p) (v .result .end) (o .pre .2) (o .pre .3) (v .ensures .0) (v .ensures .1) (c1 .note-items .ensures)
 
 pub note-labels-spec : {M : Type 1} → statement M
 note-labels-spec =
@@ -38,4 +42,3 @@ note-labels-spec =
     same-length-2
     same-length-3
     returns)
-

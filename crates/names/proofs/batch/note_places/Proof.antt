@@ -42,28 +42,42 @@ same-length-3 : tie.Need-same-length-3 Inv-loop μ-loop
 same-length-3 c = c .before .before .before .loop .inv .2 .met .stays .spots
 
 returns : tie.Need-returns Inv-loop μ-loop
-returns c = (walk-end (c .before .before .before .loop .inv .2) (places-none _ (c .before .before .before .loop .q) (c .before .before .before .loop .i) (c .before .before .seek .result) (answer _ (c .before .before .before .loop .q) _ _ _ (c .before .before .seek .ensures)) (c .if1 .taken)), c .before .before .before .loop .inv .1 ∙ ap (map itemAt) (c .before .before .seek .ensures .1 .1 .1 6 0 (omega arith) (omega arith)))
+returns c =
+    let c1 = c .before .before .before in
+    (walk-end (c1 .loop .inv .2) (places-none _ (c1 .loop .q) (c1 .loop .i) (c .before .before .seek .result) (answer _ (c1 .loop .q) _ _ _ (c .before .before .seek .ensures)) (c .if1 .taken)), c1 .loop .inv .1 ∙ ap (map itemAt) (c .before .before .seek .ensures .1 .1 .1 6 0 (omega arith) (omega arith)))
 
 note-place-requires : tie.Need-note-place-requires Inv-loop μ-loop
 note-place-requires c κs =
-    let o = one (c .before .before .before) in
+    let c1 = c .before .before .before in
+    let c2 = c1 .before .before .before in
+    let c3 = c2 .before .before .before .before .before in
+    let o = one c1 in
     let n = named o (standing-tells (o .stands)) refl in
-    let w = c .before .before .before .before .before .before .loop .inv .2 .met .stays in
-    let i = c .before .before .before .before .before .before .loop .inv .0 in
-    (omega (arith, n, o .fits), omega (arith, n), omega (arith, o), table-same (c .before .before .before .before .before .before .before .before .before .before .before .pre .2) w, w .keys ∙ c .before .before .before .before .before .before .before .before .before .before .before .pre .3, w .spots ∙ c .before .before .before .before .before .before .before .before .before .before .before .pre .4)
+    let w = c2 .loop .inv .2 .met .stays in
+    let i = c2 .loop .inv .0 in
+    (omega (arith, n, o .fits), omega (arith, n), omega (arith, o), table-same (c3 .pre .2) w, w .keys ∙ c3 .pre .3, w .spots ∙ c3 .pre .4)
 
 add-i : tie.Need-add-i Inv-loop μ-loop
-add-i c = omega (arith, one (c .before .before .before .before .before .before .before .before .before .before), c .before .before .before .before .before .before .before .before .before .before .before .before .before .loop .inv .0)
+add-i c =
+    let c1 = c .before .before .before .before .before .before .before .before .before .before in
+    let c2 = c1 .before .before .before in
+    omega (arith, one c1, c2 .loop .inv .0)
 
 loop-less : tie.Need-loop-less Inv-loop μ-loop
-loop-less c = omega (arith, one (c .before .before .before .before .before .before .before .before .before .before))
+loop-less c =
+    let c1 = c .before .before .before .before .before .before .before .before .before .before in
+    omega (arith, one c1)
 
 loop-again : tie.Need-loop-again Inv-loop μ-loop
 loop-again c =
-    let o = one (c .before .before .before .before .before .before .before .before .before .before) in (
-      omega (arith, o, c .before .before .before .before .before .before .before .before .before .before .before .before .before .loop .inv .0),
-      c .before .before .before .before .before .before .before .before .before .before .before .before .before .loop .inv .1 ∙ ap (map itemAt) (beyond o (c .before .before .before .before .before .before .before .before .before .before .before .before .seek .ensures .1 .1 .1) 6 0 (omega arith) (omega arith)),
-      walk-on (c .before .before .before .before .before .before .before .before .before .before .before .before .before .loop .inv .2) (c .before .before .before .before .before .before .note-place .ensures) (places-one _ (c .before .before .before .before .before .before .before .before .before .before .before .before .before .loop .q) (c .before .before .before .before .before .before .before .before .before .before .before .before .before .loop .i) (c .before .before .before .before .before .before .before .before .before .before .before .before .seek .result) o),
+    let c1 = c .before .before .before .before .before .before in
+    let c2 = c1 .before .before .before .before in
+    let c3 = c2 .before .before in
+    let c4 = c3 .before in
+    let o = one c2 in (
+      omega (arith, o, c4 .loop .inv .0),
+      c4 .loop .inv .1 ∙ ap (map itemAt) (beyond o (c3 .seek .ensures .1 .1 .1) 6 0 (omega arith) (omega arith)),
+      walk-on (c4 .loop .inv .2) (c1 .note-place .ensures) (places-one _ (c4 .loop .q) (c4 .loop .i) (c3 .seek .result) o),
     )
 
 pub note-places-spec : {M : Type 1} → statement M
@@ -82,4 +96,3 @@ note-places-spec =
     add-i
     loop-less
     loop-again)
-

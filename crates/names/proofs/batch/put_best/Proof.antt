@@ -117,4 +117,3 @@ put-best-spec =
     same-length
     same-length-2
     returns)
-

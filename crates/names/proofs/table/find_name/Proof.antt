@@ -56,12 +56,18 @@ cast-order : tie.Need-cast-order Inv-loop μ-loop
 cast-order c = let l = c .before .before .loop in omega (arith, middle (c .before), c .shared-slice-known3 .given (l .lo + (l .hi - l .lo) / 2))
 
 order-requires : tie.Need-order-requires Inv-loop μ-loop
-order-requires c κs = (c .before .before .before .before .before .before .before .pre .2 .stands _ (omega (arith, middle (c .before))), c .before .before .before .before .before .before .before .pre .0, c .before .before .before .before .before .before .before .pre .1, front-is _ (c .before .before .before .before .word-of .ensures) (c .before .before .before .spare-bits .ensures))
+order-requires c κs =
+    let c1 = c .before .before .before in
+    let c2 = c1 .before in
+    let o = c2 .before .before .before in
+    (o .pre .2 .stands _ (omega (arith, middle (c .before))), o .pre .0, o .pre .1, front-is _ (c2 .word-of .ensures) (c1 .spare-bits .ensures))
 
 returns : tie.Need-returns Inv-loop μ-loop
 returns c =
-    let m = middle (c .before .before .before) in
-    between-hit _ _ _ _ _ (c .before .before .before .before .before .before .before .before .before .pre .2) _ (omega arith) (told-same _ _ (c .before .order .ensures) (omega arith))
+    let c1 = c .before .before .before in
+    let o = c1 .before .before .before .before .before .before in
+    let m = middle c1 in
+    between-hit _ _ _ _ _ (o .pre .2) _ (omega arith) (told-same _ _ (c .before .order .ensures) (omega arith))
 
 add-lo : tie.Need-add-lo Inv-loop μ-loop
 add-lo c = omega (arith, middle (c .before .before .before .before))
@@ -71,18 +77,24 @@ loop-less c = omega (arith, middle (c .before .before .before .before))
 
 loop-again : tie.Need-loop-again Inv-loop μ-loop
 loop-again c =
-    let l = c .before .before .before .before .before .loop in
-    let m = middle (c .before .before .before .before) in
-    between-up _ _ _ _ _ (c .before .before .before .before .before .before .before .before .before .before .pre .2) _ (omega arith) (l .lo) (l .hi) (l .inv) (m .high) (told-before _ _ (c .before .before .order .ensures) (omega arith))
+    let c1 = c .before .before .before .before in
+    let c2 = c1 .before in
+    let o = c2 .before .before .before .before .before in
+    let l = c2 .loop in
+    let m = middle c1 in
+    between-up _ _ _ _ _ (o .pre .2) _ (omega arith) (l .lo) (l .hi) (l .inv) (m .high) (told-before _ _ (c .before .before .order .ensures) (omega arith))
 
 loop-less-2 : tie.Need-loop-less-2 Inv-loop μ-loop
 loop-less-2 c = omega (arith, middle (c .before .before .before .before))
 
 loop-again-2 : tie.Need-loop-again-2 Inv-loop μ-loop
 loop-again-2 c =
-    let l = c .before .before .before .before .before .loop in
-    let m = middle (c .before .before .before .before) in
-    between-down _ _ _ _ _ (c .before .before .before .before .before .before .before .before .before .before .pre .2) _ (omega arith) (l .lo) (l .hi) (l .inv) (m .low) (told-after _ _ (c .before .before .order .ensures) (λ e. omega arith) (λ e. omega arith))
+    let c1 = c .before .before .before .before in
+    let c2 = c1 .before in
+    let o = c2 .before .before .before .before .before in
+    let l = c2 .loop in
+    let m = middle c1 in
+    between-down _ _ _ _ _ (o .pre .2) _ (omega arith) (l .lo) (l .hi) (l .inv) (m .low) (told-after _ _ (c .before .before .order .ensures) (λ e. omega arith) (λ e. omega arith))
 
 returns-2 : tie.Need-returns-2 Inv-loop μ-loop
 returns-2 c = between-none _ _ _ _ _ (c .before .loop .lo) (c .before .loop .hi) (c .before .loop .inv) (omega arith)
@@ -110,4 +122,3 @@ find-name-spec =
     loop-less-2
     loop-again-2
     returns-2)
-

@@ -17,49 +17,51 @@ Inv-loop s p q n i₀ i =
 abbrev μ-loop : tie.MeasureT-loop
 μ-loop s p q n i₀ i = n - i
 
--- src/table.rt:34:5
 loop-holds : tie.Need-loop-holds Inv-loop μ-loop
 loop-holds c = (omega arith, refl)
 
--- src/table.rt:35:28
 add-byte : tie.Need-add-byte Inv-loop μ-loop
 add-byte c = omega arith
 
--- src/table.rt:35:13
 byte-requires : tie.Need-byte-requires Inv-loop μ-loop
 byte-requires c κs = (omega arith, omega (arith, rest-length (c .before .before .before .args .s .now) 0))
 
--- src/table.rt:36:28
 add-byte-2 : tie.Need-add-byte-2 Inv-loop μ-loop
 add-byte-2 c = omega arith
 
--- src/table.rt:36:13
 byte-requires-2 : tie.Need-byte-requires-2 Inv-loop μ-loop
 byte-requires-2 c κs = (omega arith, omega (arith, rest-length (c .before .before .before .before .args .s .now) 0))
 
--- src/table.rt:38:13
 returns : tie.Need-returns Inv-loop μ-loop
-returns c = byte-less (c .before .before .before .before .before .before .args .s .now) (c .before .before .before .before .before .before .args .p) (c .before .before .before .before .before .before .args .q) (c .before .before .before .before .before .before .args .n) (c .before .before .before .before .loop .i) (c .before .before .before .before .before .before .pre .0) (c .before .before .before .before .before .before .pre .1) (omega arith) (c .before .before .byte .ensures) (c .before .byte2 .ensures) (omega arith) ∙ sym (c .before .before .before .before .loop .inv .1)
+returns c =
+    let c1 = c .before .before .before .before in
+    let o = c1 .before .before in
+    byte-less (o .args .s .now) (o .args .p) (o .args .q) (o .args .n) (c1 .loop .i) (o .pre .0) (o .pre .1) (omega arith) (c .before .before .byte .ensures) (c .before .byte2 .ensures) (omega arith) ∙ sym (c1 .loop .inv .1)
 
--- src/table.rt:41:13
 returns-2 : tie.Need-returns-2 Inv-loop μ-loop
-returns-2 c = byte-more (c .before .before .before .before .before .before .before .args .s .now) (c .before .before .before .before .before .before .before .args .p) (c .before .before .before .before .before .before .before .args .q) (c .before .before .before .before .before .before .before .args .n) (c .before .before .before .before .before .loop .i) (c .before .before .before .before .before .before .before .pre .0) (c .before .before .before .before .before .before .before .pre .1) (omega arith) (c .before .before .before .byte .ensures) (c .before .before .byte2 .ensures) (omega arith) ∙ sym (c .before .before .before .before .before .loop .inv .1)
+returns-2 c =
+    let c1 = c .before .before .before in
+    let c2 = c1 .before .before in
+    let o = c2 .before .before in
+    byte-more (o .args .s .now) (o .args .p) (o .args .q) (o .args .n) (c2 .loop .i) (o .pre .0) (o .pre .1) (omega arith) (c1 .byte .ensures) (c .before .before .byte2 .ensures) (omega arith) ∙ sym (c2 .loop .inv .1)
 
--- src/table.rt:43:9
 add-i : tie.Need-add-i Inv-loop μ-loop
 add-i c = omega arith
 
--- src/table.rt:34:5
 loop-less : tie.Need-loop-less Inv-loop μ-loop
 loop-less c = omega arith
 
--- src/table.rt:34:5
 loop-again : tie.Need-loop-again Inv-loop μ-loop
-loop-again c = (omega arith, c .before .before .before .before .before .loop .inv .1 ∙ byte-same (c .before .before .before .before .before .before .before .args .s .now) (c .before .before .before .before .before .before .before .args .p) (c .before .before .before .before .before .before .before .args .q) (c .before .before .before .before .before .before .before .args .n) (c .before .before .before .before .before .loop .i) (c .before .before .before .before .before .before .before .pre .0) (c .before .before .before .before .before .before .before .pre .1) (omega arith) (c .before .before .before .byte .ensures) (c .before .before .byte2 .ensures) (omega arith) (omega arith))
+loop-again c =
+    let c1 = c .before .before .before in
+    let c2 = c1 .before .before in
+    let o = c2 .before .before in
+    (omega arith, c2 .loop .inv .1 ∙ byte-same (o .args .s .now) (o .args .p) (o .args .q) (o .args .n) (c2 .loop .i) (o .pre .0) (o .pre .1) (omega arith) (c1 .byte .ensures) (c .before .before .byte2 .ensures) (omega arith) (omega arith))
 
--- src/table.rt:29:1
 returns-3 : tie.Need-returns-3 Inv-loop μ-loop
-returns-3 c = bytes-end (c .before .before .before .args .s .now) (c .before .before .before .args .p) (c .before .before .before .args .q) (c .before .before .before .args .n) (c .before .loop .i) (c .before .before .before .pre .0) (c .before .before .before .pre .1) (omega arith) ∙ sym (c .before .loop .inv .1)
+returns-3 c =
+    let o = c .before .before .before in
+    bytes-end (o .args .s .now) (o .args .p) (o .args .q) (o .args .n) (c .before .loop .i) (o .pre .0) (o .pre .1) (omega arith) ∙ sym (c .before .loop .inv .1)
 
 pub order-bytes-spec : {M : Type 1} → statement M
 order-bytes-spec =
@@ -78,4 +80,3 @@ order-bytes-spec =
     loop-less
     loop-again
     returns-3)
-

@@ -3,23 +3,18 @@ use Rattle.names.specs.Contracts.Words.{wordOf}
 use Rattle.names.proofs.table.word_of.Statement.{statement}
 use Rattle.names.proofs.table.word_of.Tie as tie
 
--- src/table.rt:63:5
 word-at-requires : tie.Need-word-at-requires
 word-at-requires c κs = search needs
 
--- src/table.rt:63:30
 add-result : tie.Need-add-result
 add-result c = search needs
 
--- src/table.rt:63:29
 mul-result : tie.Need-mul-result
 mul-result c = search needs
 
--- src/table.rt:63:5
 add-result-2 : tie.Need-add-result-2
 add-result-2 c = search needs
 
--- src/table.rt:59:1
 returns : tie.Need-returns
 unfolding wordOf
 returns c = search needs
