@@ -128,7 +128,8 @@ fn make_room(t: &mut [u32], at: usize, n: usize)
 // The name of n bytes whose length stands at p becomes one of the first `count` entries, unless it is one of them. How many there are then. Most names come in their order: the last entry is looked at first.
 pub fn insert(s: &[u8], t: &mut [u32], count: usize, p: usize, n: usize, more: u64) -> usize
     requires { ⌜ (p < 33554432) × Stands more (payload (now s)) p
-        × (n + more ≡ getD (payload (now s)) p 0) × (n + more ≤ 255) × (count < length (now t)) × Table more (payload (now s)) (now t) count ⌝ }
+        × (n + more ≡ getD (payload (now s)) p 0) × (n + more ≤ 255)
+        × (count < length (now t)) × Table more (payload (now s)) (now t) count ⌝ }
     ensures { λ r. ⌜ Inserted more (payload (now (s .entry))) (now (t .entry)) (now (t .exit)) count r
         (part (payload (now (s .entry))) (p + 1) n) ⌝ }
 {
