@@ -1,208 +1,282 @@
--- Control points one after another: what `putOf`, `named` and `gathered` come to by cases.
-use mathlib.Core.Path.{_≡_, refl, ap, sym, _∙_}
+-- A batch of names, from the walk over the labels on, and all batches of a part.
+use mathlib.Core.Path.{_≡_, refl, sym, ap, subst, _∙_}
 use mathlib.Core.Logic.{_⊎_, inl, inr}
-use mathlib.Core.Bool.{Bool, true, false, not, _&&_}
-use mathlib.Core.List.{List, [], _∷_, _++_}
-use Prim.Native.Nat.{ℕ, suc, _+_, _≤_, _<_}
-use native.Mathlib.Numerals.{add-one}
+use mathlib.Core.Bool.{Bool, true, false, _||_, cond, false≢true}
+use mathlib.Core.List.{List, [], _∷_, _++_, append-assoc, append-nil}
+use Prim.Native.Nat.{ℕ, zero, suc, _+_, _-_, _%_, _≤_, _<_}
 use native.Mathlib.Omega.{arith}
-use lib.ListN.{length, take, set, length-set}
-use lib.Seq.{take-nil, take-length}
+use lib.ListN.{length, take, drop, getD, replicate, length-append, length-drop, take-append-drop}
+use lib.Seq.{take-length, take-add, take-all, drop-drop, length-take-le}
 use lib.Dec.{eqb, ltb}
 use lib.Ieee.{Float}
-use borrow.Author.Tests.{lt-ltb, le-ltb, not-true, not-false}
-use Rattle.records.specs.Records.{part}
+use borrow.Author.Tests.{ltb-true, ltb-false, eqb-true, eqb-false}
+use Rattle.stream.specs.Payload.{payload}
+use Rattle.scene.specs.Scene.{Maybe, none, some, Scene, sceneOf}
+use Rattle.scene.specs.Labels.{pointOfLabel}
+use Rattle.scene.specs.Contracts.Answers.{Labels, Variables, placesAt, itemsAt, featuresAt, variablesAt}
+use Rattle.scene.specs.Laws.Answers.{scene-lists, all-labels}
+use Rattle.scene.specs.Laws.Rising.{variables-rising}
+use Rattle.records.specs.Layout.{laidOut}
 use Rattle.similarity.specs.declared.fit.Control.{Control}
-use Rattle.scene.specs.declared.numbers.Value.{Value}
-use Rattle.scene.specs.declared.sections.Feature.{Feature}
-use Rattle.scene.specs.Scene.{Maybe, none, some, Point, Scene, NamedFeature, NamedValue, sceneOf}
-use Rattle.scene.specs.Labels.{same}
-use Rattle.scene.specs.Contracts.Answers.{valueBy, featuresAt, featuresBy, variablesAt}
-use Rattle.scene.specs.Laws.Answers.{scene-lists}
-use Rattle.register.specs.declared.controls.Candidate.{Candidate}
-use Rattle.register.specs.declared.controls.Gathered.{Gathered}
-use Rattle.register.specs.Contracts.Warned.{fateOf}
-use Rattle.register.specs.Register.{Warning, Event, control, warn, placed, resolved, mentioned, eventOf, suffixLat, var, stem, isLon, lonEvent, onto, variableEvents, featureEvent, featureEvents, events}
-use Rattle.register.specs.Contracts.Gathered.{noControls, putOf, takenOf, after, unnamed, named, paired, gathered}
+use Rattle.names.specs.Contracts.Table.{nameOf, markOf, marked, Table, In}
+use Rattle.names.specs.Contracts.Batch as batch
+use Rattle.register.specs.declared.controls.Tally.{Tally}
+use Rattle.register.specs.declared.controls.Filled as code-filled
+use Rattle.register.specs.declared.mentions.Cursor.{Cursor}
+use Rattle.register.specs.Register.{isSome, Event, resolved, mentioned, allPlaced, featureEvents, variableEvents, events, controlsIn, controlsOf}
+use Rattle.register.specs.declared.survey.Survey.{Survey}
+use Rattle.register.specs.Contracts.Survey.{lonsIn, Surveyed}
+use Rattle.register.specs.Contracts.Mentions.{Mention, featureMentions, lonMentions, eventsOf, mentionsAt, moreOf, Follows}
+use Rattle.register.specs.Contracts.Gathered.{numbersIn, upTo65, controlsBy, Holds, Gathers, among, Filling, Batch, Waits, nobody, featured, Fewer, Forgotten, Ready, Read, againOf, grownAll, partEvents, baseOf, beforeOf, batchEvents, Earlier, firstCursor}
+use Rattle.register.proofs.Turning.{along}
+use Rattle.register.proofs.Waiting.{in-stays}
+use Rattle.register.proofs.Reading.{controls-append, numbers-append, events-length}
+use Rattle.register.proofs.Parting.{features-length, lons-length, all-features, all-variables, flatEvents, among-grown, none-come, partMentions, soFar, so-far-length, part-whole, part-batch, part-earlier}
 
--- ---- one more
-pub both : (a b : Bool) {r : Bool} → ((a ≡ true) × (r ≡ b)) ⊎ ((a ≡ false) × (r ≡ false)) → r ≡ (a && b)
-both true b (inl h) = h .1
-both true b (inr h) = cc
-both false b (inl h) = cc
-both false b (inr h) = h .1
+-- ---- after the walk over the labels
+module _ {more : ℕ} {l t t′ : List ℕ} {n : ℕ} {spots : List Float} {used p : ℕ} (d : batch.Noted more l t t′ n spots used p) (w : Labels l p) where
+  resolves-so : (i : ℕ) → pointOfLabel (nameOf more l (getD t i 0)) (placesAt l p) (itemsAt l p) ≡ resolved (sceneOf l) (nameOf more l (getD t′ i 0))
+  resolves-so i = rw (d .names i, scene-lists l .2, scene-lists l .3) (all-labels l p (nameOf more l (getD t i 0)) w refl)
 
-module _ (g : Gathered) (c : Control) {ok : Bool} (e : ok ≡ (g .placed && placed (c .lon) (c .lat))) where
-  pub put-full : 64 ≤ g .n → _≡_ {A = Gathered} (record { at = g .at; n = 65; placed = ok }) (putOf g c)
-  unfolding putOf
-  put-full h = rw (e, le-ltb (g .n) 64 h) refl
-
-  pub put-more : g .n < 64 → _≡_ {A = Gathered} (record { at = set (g .at) (g .n) c; n = g .n + 1; placed = ok }) (putOf g c)
-  unfolding putOf
-  put-more h = rw (e, lt-ltb (g .n) 64 h) refl
-
--- ---- they keep their room
-put-length : (g : Gathered) (c : Control) (b : Bool) → ltb (g .n) 64 ≡ b → length (putOf g c .at) ≡ length (g .at)
-unfolding putOf
-put-length g c true e = rw e (length-set (g .at) (g .n) c)
-put-length g c false e = rw e refl
-
-after-length : (e : Event) (g : Gathered) → length (after e g .at) ≡ length (g .at)
-unfolding after
-after-length (control c) g = put-length g c (ltb (g .n) 64) refl
-after-length (warn w) g = refl
-
-pub gathered-length : (es : List Event) (g : Gathered) → length (gathered es g .at) ≡ length (g .at)
-unfolding gathered
-gathered-length [] g = refl
-gathered-length (e ∷ es) g = gathered-length es (after e g) ∙ after-length e g
-
-pub named-length : (sc : Scene) (name : List ℕ) (i : ℕ) (lon lat : Float) (g : Gathered) → length (named sc name i lon lat g .at) ≡ length (g .at)
-unfolding named
-named-length sc name i lon lat g = after-length _ g
-
-pub paired-length : (sc : Scene) (name : List ℕ) (i : ℕ) (lon : Float) (lat : Maybe Float) (g : Gathered) → length (paired sc name i lon lat g .at) ≡ length (g .at)
-unfolding paired
-paired-length sc name i lon none g = refl
-paired-length sc name i lon (some lat) g = named-length sc name i lon lat g
-
-pub gathered-append : (es fs : List Event) (g : Gathered) → gathered (es ++ fs) g ≡ gathered fs (gathered es g)
-unfolding gathered
-gathered-append [] fs g = refl
-gathered-append (e ∷ es) fs g = gathered-append es fs (after e g)
-
--- ---- whichever warnings there would be
-pub unwarned : (p : Maybe Point) (m : Bool) (lon lat : Float) (v v′ w w′ : Warning) (g : Gathered) → after (eventOf p m lon lat v v′) g ≡ after (eventOf p m lon lat w w′) g
-unfolding after eventOf
-unwarned none m lon lat v v′ w w′ g = refl
-unwarned (some p) true lon lat v v′ w w′ g = refl
-unwarned (some p) false lon lat v v′ w w′ g = refl
-
--- ---- the control point that a name may be, by what it comes to
-by-fate : (p : Maybe Point) (m : Bool) (x y lon lat : Float) (g : Gathered) (w : Warning) {k : ℕ} → k ≡ fateOf p m → (k ≡ 0 → p ≡ some (record { x = x; y = y }))
-    → takenOf (record { some = eqb k 0; control = record { x = x; y = y; lon = lon; lat = lat } }) g ≡ after (eventOf p m lon lat w w) g
-unfolding fateOf eventOf after
-by-fate none m x y lon lat g w e f = rw e refl
-by-fate (some p) true x y lon lat g w e f = rw e refl
-by-fate (some p) false x y lon lat g w e f =
-    let h : p ≡ record { x = x; y = y } = some-is (f e) in
-    rw (e, h) refl
-  where
-    some-is : {A : Type 0} {a b : A} → some a ≡ some b → a ≡ b
-    some-is z = cc
-
-pub named-taken : (l name : List ℕ) (i : ℕ) (lon lat x y : Float) {k : ℕ}
-    → k ≡ fateOf (resolved (sceneOf l) name) (mentioned name (take i (featuresAt l 0)))
-    → (k ≡ 0 → resolved (sceneOf l) name ≡ some (record { x = x; y = y }))
-    → (g : Gathered) → takenOf (record { some = eqb k 0; control = record { x = x; y = y; lon = lon; lat = lat } }) g ≡ named (sceneOf l) name i lon lat g
-unfolding named
-named-taken l name i lon lat x y e f g = rw (scene-lists l .0) (by-fate (resolved (sceneOf l) name) (mentioned name (take i (featuresAt l 0))) x y lon lat g unnamed e f)
-
--- where it is one, it is put to the others
-pub taken-by : (c : Candidate) {g g′ : Gathered} → ((c .some ≡ true) × (g′ ≡ putOf g (c .control))) ⊎ ((c .some ≡ false) × (g′ ≡ g)) → g′ ≡ takenOf c g
-taken-by c (inl w) = rw (w .0) (w .1)
-taken-by c (inr w) = rw (w .0) (w .1)
-
--- ---- features, the first of them the i-th
-feature-next : (sc : Scene) (i : ℕ) (f : NamedFeature) (fs : List NamedFeature) (g : Gathered)
-    → gathered (featureEvents sc i (f ∷ fs)) g ≡ gathered (featureEvents sc (suc i) fs) (named sc (f .name) i (f .lon) (f .lat) g)
-unfolding gathered featureEvents featureEvent named
-feature-next sc i f fs g = ap (gathered (featureEvents sc (suc i) fs)) (unwarned _ _ _ _ _ _ _ _ g)
-
--- the first i features are done, which lie before q
-pub record Done (l : List ℕ) (g : Gathered) (q i : ℕ) : Type 0 where
-  pub all : gathered (featureEvents (sceneOf l) 0 (featuresAt l 0)) noControls ≡ gathered (featureEvents (sceneOf l) i (featuresAt l q)) g
-  pub sized : length (g .at) ≡ 64
-  pub count : i + length (featuresAt l q) ≡ length (featuresAt l 0)
-  pub short : i ≤ q
-
-pub none-done : (l : List ℕ) {g : Gathered} → g ≡ noControls → Done l g 0 0
-none-done l e = record { all = rw e refl; sized = rw e refl; count = omega arith; short = omega arith }
-
-module _ {l : List ℕ} {g : Gathered} {q i : ℕ} (d : Done l g q i) (f : Feature) (e : featuresAt l q ≡ featuresBy l f) where
-  pub all-done : not (f .some) ≡ true → (g ≡ gathered (featureEvents (sceneOf l) 0 (featuresAt l 0)) noControls) × (i ≡ length (featuresAt l 0))
-  unfolding gathered featureEvents
-  all-done n =
-      let h : featuresAt l q ≡ [] = rw (e, not-true (f .some) n) refl in
-      (rw (d .all, h) refl, omega (arith, d, ap length h))
-
-  pub one-done : {r : Gathered} → not (f .some) ≡ false → q < f .next → r ≡ named (sceneOf l) (part l (f .at) (f .len)) i (f .lon) (f .lat) g
-      → Done l r (f .next) (i + 1)
-  one-done n more h =
-      let k : featuresAt l q ≡ record { name = part l (f .at) (f .len); lon = f .lon; lat = f .lat } ∷ featuresAt l (f .next) = rw (e, not-false (f .some) n) refl in
+  pub noted-waits : Waits (sceneOf l) more l t′ n spots nobody
+  noted-waits =
       record {
-        all = rw (d .all, k, h, add-one) (feature-next (sceneOf l) i _ _ g);
-        sized = rw h (named-length (sceneOf l) (part l (f .at) (f .len)) i (f .lon) (f .lat) g ∙ d .sized);
-        count = omega (arith, d, ap length k);
-        short = omega (arith, d);
+        no-more = λ i h m. inl (ap isSome (sym (resolves-so i) ∙ d .none-has i h m));
+        resolves = λ i h m. rw (← (resolves-so i)) (d .one-has i h m);
+        unnamed = λ i h m. refl;
+        spot = λ i h m k x. sym (resolves-so i) ∙ d .spot i h m k x;
       }
 
--- ---- variables: their numbers are in warnings only
-lon-after : (sc : Scene) (i : ℕ) (name : List ℕ) (lon : Float) (lat : Maybe Float) (g : Gathered) → after (lonEvent sc i name lon lat) g ≡ paired sc name (length (sc .features)) lon lat g
-unfolding lonEvent paired named after
-lon-after sc i name lon none g = refl
-lon-after sc i name lon (some lat) g = rw take-length (unwarned _ _ _ _ _ _ _ _ g)
+  pub unused-lost : used ≡ 0 → (x : List ℕ) → In more l t n x → isSome (resolved (sceneOf l) x) ≡ false
+  unused-lost e x k =
+      let a : nameOf more l (getD t′ (k .at) 0) ≡ x = rw (d .names (k .at)) (k .is) in
+      rw (← a) (ap isSome (sym (resolves-so (k .at)) ∙ d .none-has (k .at) (k .within) (d .unused e (k .at) (k .within))))
 
-onto-gathered : (b : Bool) (d e : Event) (ds es : List Event) (g : Gathered) → after d g ≡ after e g → ((h : Gathered) → gathered ds h ≡ gathered es h)
-    → gathered (onto b d ds) g ≡ gathered (onto b e es) g
-unfolding gathered
-onto-gathered true d e ds es g k f = ap (gathered ds) k ∙ f (after e g)
-onto-gathered false d e ds es g k f = f g
+none-marked : (t : List ℕ) (n : ℕ) → ((i : ℕ) → i < n → markOf (getD t i 0) ≡ 0) → marked t n ≡ 0
+unfolding marked
+none-marked t zero h = refl
+none-marked t (suc n) h = rw (none-marked t n (λ i k. h i (omega arith)), h n (omega arith)) refl
 
-unnumbered : (sc : Scene) (i j : ℕ) (vs : List NamedValue) (g : Gathered) → gathered (variableEvents sc i vs) g ≡ gathered (variableEvents sc j vs) g
-unfolding variableEvents
-unnumbered sc i j [] g = refl
-unnumbered sc i j (v ∷ vs) g =
-    onto-gathered (isLon (v .name)) _ _ _ _ g (lon-after sc i _ _ _ g ∙ sym (lon-after sc j _ _ _ g)) (unnumbered sc (suc i) (suc j) vs)
+-- ---- Holds, where more is known than is asked for
+pub holds-less : {b : Bool} {cs : List Control} {js : List ℕ} {g : Tally} {flat : List Float} {kept : List ℕ} → Holds true cs js g flat kept → Holds b cs js g flat kept
+holds-less h =
+    record { count = h .count; placed = h .placed; controls = λ e. h .controls refl; numbers = λ e. h .numbers refl; as-many = h .as-many; room-for = h .room-for; kept-room = h .kept-room }
 
-module _ (sc : Scene) (v : NamedValue) (vs : List NamedValue) (g : Gathered) where
-  pub other-next : isLon (v .name) ≡ false → gathered (variableEvents sc 0 (v ∷ vs)) g ≡ gathered (variableEvents sc 0 vs) g
-  unfolding variableEvents
-  other-next h = rw h (unnumbered sc 1 0 vs g)
+holds-more : {b : Bool} {cs : List Control} {js : List ℕ} {g : Tally} {flat : List Float} {kept : List ℕ} → (b ≡ true) ⊎ (64 < length cs) → Holds b cs js g flat kept → Holds true cs js g flat kept
+holds-more (inl e) h =
+    record { count = h .count; placed = h .placed; controls = λ _. h .controls e; numbers = λ _. h .numbers e; as-many = h .as-many; room-for = h .room-for; kept-room = h .kept-room }
+holds-more (inr m) h =
+    record { count = h .count; placed = h .placed; controls = λ _ k. absurd (omega arith); numbers = λ _ k. absurd (omega arith); as-many = h .as-many; room-for = h .room-for; kept-room = h .kept-room }
 
-  pub lon-next : isLon (v .name) ≡ true → {i : ℕ} {lat : Maybe Float} {r : Gathered} → i ≡ length (sc .features) → lat ≡ var sc (stem (v .name) ++ suffixLat)
-      → r ≡ paired sc (stem (v .name)) i (v .value) lat g → gathered (variableEvents sc 0 (v ∷ vs)) g ≡ gathered (variableEvents sc 0 vs) r
-  unfolding variableEvents gathered
-  lon-next h i k m = rw (m, i, k, h, ← lon-after sc 0 (stem (v .name)) (v .value) (var sc (stem (v .name) ++ suffixLat)) g) (unnumbered sc 1 0 vs _)
+by-ltb : (a b : ℕ) → (ltb a b ≡ true) ⊎ (b ≤ a)
+by-ltb a b = by (ltb a b) refl
+  where
+    by : (t : Bool) → ltb a b ≡ t → (t ≡ true) ⊎ (b ≤ a)
+    by true e = inl refl
+    by false e = inr (ltb-false a b e)
 
--- where `<L>_lat` is set, and where not
-module _ (sc : Scene) (name : List ℕ) (i : ℕ) (lon : Float) (lat : Value) {m : Maybe Float} (e : valueBy lat ≡ m) (g : Gathered) where
-  pub no-pair : not (lat .some) ≡ true → g ≡ paired sc name i lon m g
-  unfolding paired
-  no-pair n = rw (← e, not-true (lat .some) n) refl
+-- ---- a batch is read
+module _ (s : List ℕ) (lons : Bool) (c : Cursor) (f : code-filled.Filled) (base : ℕ) where
+  abbrev sc : Scene
+  sc = sceneOf (payload s)
 
-  pub a-pair : {r : Gathered} → not (lat .some) ≡ false → r ≡ named sc name i lon (lat .value) g → r ≡ paired sc name i lon m g
-  unfolding paired
-  a-pair n f = rw (← e, not-false (lat .some) n) f
+  abbrev ms : List Mention
+  ms = take (f .count) (mentionsAt (payload s) lons c)
 
--- ---- whether one of the first i features has a name
-pub mentioned-none : (name : List ℕ) (fs : List NamedFeature) {i : ℕ} → i ≡ 0 → mentioned name (take i fs) ≡ false
-unfolding mentioned
-mentioned-none name fs e = rw e refl
+  abbrev es : List Event
+  es = batchEvents (payload s) lons base ms
 
-module _ (name l : List ℕ) (q i : ℕ) (f : Feature) (e : featuresAt l q ≡ featuresBy l f) where
-  pub mentioned-end : not (f .some) ≡ true → mentioned name (take i (featuresAt l q)) ≡ false
-  unfolding mentioned
-  mentioned-end n = rw (e, not-true (f .some) n, take-nil) refl
+  module _ {t t₁ : List ℕ} {spots : List Float} {used p : ℕ}
+      (fill : Filling s lons c f t) (d : batch.Noted (moreOf lons) (payload s) t t₁ (f .n) spots used p) (w : Labels (payload s) p) where
+    -- nothing has one of its names
+    module _ {cs : List Control} {js : List ℕ} {g : Tally} {flat : List Float} {kept : List ℕ} (h : Holds true cs js g flat kept) where
+      pub batch-lost : used ≡ 0 → Holds true (cs ++ controlsIn es) (js ++ numbersIn base es) g flat kept
+      batch-lost e =
+          let o = none-come sc (againOf lons) (featured sc (beforeOf lons (length (sc .features)) base)) ms (λ x k. unused-lost d w e x (fill .all x k)) base in
+          rw (o .0, o .1, append-nil, append-nil) h
 
-  module _ (n : not (f .some) ≡ false) {j : ℕ} (d : i ≡ suc j) {t : Bool} (s : t ≡ same (part l (f .at) (f .len)) name) where
-    pub mentioned-here : t ≡ true → mentioned name (take i (featuresAt l q)) ≡ true
-    unfolding mentioned
-    mentioned-here k = rw (e, not-false (f .some) n, d, ← s, k) refl
+      module _ {t₂ : List ℕ} (forgot : Forgotten (payload s) (moreOf lons) t₁ t₂ (f .n) (beforeOf lons (length (sc .features)) base)) where
+        pub few : ltb (marked t₁ (f .n)) 65 ≡ true → (i : ℕ) → i < f .n → markOf (getD t₂ i 0) ≤ 64
+        few e i k = by (eqb (markOf (getD t₁ i 0)) 65) refl
+          where
+            by : (b : Bool) → eqb (markOf (getD t₁ i 0)) 65 ≡ b → markOf (getD t₂ i 0) ≤ 64
+            by true z = absurd (omega (arith, ltb-true (marked t₁ (f .n)) 65 e, d .full i k (eqb-true (markOf (getD t₁ i 0)) 65 z)))
+            by false z = let q = eqb-false (markOf (getD t₁ i 0)) 65 z in omega (arith, forgot .fewer i k, d .most i k)
 
-    pub mentioned-later : t ≡ false → mentioned name (take i (featuresAt l q)) ≡ mentioned name (take j (featuresAt l (f .next)))
-    unfolding mentioned
-    mentioned-later k = rw (e, not-false (f .some) n, d, ← s, k) refl
+        abbrev pub ready : Ready (payload s) lons ms t₂ (f .n) spots g flat kept
+        ready =
+            record {
+              was = featured sc (beforeOf lons (length (sc .features)) base);
+              b = ltb (marked t₁ (f .n)) 65;
+              cs = cs;
+              js = js;
+              waits = forgot .waits spots (noted-waits d w);
+              inside = λ x k. in-stays t₁ t₂ (forgot .names) (in-stays t t₁ (d .names) (fill .all x k));
+              slots = few;
+              holds = holds-less h;
+            }
 
--- ---- features, then variables
-module _ (l : List ℕ) {g : Gathered} (e : g ≡ gathered (featureEvents (sceneOf l) 0 (featuresAt l 0)) noControls) where
-  pub features-sized : length (g .at) ≡ 64
-  features-sized = rw e (gathered-length (featureEvents (sceneOf l) 0 (featuresAt l 0)) noControls)
+        module _ (before : Earlier sc lons base cs) {t₃ : List ℕ} {r : Tally} {flat′ : List Float} {kept′ : List ℕ}
+            (o : Read (payload s) lons ms t₂ t₃ (f .n) spots base (ready .was) (ready .b) cs js r flat′ kept′) where
+          -- each of its names was read, so none waits any more
+          all-gone : marked t₃ (f .n) ≡ 0
+          all-gone = none-marked t₃ (f .n) (λ i k. by i k (markOf (getD t₃ i 0)) refl)
+            where
+              name-is : (i : ℕ) → nameOf (moreOf lons) (payload s) (getD t₃ i 0) ≡ nameOf (moreOf lons) (payload s) (getD t i 0)
+              name-is i = rw (o .names i, forgot .names i, d .names i) refl
 
-  pub all-gathered : {r : Gathered} → r ≡ gathered (variableEvents (sceneOf l) 0 (variablesAt l 0)) g → r ≡ gathered (events (sceneOf l)) noControls
-  unfolding events sceneOf
-  all-gathered f = f ∙ rw e (sym (gathered-append (featureEvents (sceneOf l) 0 (featuresAt l 0)) (variableEvents (sceneOf l) 0 (variablesAt l 0)) noControls))
+              by : (i : ℕ) → i < f .n → (m : ℕ) → markOf (getD t₃ i 0) ≡ m → markOf (getD t₃ i 0) ≡ 0
+              by i k zero e = e
+              by i k (suc m) e =
+                  let a = fill .only (nameOf (moreOf lons) (payload s) (getD t₃ i 0)) (record { at = i; within = k; is = sym (name-is i) }) in
+                  absurd (false≢true (sym (o .waits .unnamed i k (omega arith)) ∙ among-grown (ready .was) ms _ a))
 
-  pub features-alone : variableEvents (sceneOf l) 0 (variablesAt l 0) ≡ [] → g ≡ gathered (events (sceneOf l)) noControls
-  unfolding gathered
-  features-alone h = all-gathered (rw h refl)
+          pub batch-read : Holds true (cs ++ controlsIn es) (js ++ numbersIn base es) r flat′ kept′
+          batch-read = holds-more (by (by-ltb (marked t₁ (f .n)) 65)) (o .holds)
+            where
+              by : (ltb (marked t₁ (f .n)) 65 ≡ true) ⊎ (65 ≤ marked t₁ (f .n)) → (ltb (marked t₁ (f .n)) 65 ≡ true) ⊎ (64 < length (cs ++ controlsIn es))
+              by (inl e) = inl e
+              by (inr m) =
+                  let k : marked t₂ (f .n) ≤ marked t₃ (f .n) + length (controlsIn es) = o .counted in
+                  inr (omega (arith, m, forgot .counted spots (noted-waits d w), k, all-gone, before, length-append cs (controlsIn es)))
+
+-- ---- all batches of a part
+-- the first a mentions are done
+pub record Parted (s : List ℕ) (lons : Bool) (g : Tally) (flat₀ : List Float) (kept₀ : List ℕ) (c : Cursor) (runs : List ℕ) (base : ℕ) (all : Tally) (flat : List Float) (kept : List ℕ) : Type 0 where
+  pub a : ℕ
+  pub based : base ≡ baseOf lons (sceneOf (payload s)) + a
+  pub enough : a ≤ length (partMentions lons (sceneOf (payload s)))
+  pub rest : mentionsAt (payload s) lons c ≡ drop a (partMentions lons (sceneOf (payload s)))
+  pub follows : Follows s lons c runs
+  pub so-far : (cs : List Control) (js : List ℕ) → Holds true cs js g flat₀ kept₀ → Earlier (sceneOf (payload s)) lons 0 cs
+      → Holds true (cs ++ controlsIn (soFar lons (sceneOf (payload s)) (take a (partMentions lons (sceneOf (payload s))))))
+      (js ++ numbersIn (baseOf lons (sceneOf (payload s))) (soFar lons (sceneOf (payload s)) (take a (partMentions lons (sceneOf (payload s)))))) all flat kept
+
+module _ {s : List ℕ} {lons : Bool} {g : Tally} {flat₀ : List Float} {kept₀ : List ℕ} {c : Cursor} {runs : List ℕ} {base : ℕ} {all : Tally} {flat : List Float} {kept : List ℕ}
+    (h : Parted s lons g flat₀ kept₀ c runs base all flat kept) where
+  abbrev scene : Scene
+  scene = sceneOf (payload s)
+
+  abbrev whole : List Mention
+  whole = partMentions lons scene
+
+  -- how many are left
+  pub left : base + length (mentionsAt (payload s) lons c) ≡ baseOf lons scene + length whole
+  left = omega (arith, h .based, h .enough, ap length (h .rest), length-drop (h .a) whole)
+
+  -- k more are done
+  more-done : (k : ℕ) (all′ : Tally) (flat′ : List Float) (kept′ : List ℕ)
+      → ((cs : List Control) (js : List ℕ) → Holds true cs js all flat kept → Earlier scene lons base cs
+      → Holds true (cs ++ controlsIn (batchEvents (payload s) lons base (take k (mentionsAt (payload s) lons c)))) (js ++ numbersIn base (batchEvents (payload s) lons base (take k (mentionsAt (payload s) lons c)))) all′ flat′ kept′)
+      → (cs : List Control) (js : List ℕ) → Holds true cs js g flat₀ kept₀ → Earlier scene lons 0 cs
+      → Holds true (cs ++ controlsIn (soFar lons scene (take (h .a + k) whole))) (js ++ numbersIn (baseOf lons scene) (soFar lons scene (take (h .a + k) whole))) all′ flat′ kept′
+  more-done k all′ flat′ kept′ f cs js p q =
+      let done = soFar lons scene (take (h .a) whole) in
+      let new = batchEvents (payload s) lons base (take k (mentionsAt (payload s) lons c)) in
+      let e : soFar lons scene (take (h .a + k) whole) ≡ done ++ new = rw (h .based) (part-batch lons s c runs (h .a) k (h .follows) (h .rest)) in
+      let n : baseOf lons scene + length done ≡ base = omega (arith, h .based, so-far-length lons scene (take (h .a) whole), length-take-le (h .a) whole (h .enough)) in
+      let z = f (cs ++ controlsIn done) (js ++ numbersIn (baseOf lons scene) done) (h .so-far cs js p q) (rw (h .based) (part-earlier lons scene (h .a) cs q)) in
+      rw (e, controls-append done new, numbers-append (baseOf lons scene) done new, n, ← (append-assoc cs (controlsIn done) (controlsIn new)), ← (append-assoc js (numbersIn (baseOf lons scene) done) (numbersIn base new))) z
+
+  pub part-on : {f : code-filled.Filled} {t : List ℕ} {runs′ : List ℕ} → Batch s lons c f t runs′ → (all′ : Tally) (flat′ : List Float) (kept′ : List ℕ)
+      → ((cs : List Control) (js : List ℕ) → Holds true cs js all flat kept → Earlier scene lons base cs
+      → Holds true (cs ++ controlsIn (batchEvents (payload s) lons base (take (f .count) (mentionsAt (payload s) lons c)))) (js ++ numbersIn base (batchEvents (payload s) lons base (take (f .count) (mentionsAt (payload s) lons c)))) all′ flat′ kept′)
+      → Parted s lons g flat₀ kept₀ (f .next) runs′ (base + f .count) all′ flat′ kept′
+  part-on {f} d all′ flat′ kept′ k =
+      record {
+        a = h .a + f .count;
+        based = omega (arith, h .based);
+        enough = omega (arith, h .enough, d .filling .enough, ap length (h .rest), length-drop (h .a) whole);
+        rest = d .rest ∙ ap (drop (f .count)) (h .rest) ∙ drop-drop (f .count) (h .a) whole;
+        follows = d .follows;
+        so-far = more-done (f .count) all′ flat′ kept′ k;
+      }
+
+  -- no name is left that has a latitude
+  pub part-end : {f : code-filled.Filled} {t : List ℕ} {runs′ : List ℕ} → Batch s lons c f t runs′ → f .n ≡ 0 → 1 ≤ length t
+      → (cs : List Control) (js : List ℕ) → Holds true cs js g flat₀ kept₀ → Earlier scene lons 0 cs
+      → Holds true (cs ++ controlsIn (partEvents lons scene)) (js ++ numbersIn (baseOf lons scene) (partEvents lons scene)) all flat kept
+  part-end {f} {t} d e m cs js p q =
+      let y : drop (f .count) (mentionsAt (payload s) lons c) ≡ [] = sym (d .rest) ∙ d .ends (omega arith) in
+      let n : length whole ≤ h .a + f .count = omega (arith, h .enough, ap length y, length-drop (f .count) (mentionsAt (payload s) lons c), ap length (h .rest), length-drop (h .a) whole) in
+      let z = more-done (f .count) all flat kept (λ us vs r o. let b = none-come scene (againOf lons) (featured scene (beforeOf lons (length (scene .features)) base)) (take (f .count) (mentionsAt (payload s) lons c)) (λ x k. absurd (nobody-in e (d .filling .all x k))) base in rw (b .0, b .1, append-nil, append-nil) r) cs js p q in
+      rw (← (part-whole lons scene)) (rw (take-all (h .a + f .count) whole n) at z)
+    where
+      nobody-in : {more : ℕ} {l t : List ℕ} {n : ℕ} {x : List ℕ} → n ≡ 0 → In more l t n x → ⊥
+      nobody-in z k = let w = k .within in omega arith
+
+pub more-few : (lons : Bool) {more : ℕ} → more ≡ moreOf lons → more ≤ 4
+more-few true e = omega arith
+more-few false e = omega arith
+
+-- ---- what is surveyed
+pub surveyed-features : {l : List ℕ} {v : Survey} → Surveyed l v → v .names - v .lons ≡ length (sceneOf l .features)
+surveyed-features {l} o = rw (scene-lists l .0) (omega (arith, o .names, o .lons))
+
+module _ {l : List ℕ} {v : Survey} (o : Surveyed l v) where
+  pub part-total : (lons : Bool) → baseOf lons (sceneOf l) + length (partMentions lons (sceneOf l)) ≤ v .names
+  part-total true = omega (arith, ap length (scene-lists l .0), lons-length (sceneOf l) 0 (sceneOf l .variables), ap lonsIn (scene-lists l .1), o .names)
+  part-total false = omega (arith, ap length (scene-lists l .0), features-length (sceneOf l) 0 (sceneOf l .features), o .names)
+
+  part-base : (lons : Bool) {base : ℕ} → base ≡ beforeOf lons (v .names - v .lons) 0 → base ≡ baseOf lons (sceneOf l) + 0
+  part-base true e = omega (arith, e, surveyed-features o)
+  part-base false e = omega arith
+
+first-mentions : (l : List ℕ) (lons : Bool) (vars : ℕ) → Variables l vars → mentionsAt l lons (firstCursor lons vars) ≡ partMentions lons (sceneOf l)
+first-mentions l true vars e = rw (scene-lists l .1, e .all) refl
+first-mentions l false vars e = rw (scene-lists l .0) refl
+
+nothing-yet : (lons : Bool) (sc : Scene) (j : ℕ) → (controlsIn (soFar lons sc []) ≡ []) × (numbersIn j (soFar lons sc []) ≡ [])
+unfolding controlsIn numbersIn flatEvents eventsOf
+nothing-yet true sc j = (refl, refl)
+nothing-yet false sc j = (refl, refl)
+
+pub part-start : (s : List ℕ) (lons : Bool) {v : Survey} {g : Tally} {flat : List Float} {kept : List ℕ} {c : Cursor} {base : ℕ} → Surveyed (payload s) v → laidOut (payload s) ≡ true
+    → c ≡ firstCursor lons (v .vars) → base ≡ beforeOf lons (v .names - v .lons) 0 → Parted s lons g flat kept c (replicate 32 0) base g flat kept
+part-start s lons {v} o r e b =
+    record {
+      a = 0;
+      based = part-base o lons b;
+      enough = omega arith;
+      rest = rw e (first-mentions (payload s) lons (v .vars) (o .vars));
+      follows = rw e (starts lons);
+      so-far = λ cs js h q. let z = nothing-yet lons (sceneOf (payload s)) (baseOf lons (sceneOf (payload s))) in rw (z .0, z .1, append-nil, append-nil) h;
+    }
+  where
+    starts : (lons : Bool) → Follows s lons (firstCursor lons (v .vars)) (replicate 32 0)
+    starts true = record { short = omega arith; along = λ _. along s (o .vars) (variables-rising (payload s) r) }
+    starts false = record { short = omega arith; along = λ z. absurd (false≢true z) }
+
+-- ---- both parts
+pub both-parts : (sc : Scene) {g : Tally} {flat : List Float} {kept : List ℕ}
+    → Holds true (([] ++ controlsIn (partEvents false sc)) ++ controlsIn (partEvents true sc)) (([] ++ numbersIn 0 (partEvents false sc)) ++ numbersIn (length (sc .features)) (partEvents true sc)) g flat kept
+    → Gathers sc g flat kept
+unfolding controlsOf events
+both-parts sc h =
+    let n : 0 + length (featureEvents sc 0 (sc .features)) ≡ length (sc .features) = omega (arith, ap length (all-features sc), events-length sc 2 nobody (featureMentions 0 (sc .features)), features-length sc 0 (sc .features)) in
+    rw (controls-append (featureEvents sc 0 (sc .features)) (variableEvents sc 0 (sc .variables)), numbers-append 0 (featureEvents sc 0 (sc .features)) (variableEvents sc 0 (sc .variables)), n) h
+
+pub features-alone : (sc : Scene) {g : Tally} {flat : List Float} {kept : List ℕ} → variableEvents sc 0 (sc .variables) ≡ []
+    → Holds true ([] ++ controlsIn (partEvents false sc)) ([] ++ numbersIn 0 (partEvents false sc)) g flat kept → Gathers sc g flat kept
+unfolding controlsOf events
+features-alone sc e h = rw (e, append-nil) h
+
+pub features-first : (sc : Scene) → Earlier sc true 0 ([] ++ controlsIn (partEvents false sc))
+features-first sc = rw (take-length, ← (all-features sc)) (omega arith)
+
+pub none-before-all : (sc : Scene) → Earlier sc false 0 []
+unfolding featureMentions eventsOf controlsIn
+none-before-all sc = omega arith
+
+pub none-held : {flat : List Float} {kept : List ℕ} → length flat ≡ 256 → length kept ≡ 64 → Holds true [] [] (record { n = 0; placed = true }) flat kept
+unfolding allPlaced controlsBy
+none-held f k = record { count = refl; placed = refl; controls = λ _ _. refl; numbers = λ _ _. refl; as-many = refl; room-for = f; kept-room = k }
+
+length-nil : (es : List Event) → length es ≡ 0 → es ≡ []
+length-nil [] z = refl
+length-nil (x ∷ es) z = absurd (omega arith)
+
+pub no-lons : (l : List ℕ) {v : Survey} → Surveyed l v → v .lons ≡ 0 → variableEvents (sceneOf l) 0 (sceneOf l .variables) ≡ []
+no-lons l o e =
+    let ms = lonMentions (sceneOf l) 0 (sceneOf l .variables) in
+    length-nil _ (omega (arith, e, o .lons, lons-length (sceneOf l) 0 (sceneOf l .variables), ap lonsIn (scene-lists l .1), ap length (all-variables (sceneOf l) 0 (sceneOf l .variables)), so-far-length true (sceneOf l) ms))

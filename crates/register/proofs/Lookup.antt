@@ -13,7 +13,7 @@ use Rattle.records.specs.Layout.{before}
 use Rattle.scene.specs.Scene.{NamedValue}
 use Rattle.scene.specs.Labels.{variableOf}
 use Rattle.scene.specs.Laws.Rising.{Rising, before-trans, before-some, lookup-on}
-use Rattle.register.specs.Contracts.Runs.{commonOf, runsOf}
+use Rattle.register.specs.Contracts.Runs.{commonOf, runsOf, Passed}
 use Rattle.register.specs.Laws.Names.{run-law, common-take}
 
 -- ---- the runs
@@ -41,16 +41,6 @@ module _ (runs : List ℕ) (c q : ℕ) (h : length runs ≡ 32) (k : c < 32) whe
   runs-new j g f =
       let e : j ≡ length (take (c + 1) runs) + (j - (c + 1)) = omega (arith, runs-head) in
       rw e (getD-append-add (take (c + 1) runs) (replicate (31 - c) q) (j - (c + 1)) 0 ∙ getD-replicate (31 - c) (j - (c + 1)) q 0 (omega arith))
-
--- ---- u was the last name, and the variables from position q on are left
-pub record Passed (vars : ℕ → List NamedValue) (u runs : List ℕ) (q : ℕ) : Type 0 where
-  pub sized : length runs ≡ 32
-  pub rising : Rising u (vars q)
-  -- a later name is among those that are left
-  pub later : (name : List ℕ) → before u name ≡ true → variableOf name (vars 0) ≡ variableOf name (vars q)
-  -- a name that begins with j bytes of u is found from the j-th run on
-  pub near : (j : ℕ) (name : List ℕ) → j < 32 → j ≤ length u → take j name ≡ take j u → variableOf name (vars 0) ≡ variableOf name (vars (getD runs j 0))
-  pub runs-rise : (j : ℕ) → j < 32 → Rising [] (vars (getD runs j 0))
 
 rising-any : (u : List ℕ) (vs : List NamedValue) → Rising u vs → Rising [] vs
 rising-any u [] r = tt

@@ -1,14 +1,17 @@
 -- What options and variables come to, by the answers to questions of them.
 use mathlib.Core.Path.{_≡_, refl}
 use mathlib.Core.Logic.{_⊎_, inl, inr}
-use mathlib.Core.Bool.{Bool, true, false, not, _&&_}
+use mathlib.Core.List.{List}
+use mathlib.Core.Bool.{Bool, true, false, not, _&&_, Bool·beq}
 use Prim.Native.Nat.{ℕ}
 use native.Mathlib.Omega.{arith}
 use lib.Ieee.{Float, binary64, mul, div, lt}
-use Rattle.scene.specs.Scene.{Maybe, some, given, Point, Scene}
+use Rattle.scene.specs.Scene.{Maybe, some, given, Point, Scene, sceneOf}
 use Rattle.scene.specs.declared.numbers.Value.{Value}
-use Rattle.scene.specs.Contracts.Answers.{valueBy}
-use Rattle.register.specs.Register.{f0, orValue, bothOf, pxMode, declaredBearing, scaleValue, above0, effectiveScale}
+use Rattle.scene.specs.Contracts.Answers.{valueBy, variablesAt}
+use Rattle.register.specs.declared.declared.Geo.{Geo}
+use Rattle.register.specs.Register.{f0, orValue, isSome, var, bothOf, onlyOne, pxMode, declaredBearing, scaleValue, above0, effectiveScale}
+use Rattle.register.specs.Contracts.Survey.{Each, Says}
 use Rattle.register.specs.Contracts.Outcome.{checkedOf, declaredOutcome}
 
 -- longitude and latitude, the first of them set
@@ -16,6 +19,13 @@ pub both : (b : Bool) (x y : Float) → given b (record { x = x; y = y }) ≡ bo
 unfolding bothOf
 both true x y = refl
 both false x y = refl
+
+-- one of them without the other
+pub one-alone : (a b : Bool) (x y : Float) → not (Bool·beq a b) ≡ onlyOne (isSome (given a x)) (isSome (given b y))
+one-alone true true x y = refl
+one-alone true false x y = refl
+one-alone false true x y = refl
+one-alone false false x y = refl
 
 -- a value or its default
 pub or-given : (r : Value) (m : Maybe Float) (d v : Float) → valueBy r ≡ m → ((r .some ≡ true) × (v ≡ r .value)) ⊎ ((r .some ≡ false) × (v ≡ d)) → v ≡ orValue m d
@@ -44,3 +54,8 @@ pub by-scale : (sc : Scene) (a o : Point) (n : ℕ) (v s t : Float) → v ≡ sc
     checkedOf (record { lon = a .x; lat = a .y; x = o .x; y = o .y; scale = s; bearing = t; method = 0; controls = n }) ≡ declaredOutcome sc a o n
 unfolding declaredOutcome
 by-scale sc a o n v s t e h k es et = rw (← e, h, k, es, et)
+
+-- ---- what variables say, said of the scene's
+pub scene-says : (l : List ℕ) {g : Geo} → Says (variablesAt l 0) g → Each (λ name x. valueBy x ≡ var (sceneOf l) name) g
+unfolding sceneOf
+scene-says l h = h

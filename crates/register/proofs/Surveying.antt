@@ -1,10 +1,10 @@
 -- The walk that surveys the variables: what is known at a position, and one turn.
 use mathlib.Core.Path.{_≡_, refl, sym, ap, _∙_}
-use mathlib.Core.Bool.{Bool, true, false, not, cond}
+use mathlib.Core.Bool.{Bool, true, false, not}
 use mathlib.Core.List.{List, [], _∷_, map}
 use Prim.Native.Nat.{ℕ, suc, _+_, _≤_, _<_}
 use native.Mathlib.Omega.{arith}
-use lib.ListN.{length, length-append}
+use lib.ListN.{length}
 use lib.Ieee.{Float}
 use borrow.Author.Tests.{not-true, not-false}
 use Rattle.records.specs.Records.{part}
@@ -12,14 +12,13 @@ use Rattle.records.specs.Contracts.Hits.{Later}
 use Rattle.scene.specs.declared.numbers.Value.{Value}
 use Rattle.scene.specs.declared.sections.Feature.{Feature}
 use Rattle.scene.specs.declared.sections.Variable.{Variable}
-use Rattle.scene.specs.Scene.{Maybe, none, some, given, Scene, NamedFeature, NamedValue, sceneOf, variableAt, placeAt, itemAt}
+use Rattle.scene.specs.Scene.{Maybe, none, some, given, NamedValue, sceneOf, variableAt, placeAt, itemAt}
 use Rattle.scene.specs.Labels.{same, pick, variableOf, orElse}
 use Rattle.scene.specs.Contracts.Answers.{valueBy, featuresAt, featuresBy, variablesAt, variablesBy, Labels, Variables}
-use Rattle.scene.specs.Laws.Answers.{scene-lists}
-use Rattle.register.specs.declared.survey.Geo.{Geo}
-use Rattle.register.specs.declared.survey.Survey.{Survey}
-use Rattle.register.specs.Register.{f0, var, Event, control, warn, isLon, onto, variableEvents, featureEvents, events, controlsIn, warningsIn, controlsOf}
-use Rattle.register.specs.Contracts.Survey.{Each, Says, keptOf, notedOf, lonsIn, Numbered, Surveyed}
+use Rattle.register.specs.declared.declared.Declared.{Declared}
+use Rattle.register.specs.declared.declared.Geo.{Geo}
+use Rattle.register.specs.Register.{f0, isLon}
+use Rattle.register.specs.Contracts.Survey.{Each, Says, keptOf, notedOf, lonsIn, Declares, Numbered, Surveyed}
 
 -- ---- a value looked for among all of them: it is found, or stands in the rest
 abbrev Ahead : List NamedValue → List NamedValue → List ℕ → Value → Type 0
@@ -77,10 +76,11 @@ kept-new old x h e = rw (h, e) refl
 pub record Numbering (l : List ℕ) (n q : ℕ) : Type 0 where
   pub count : n + length (featuresAt l q) ≡ length (featuresAt l 0)
   pub short : n ≤ q
+  pub fits : q ≤ length l
   pub behind : Later l 3 0 q
 
 pub numbering : (l : List ℕ) → Numbering l 0 0
-numbering l = record { count = omega arith; short = omega arith; behind = λ t k h m. refl }
+numbering l = record { count = omega arith; short = omega arith; fits = omega arith; behind = λ t k h m. refl }
 
 module _ {l : List ℕ} {n q : ℕ} (d : Numbering l n q) (f : Feature) (e : featuresAt l q ≡ featuresBy l f) where
   pub numbered : not (f .some) ≡ true → Numbered l n q
@@ -89,16 +89,17 @@ module _ {l : List ℕ} {n q : ℕ} (d : Numbering l n q) (f : Feature) (e : fea
       record {
         count = omega (arith, d, ap length h);
         short = d .short;
+        fits = d .fits;
         behind = record {
           all = ap (map variableAt) (d .behind 4 0 (omega arith) (omega arith));
           labels = record { places = ap (map placeAt) (d .behind 5 0 (omega arith) (omega arith)); items = ap (map itemAt) (d .behind 6 0 (omega arith) (omega arith)) };
         };
       }
 
-  pub one-numbered : Later l 3 q (f .next) → not (f .some) ≡ false → q < f .next → Numbering l (n + 1) (f .next)
-  one-numbered a s more =
+  pub one-numbered : Later l 3 q (f .next) → not (f .some) ≡ false → q < f .next → f .next ≤ length l → Numbering l (n + 1) (f .next)
+  one-numbered a s more fits =
       let h : featuresAt l q ≡ record { name = part l (f .at) (f .len); lon = f .lon; lat = f .lat } ∷ featuresAt l (f .next) = rw (e, not-false (f .some) s) refl in
-      record { count = omega (arith, d, ap length h); short = omega (arith, d); behind = λ t k i j. d .behind t k i j ∙ a t k i j }
+      record { count = omega (arith, d, ap length h); short = omega (arith, d); fits = fits; behind = λ t k i j. d .behind t k i j ∙ a t k i j }
 
 -- ---- the walk over the variables: so much is known at q
 pub record Surveying (l : List ℕ) (geo : Geo) (n m q : ℕ) : Type 0 where
@@ -107,6 +108,7 @@ pub record Surveying (l : List ℕ) (geo : Geo) (n m q : ℕ) : Type 0 where
   pub lons : m + lonsIn (variablesAt l q) ≡ lonsIn (variablesAt l 0)
   pub fewer : m ≤ n
   pub short : n ≤ q
+  pub fits : q ≤ length l
   pub labels : Labels l q
 
 abbrev nothing-said : Value
@@ -125,6 +127,7 @@ surveying l {q = q} v =
       lons = omega (arith, ap lonsIn all);
       fewer = omega arith;
       short = v .short;
+      fits = v .fits;
       labels = v .behind .labels;
     }
 
@@ -132,20 +135,26 @@ module _ {l : List ℕ} {geo : Geo} {n m q : ℕ} (d : Surveying l geo n m q) (v
   labels-on : Labels l (v .next)
   labels-on = record { places = d .labels .places ∙ ap (map placeAt) (a 5 0 (omega arith) (omega arith)); items = d .labels .items ∙ ap (map itemAt) (a 6 0 (omega arith) (omega arith)) }
 
-  pub surveyed : {vars : ℕ} → Variables l vars → not (v .some) ≡ true → Surveyed l (record { geo = geo; names = n; lons = m; vars = vars; labels = v .next })
+  none-left : not (v .some) ≡ true → variablesAt l q ≡ []
+  none-left s = rw (e, not-true (v .some) s) refl
+
+  pub all-said : not (v .some) ≡ true → Says (variablesAt l 0) geo
+  all-said s = each-last (variablesAt l 0) (rw (none-left s) at (d .said))
+
+  pub surveyed : {x : Declared} {vars : ℕ} → Declares (sceneOf l) x → Variables l vars → not (v .some) ≡ true → Surveyed l (record { declared = x; names = n; lons = m; vars = vars; labels = v .next })
   unfolding lonsIn
-  surveyed vs s =
-      let h : variablesAt l q ≡ [] = rw (e, not-true (v .some) s) refl in
-      let z : lonsIn (variablesAt l q) ≡ 0 = rw h refl in
+  surveyed x vs s =
+      let z : lonsIn (variablesAt l q) ≡ 0 = rw (none-left s) refl in
       record {
-        says = each-last (variablesAt l 0) (rw h at (d .said));
+        declares = x;
         names = omega (arith, d .names);
         lons = omega (arith, d .lons);
+        few = omega (arith, d .short, d .fits);
         vars = vs;
         labels = labels-on;
       }
 
-  module _ (s : not (v .some) ≡ false) {geo′ : Geo} (g : geo′ ≡ notedOf (part l (v .at) (v .len)) (v .value) geo) {t : Bool} (b : t ≡ isLon (part l (v .at) (v .len))) (more : q < v .next) where
+  module _ (s : not (v .some) ≡ false) {geo′ : Geo} (g : geo′ ≡ notedOf (part l (v .at) (v .len)) (v .value) geo) {t : Bool} (b : t ≡ isLon (part l (v .at) (v .len))) (more : q < v .next) (end : v .next ≤ length l) where
     here : variablesAt l q ≡ record { name = part l (v .at) (v .len); value = v .value } ∷ variablesAt l (v .next)
     here = rw (e, not-false (v .some) s) refl
 
@@ -156,65 +165,10 @@ module _ {l : List ℕ} {geo : Geo} {n m q : ℕ} (d : Surveying l geo n m q) (v
     unfolding lonsIn
     lon-surveyed h =
         let z : lonsIn (variablesAt l q) ≡ suc (lonsIn (variablesAt l (v .next))) = rw (here, ← b, h) refl in
-        record { said = said-on; names = omega (arith, d .names); lons = omega (arith, d .lons); fewer = omega (arith, d .fewer); short = omega (arith, d .short); labels = labels-on }
+        record { said = said-on; names = omega (arith, d .names); lons = omega (arith, d .lons); fewer = omega (arith, d .fewer); short = omega (arith, d .short); fits = end; labels = labels-on }
 
     pub other-surveyed : t ≡ false → Surveying l geo′ n m (v .next)
     unfolding lonsIn
     other-surveyed h =
         let z : lonsIn (variablesAt l q) ≡ lonsIn (variablesAt l (v .next)) = rw (here, ← b, h) refl in
-        record { said = said-on; names = omega (arith, d .names); lons = omega (arith, d .lons); fewer = d .fewer; short = omega (arith, d .short); labels = labels-on }
-
--- ---- an event for each name
-lon-events : (sc : Scene) (i : ℕ) (vs : List NamedValue) → length (variableEvents sc i vs) ≡ lonsIn vs
-unfolding lonsIn variableEvents
-lon-events sc i [] = refl
-lon-events sc i (v ∷ vs) = by (isLon (v .name)) _ _ (lon-events sc (suc i) vs)
-  where
-    by : (b : Bool) (x : Event) (xs : List Event) {k : ℕ} → length xs ≡ k → length (onto b x xs) ≡ cond b (suc k) k
-    by true x xs h = ap suc h
-    by false x xs h = h
-
-feature-events : (sc : Scene) (i : ℕ) (fs : List NamedFeature) → length (featureEvents sc i fs) ≡ length fs
-unfolding featureEvents
-feature-events sc i [] = refl
-feature-events sc i (f ∷ fs) = ap suc (feature-events sc (suc i) fs)
-
-all-events : (sc : Scene) → length (events sc) ≡ length (sc .features) + lonsIn (sc .variables)
-unfolding events
-all-events sc = omega (arith, length-append (featureEvents sc 0 (sc .features)) (variableEvents sc 0 (sc .variables)), feature-events sc 0 (sc .features), lon-events sc 0 (sc .variables))
-
-none-left : {A : Type 0} (xs : List A) → length xs ≡ 0 → xs ≡ []
-none-left [] h = refl
-none-left (x ∷ xs) h = absurd (omega arith)
-
--- where each event is a control point, none is a warning
-controls-fit : (es : List Event) → length (controlsIn es) ≤ length es
-unfolding controlsIn
-controls-fit [] = omega arith
-controls-fit (control c ∷ es) = omega (arith, controls-fit es)
-controls-fit (warn w ∷ es) = omega (arith, controls-fit es)
-
-all-controls : (es : List Event) → length (controlsIn es) ≡ length es → warningsIn es ≡ []
-unfolding controlsIn warningsIn
-all-controls [] h = refl
-all-controls (control c ∷ es) h = all-controls es (omega arith)
-all-controls (warn w ∷ es) h = absurd (omega (arith, controls-fit es))
-
-module _ {l : List ℕ} {v : Survey} (s : Surveyed l v) where
-  names-are : v .names ≡ length (events (sceneOf l))
-  names-are = omega (arith, s .names, all-events (sceneOf l), ap length (scene-lists l .0), ap lonsIn (scene-lists l .1))
-
-  pub only-features : v .lons ≡ 0 → (i : ℕ) → variableEvents (sceneOf l) i (variablesAt l 0) ≡ []
-  only-features h i = none-left _ (omega (arith, s .lons, lon-events (sceneOf l) i (variablesAt l 0)))
-
-  pub no-names : v .names ≡ 0 → events (sceneOf l) ≡ []
-  no-names h = none-left _ (omega (arith, names-are))
-
-  pub none-warned : {n : ℕ} → n ≡ length (controlsOf (sceneOf l)) → v .names ≡ n → warningsIn (events (sceneOf l)) ≡ []
-  unfolding controlsOf
-  none-warned e h = all-controls (events (sceneOf l)) (omega (arith, names-are))
-
--- ---- what a survey says of the scene's variables
-pub survey-says : (l : List ℕ) (x : Value) (name : List ℕ) → valueBy x ≡ variableOf name (variablesAt l 0) → valueBy x ≡ var (sceneOf l) name
-unfolding sceneOf
-survey-says l x name h = h
+        record { said = said-on; names = omega (arith, d .names); lons = omega (arith, d .lons); fewer = d .fewer; short = omega (arith, d .short); fits = end; labels = labels-on }

@@ -1,121 +1,238 @@
 -- The loops over features and variables that write warnings: what is done, and one turn.
 use mathlib.Core.Path.{_≡_, refl, ap, sym, _∙_}
-use mathlib.Core.Logic.{_⊎_, inl, inr, ⊎-elim}
-use mathlib.Core.Bool.{Bool, true, false, not}
-use mathlib.Core.List.{List, [], _∷_, _++_}
+use mathlib.Core.Bool.{Bool, true, false, not, cond, and-false, false≢true}
+use mathlib.Core.List.{List, [], _∷_, _++_, map}
 use Prim.Native.Nat.{ℕ, suc, _+_, _-_, _≤_, _<_}
 use native.Mathlib.Numerals.{add-one}
 use native.Mathlib.Omega.{arith}
-use lib.ListN.{length, take, getD, replicate}
-use lib.Ieee.{Float}
+use lib.ListN.{length, take, drop, set, replicate, length-drop, length-set}
+use lib.Seq.{take-all, length-take-le}
 use borrow.Author.Tests.{not-true, not-false}
 use Rattle.stream.specs.Payload.{payload}
+use Rattle.stream.specs.Contracts.Payload.{room}
 use Rattle.records.specs.Records.{part}
-use Rattle.scene.specs.declared.sections.Feature.{Feature}
-use Rattle.scene.specs.declared.sections.Variable.{Variable}
-use Rattle.scene.specs.Scene.{Maybe, Scene, NamedFeature, NamedValue, sceneOf}
-use Rattle.scene.specs.Labels.{variableOf}
-use Rattle.scene.specs.Contracts.Answers.{featuresAt, featuresBy, variablesAt, variablesBy, Variables}
+use Rattle.scene.specs.declared.sections.FeatureName.{FeatureName}
+use Rattle.scene.specs.Scene.{Scene, NamedFeature, NamedValue, numberAt, sceneOf}
+use Rattle.scene.specs.Contracts.Answers.{featuresAt, featuresBy, featureBy, valueBy, variablesAt, Variables, Within, Headed}
 use Rattle.scene.specs.Laws.Answers.{scene-lists}
 use Rattle.scene.specs.Laws.Rising.{Rising}
-use Rattle.register.specs.Register.{suffixLat, stem, var, isLon, resolved, mentioned, featureEvent, featureEvents, lonEvent, variableEvents, events, warningsIn, controlsOf, viewWarnings, halfWarnings, ignoredWith, registerWarnings}
-use Rattle.register.specs.Contracts.Warned.{Sheet, pushed, allPushed, fateOf}
-use Rattle.register.proofs.Turning.{Along, along, Turn, hereOf, is-here, turned, is-other, is-lon, stem-is, same-run}
-use Rattle.register.proofs.Pushing.{Fits, push-fits, one-kept, all-fit, all-kept, pushed-append, warnings-append, event-pushed, fate-warns, fate-control}
+use Rattle.register.specs.declared.mentions.Cursor.{Cursor}
+use Rattle.register.specs.declared.mentions.Mention as code-mention
+use Rattle.register.specs.Register.{Event, control, warn, isSome, resolved, isLon, onto, mentioned, featureEvent, featureEvents, lonEvent, variableEvents, events, warningsIn, controlsOf, viewWarnings, halfWarnings, ignoredWith, registerWarnings}
+use Rattle.register.specs.Contracts.Gathered.{numbersIn, Kept}
+use Rattle.register.specs.Contracts.Mentions.{Mention, lonMention, lonMentions, mentionsAt, mentionBy, Follows, Asked}
+use Rattle.register.specs.Contracts.Warned.{Sheet, pushed, allPushed, firstIs, called, Heading, Behind, kindBy}
+use Rattle.register.proofs.Turning.{along}
+use Rattle.register.proofs.Keeping.{isControl, kept-is, kept-fits, kept-control, kept-warn, taken-more, feature-warns, heading-same, heading-more, lon-warns}
+use Rattle.register.proofs.Pushing.{Fits, push-fits, one-kept, pushed-append, warnings-append}
 
--- ---- features, the first of them the i-th
-feature-next : (sc : Scene) (i : ℕ) (f : NamedFeature) (fs : List NamedFeature) (t t′ : Sheet) {k : ℕ} → k ≡ fateOf (resolved sc (f .name)) (mentioned (f .name) (take i (sc .features)))
-    → ((k ≡ 0 → ⊥) × (t′ ≡ pushed (record { kind = 2; index = i }) t)) ⊎ ((k ≡ 0) × (t′ ≡ t))
-    → allPushed (warningsIn (featureEvents sc i (f ∷ fs))) t ≡ allPushed (warningsIn (featureEvents sc (suc i) fs)) t′
-unfolding featureEvents featureEvent allPushed
-feature-next sc i f fs t t′ e (inl w) = rw (fate-warns (f .lon) (f .lat) (record { kind = 2; index = i }) _ (resolved sc (f .name)) _ e (w .0), w .1) refl
-feature-next sc i f fs t t′ e (inr w) = rw (fate-control (f .lon) (f .lat) (record { kind = 2; index = i }) _ _ (resolved sc (f .name)) _ e (w .0), w .1) refl
+-- ---- one event more
+control-next : (e : Event) (es : List Event) (t : Sheet) → isControl e ≡ true → allPushed (warningsIn (e ∷ es)) t ≡ allPushed (warningsIn es) t
+unfolding warningsIn
+control-next (control c) es t h = refl
+control-next (warn w) es t h = absurd (false≢true h)
 
--- the first i features are done, which lie before q
-pub record Told (l : List ℕ) (t₀ t : Sheet) (q i : ℕ) : Type 0 where
-  pub all : allPushed (warningsIn (featureEvents (sceneOf l) 0 (featuresAt l 0))) t₀ ≡ allPushed (warningsIn (featureEvents (sceneOf l) i (featuresAt l q))) t
+warn-next : (e : Event) (es : List Event) (t : Sheet) {kind index : ℕ} → e ≡ warn (record { kind = kind; index = index }) → allPushed (warningsIn (e ∷ es)) t ≡ allPushed (warningsIn es) (pushed (record { kind = kind; index = index }) t)
+unfolding allPushed warningsIn
+warn-next e es t h = rw h refl
+
+-- ---- the first i features are done, which lie before q; h of them are control points
+pub record Told (s kept : List ℕ) (n : ℕ) (heads : List ℕ) (h : ℕ) (t₀ t : Sheet) (q i : ℕ) : Type 0 where
+  pub all : allPushed (warningsIn (featureEvents (sceneOf (payload s)) 0 (sceneOf (payload s) .features))) t₀ ≡ allPushed (warningsIn (featureEvents (sceneOf (payload s)) i (featuresAt (payload s) q))) t
+  pub left : drop h (take n kept) ≡ numbersIn i (featureEvents (sceneOf (payload s)) i (featuresAt (payload s) q) ++ variableEvents (sceneOf (payload s)) 0 (sceneOf (payload s) .variables))
+  pub heading : Heading s heads h (take i (sceneOf (payload s) .features))
+  pub rest : drop i (sceneOf (payload s) .features) ≡ featuresAt (payload s) q
   pub fits : Fits t
-  pub kept : length (t .out) ≡ length (t₀ .out)
-  pub count : i + length (featuresAt l q) ≡ length (featuresAt l 0)
+  pub as-long : length (t .out) ≡ length (t₀ .out)
+  pub sized : length heads ≡ 64
   pub short : i ≤ q
+  pub within : q ≤ room s
 
-pub none-told : (l : List ℕ) (t : Sheet) → Fits t → Told l t t 0 0
-none-told l t h = record { all = refl; fits = h; kept = refl; count = omega arith; short = omega arith }
+module _ (s kept : List ℕ) (n : ℕ) (heads : List ℕ) (t : Sheet) where
+  pub none-told : Fits t → length heads ≡ 64 → take n kept ≡ numbersIn 0 (events (sceneOf (payload s))) → Told s kept n heads 0 t t 0 0
+  unfolding events called mentioned
+  none-told f k e =
+      record {
+        all = rw (scene-lists (payload s) .0) refl;
+        left = e ∙ rw (scene-lists (payload s) .0) refl;
+        heading = record { stands = record { few = omega arith; within = λ j g. absurd (omega arith) }; names = λ x. sym (and-false (isSome (resolved (sceneOf (payload s)) x))) };
+        rest = scene-lists (payload s) .0;
+        fits = f;
+        as-long = refl;
+        sized = k;
+        short = omega arith;
+        within = omega arith;
+      }
 
-module _ {l : List ℕ} {t₀ t : Sheet} {q i : ℕ} (d : Told l t₀ t q i) (f : Feature) (e : featuresAt l q ≡ featuresBy l f) where
-  pub all-told : not (f .some) ≡ true → (t ≡ allPushed (warningsIn (featureEvents (sceneOf l) 0 (featuresAt l 0))) t₀) × (Fits t × (i ≡ length (featuresAt l 0)))
+module _ {s kept : List ℕ} {n : ℕ} {heads : List ℕ} {h : ℕ} {t₀ t : Sheet} {q i : ℕ} (d : Told s kept n heads h t₀ t q i) (r : FeatureName) (e : featuresAt (payload s) q ≡ featuresBy (payload s) (featureBy (payload s) r)) where
+  abbrev feature : NamedFeature
+  feature = record { name = part (payload s) (r .at) (r .len); lon = numberAt (payload s) (r .at + r .len); lat = numberAt (payload s) (r .at + r .len + 8) }
+
+  abbrev scene : Scene
+  scene = sceneOf (payload s)
+
+  pub all-told : not (r .some) ≡ true → (t ≡ allPushed (warningsIn (featureEvents scene 0 (scene .features))) t₀) × (Fits t × Behind s kept n heads h i)
   unfolding allPushed warningsIn featureEvents
-  all-told n =
-      let h : featuresAt l q ≡ [] = rw (e, not-true (f .some) n) refl in
-      (rw (d .all, h) refl, (d .fits, omega (arith, d, ap length h)))
+  all-told o =
+      let g : featuresAt (payload s) q ≡ [] = rw (e, not-true (r .some) o) refl in
+      (rw (d .all, g) refl, (d .fits, record { heading = rw (take-all i (scene .features) (omega (arith, ap length (d .rest ∙ g), length-drop i (scene .features)))) at (d .heading); left = rw g at (d .left); short = omega (arith, d .short, d .within) }))
 
-  pub one-told : {t′ : Sheet} {k : ℕ} → not (f .some) ≡ false → q < f .next → k ≡ fateOf (resolved (sceneOf l) (part l (f .at) (f .len))) (mentioned (part l (f .at) (f .len)) (take i (featuresAt l 0)))
-      → ((k ≡ 0 → ⊥) × (t′ ≡ pushed (record { kind = 2; index = i }) t)) ⊎ ((k ≡ 0) × (t′ ≡ t)) → Told l t₀ t′ (f .next) (i + 1)
-  one-told n more s w =
-      let k : featuresAt l q ≡ record { name = part l (f .at) (f .len); lon = f .lon; lat = f .lat } ∷ featuresAt l (f .next) = rw (e, not-false (f .some) n) refl in
-      record {
-        all = rw (d .all, k, add-one) (feature-next (sceneOf l) i _ _ t _ (rw (scene-lists l .0) s) w);
-        fits = ⊎-elim (λ u. push-fits _ t (u .1) (d .fits)) (λ u. rw (u .1) (d .fits)) w;
-        kept = ⊎-elim (λ u. rw (u .1) (one-kept _ t _ refl ∙ d .kept)) (λ u. rw (u .1) (d .kept)) w;
-        count = omega (arith, d, ap length k);
-        short = omega (arith, d);
-      }
+  module _ (o : not (r .some) ≡ false) (w : Within (room s) q (r .at) (r .len + 16) (r .next)) (k : n ≤ length kept) {b : Bool} (is : b ≡ firstIs i (drop h (take n kept))) where
+    here : featuresAt (payload s) q ≡ feature ∷ featuresAt (payload s) (r .next)
+    here = rw (e, not-false (r .some) o) refl
 
--- ---- variables, the first of them the i-th
-module _ (sc : Scene) (i : ℕ) (v : NamedValue) (vs : List NamedValue) (t : Sheet) where
-  other-next : isLon (v .name) ≡ false → allPushed (warningsIn (variableEvents sc i (v ∷ vs))) t ≡ allPushed (warningsIn (variableEvents sc (suc i) vs)) t
-  unfolding variableEvents
-  other-next h = rw h refl
+    left : drop h (take n kept) ≡ numbersIn i (featureEvent scene i feature ∷ (featureEvents scene (suc i) (featuresAt (payload s) (r .next)) ++ variableEvents scene 0 (scene .variables)))
+    unfolding featureEvents
+    left = rw here at (d .left)
 
-  lon-next : isLon (v .name) ≡ true → {lat : Maybe Float} {t′ : Sheet} → lat ≡ var sc (stem (v .name) ++ suffixLat) → t′ ≡ allPushed (warningsIn (lonEvent sc i (stem (v .name)) (v .value) lat ∷ [])) t
-      → allPushed (warningsIn (variableEvents sc i (v ∷ vs))) t ≡ allPushed (warningsIn (variableEvents sc (suc i) vs)) t′
-  unfolding variableEvents
-  lon-next h k m = rw (h, ← k, m) (event-pushed _ _ t)
+    all : allPushed (warningsIn (featureEvents scene 0 (scene .features))) t₀ ≡ allPushed (warningsIn (featureEvent scene i feature ∷ featureEvents scene (suc i) (featuresAt (payload s) (r .next)))) t
+    unfolding featureEvents
+    all = rw here at (d .all)
 
--- the first i variables are done, which lie before q
-pub record Telling (s : List ℕ) (t₀ t : Sheet) (runs : List ℕ) (at len q i : ℕ) : Type 0 where
-  pub along : Along s runs at len q
-  pub all : allPushed (warningsIn (variableEvents (sceneOf (payload s)) 0 (variablesAt (payload s) 0))) t₀ ≡ allPushed (warningsIn (variableEvents (sceneOf (payload s)) i (variablesAt (payload s) q))) t
+    rest : drop i (scene .features) ≡ feature ∷ featuresAt (payload s) (r .next)
+    rest = d .rest ∙ here
+
+    event : isControl (featureEvent scene i feature) ≡ b
+    event = kept-is _ h i _ _ left is
+
+    pub one-fits : b ≡ true → h < n
+    one-fits c = omega (arith, kept-fits (take n kept) h i _ _ left (event ∙ c), length-take-le n kept k)
+
+    pub one-control : n ≤ 64 → Headed (payload s) (r .at) (r .len) → b ≡ true → {t′ : Sheet} {heads′ : List ℕ} {h′ : ℕ} → t′ ≡ t → heads′ ≡ set heads h (r .at - 1) → h′ ≡ h + 1 → Told s kept n heads′ h′ t₀ t′ (r .next) (i + 1)
+    one-control m a c u v z =
+        rw (u, v, z, add-one i)
+        (record {
+          all = all ∙ control-next _ _ t (event ∙ c);
+          left = kept-control (take n kept) h i _ _ left (event ∙ c);
+          heading = heading-more i feature _ rest (d .heading) refl a (omega (arith, w .name)) (omega (arith, one-fits c, d .sized)) (event ∙ c);
+          rest = taken-more _ i _ _ rest .1;
+          fits = d .fits;
+          as-long = d .as-long;
+          sized = length-set heads h (r .at - 1) ∙ d .sized;
+          short = omega (arith, d .short, w .more);
+          within = w .fits;
+        })
+
+    pub one-warned : b ≡ false → {t′ : Sheet} {heads′ : List ℕ} {h′ : ℕ} → t′ ≡ pushed (record { kind = 2; index = i }) t → heads′ ≡ heads → h′ ≡ h → Told s kept n heads′ h′ t₀ t′ (r .next) (i + 1)
+    one-warned c u v z =
+        rw (u, v, z, add-one i)
+        (record {
+          all = all ∙ warn-next _ _ t (feature-warns scene i feature (event ∙ c));
+          left = kept-warn (take n kept) h i _ _ left (event ∙ c);
+          heading = heading-same i feature _ rest (d .heading) (event ∙ c);
+          rest = taken-more _ i _ _ rest .1;
+          fits = push-fits _ t refl (d .fits);
+          as-long = one-kept _ t _ refl ∙ d .as-long;
+          sized = d .sized;
+          short = omega (arith, d .short, w .more);
+          within = w .fits;
+        })
+
+-- ---- variables, by their mentions
+abbrev pub eventAt : Scene → Mention → Event
+eventAt sc m = lonEvent sc (m .index) (m .name) (m .lon) (m .lat)
+
+mention-events : (sc : Scene) (i : ℕ) (vs : List NamedValue) → variableEvents sc i vs ≡ map (eventAt sc) (lonMentions sc i vs)
+unfolding variableEvents lonMentions
+mention-events sc i [] = refl
+mention-events sc i (v ∷ vs) = rw (mention-events sc (suc i) vs) (by (isLon (v .name)) (lonMention sc i v) (lonMentions sc (suc i) vs))
+  where
+    by : (b : Bool) (m : Mention) (ms : List Mention) → onto b (eventAt sc m) (map (eventAt sc) ms) ≡ map (eventAt sc) (cond b (m ∷ ms) ms)
+    by true m ms = refl
+    by false m ms = refl
+
+-- those before the cursor c are done, behind f host features; j is the number of the next
+pub record Telling (s kept : List ℕ) (n : ℕ) (t₀ t : Sheet) (runs : List ℕ) (c : Cursor) (k f j : ℕ) : Type 0 where
+  pub follows : Follows s true c runs
+  pub all : allPushed (warningsIn (variableEvents (sceneOf (payload s)) 0 (sceneOf (payload s) .variables))) t₀ ≡ allPushed (warningsIn (map (eventAt (sceneOf (payload s))) (mentionsAt (payload s) true c))) t
+  pub left : drop k (take n kept) ≡ numbersIn j (map (eventAt (sceneOf (payload s))) (mentionsAt (payload s) true c))
   pub fits : Fits t
-  pub kept : length (t .out) ≡ length (t₀ .out)
-  pub short : i ≤ q
+  pub as-long : length (t .out) ≡ length (t₀ .out)
+  pub short : j ≤ f + c .q
 
-pub telling : (s : List ℕ) (t : Sheet) {q : ℕ} → Fits t → Variables (payload s) q → Rising [] (variablesAt (payload s) 0) → Telling s t t (replicate 32 0) 0 0 q 0
-telling s t h e r = record { along = along s e r; all = rw (e .all) refl; fits = h; kept = refl; short = omega arith }
+pub telling : (s kept : List ℕ) (n : ℕ) (t : Sheet) {q h f : ℕ} → Fits t → Variables (payload s) q → Rising [] (variablesAt (payload s) 0) → drop h (take n kept) ≡ numbersIn f (variableEvents (sceneOf (payload s)) 0 (sceneOf (payload s) .variables))
+    → Telling s kept n t t (replicate 32 0) (record { q = q; i = 0; at = 0; len = 0 }) h f f
+telling s kept n t {q} k e r g =
+    record {
+      follows = record { short = omega arith; along = λ o. along s e r };
+      all = ap (λ (x : List Event). allPushed (warningsIn x) t) from;
+      left = g ∙ ap (numbersIn _) from;
+      fits = k;
+      as-long = refl;
+      short = omega arith;
+    }
+  where
+    from : variableEvents (sceneOf (payload s)) 0 (sceneOf (payload s) .variables) ≡ map (eventAt (sceneOf (payload s))) (lonMentions (sceneOf (payload s)) 0 (variablesAt (payload s) q))
+    from = ap (variableEvents (sceneOf (payload s)) 0) (scene-lists (payload s) .1 ∙ e .all) ∙ (mention-events (sceneOf (payload s)) 0 (variablesAt (payload s) q))
 
-module _ {s : List ℕ} {t₀ t : Sheet} {runs : List ℕ} {at len q i : ℕ} (d : Telling s t₀ t runs at len q i) where
-  pub all-variables : (v : Variable) → variablesAt (payload s) q ≡ variablesBy (payload s) v → not (v .some) ≡ true → (t ≡ allPushed (warningsIn (variableEvents (sceneOf (payload s)) 0 (variablesAt (payload s) 0))) t₀) × Fits t
-  unfolding allPushed warningsIn variableEvents
-  all-variables v e n = (sym (d .all ∙ rw (e, not-true (v .some) n) refl), d .fits)
+module _ {s kept : List ℕ} {n : ℕ} {t₀ t : Sheet} {runs runs′ : List ℕ} {c : Cursor} {k f j : ℕ} (d : Telling s kept n t₀ t runs c k f j) (m : code-mention.Mention) (a : Asked s true c m runs′) where
+  abbrev lons : Scene
+  lons = sceneOf (payload s)
 
-  pub one-variable : {v : Variable} {to : List ℕ} {b : Bool} (p : Turn s runs at len q v to b) {t′ : Sheet}
-      → ((b ≡ true) × (t′ ≡ allPushed (warningsIn (lonEvent (sceneOf (payload s)) i (part (payload s) (v .at) (v .len - 4)) (v .value) (variableOf (part (payload s) (v .at) (v .len - 4) ++ suffixLat) (variablesAt (payload s) (getD to (v .len - 2) 0))) ∷ [])) t)) ⊎ ((b ≡ false) × (t′ ≡ t))
-      → Telling s t₀ t′ to (v .at) (v .len) (v .next) (i + 1)
-  one-variable {v} p w =
-      record {
-        along = turned p;
-        all = d .all ∙ rw (is-here p, add-one) (⊎-elim (λ u. lon-next _ i (hereOf s v) _ t (is-lon p (u .0)) (same-run p (u .0)) (rw (stem-is p (u .0)) (u .1))) (λ u. rw (u .1) (other-next _ i (hereOf s v) _ t (is-other p (u .0)))) w);
-        fits = ⊎-elim (λ u. rw (u .1) (all-fit _ t (d .fits))) (λ u. rw (u .1) (d .fits)) w;
-        kept = ⊎-elim (λ u. rw (u .1) (all-kept _ t)) (λ u. ap (λ (x : Sheet). length (x .out)) (u .1)) w ∙ d .kept;
-        short = omega (arith, p .within, d .short);
-      }
+  pub all-variables : not (m .some) ≡ true → (t ≡ allPushed (warningsIn (variableEvents lons 0 (lons .variables))) t₀) × Fits t
+  unfolding allPushed warningsIn
+  all-variables o = (sym (d .all ∙ rw (a .lists, not-true (m .some) o) refl), d .fits)
+
+  module _ (o : not (m .some) ≡ false) (z : n ≤ length kept) {b : Bool} (is : b ≡ firstIs j (drop k (take n kept))) where
+    next : mentionsAt (payload s) true c ≡ mentionBy (payload s) m ∷ mentionsAt (payload s) true (m .next)
+    next = a .lists ∙ rw (not-false (m .some) o) refl
+
+    lons-left : drop k (take n kept) ≡ numbersIn j (eventAt lons (mentionBy (payload s) m) ∷ map (eventAt lons) (mentionsAt (payload s) true (m .next)))
+    lons-left = rw next at (d .left)
+
+    lons-all : allPushed (warningsIn (variableEvents lons 0 (lons .variables))) t₀ ≡ allPushed (warningsIn (eventAt lons (mentionBy (payload s) m) ∷ map (eventAt lons) (mentionsAt (payload s) true (m .next)))) t
+    lons-all = rw next at (d .all)
+
+    lon-event : isControl (eventAt lons (mentionBy (payload s) m)) ≡ b
+    lon-event = kept-is _ k j _ _ lons-left is
+
+    pub lon-fits : b ≡ true → k < n
+    lon-fits y = omega (arith, kept-fits (take n kept) k j _ _ lons-left (lon-event ∙ y), length-take-le n kept z)
+
+    pub lon-control : b ≡ true → {t′ : Sheet} {k′ : ℕ} → t′ ≡ t → k′ ≡ k + 1 → Telling s kept n t₀ t′ runs′ (m .next) k′ f (j + 1)
+    lon-control y u v =
+        rw (u, v, add-one j)
+        (record {
+          follows = a .follows;
+          all = lons-all ∙ control-next _ _ t (lon-event ∙ y);
+          left = kept-control (take n kept) k j _ _ lons-left (lon-event ∙ y);
+          fits = d .fits;
+          as-long = d .as-long;
+          short = omega (arith, d .short, a .more (not-false _ o));
+        })
+
+    pub lon-warned : {heads : List ℕ} {h : ℕ} → Heading s heads h (lons .features) → b ≡ false → {t′ : Sheet} {k′ kind : ℕ} → kind ≡ kindBy (valueBy (m .lat)) (called (payload s) (take h heads) (part (payload s) (m .at) (m .len)))
+        → t′ ≡ pushed (record { kind = kind; index = m .index }) t → k′ ≡ k → Telling s kept n t₀ t′ runs′ (m .next) k′ f (j + 1)
+    lon-warned g y x u v =
+        rw (u, v, x, add-one j)
+        (record {
+          follows = a .follows;
+          all = lons-all ∙ warn-next _ _ t (lon-warns lons (m .index) _ (m .lon) (valueBy (m .lat)) (g .names _) (lon-event ∙ y));
+          left = kept-warn (take n kept) k j _ _ lons-left (lon-event ∙ y);
+          fits = push-fits _ t refl (d .fits);
+          as-long = one-kept _ t _ refl ∙ d .as-long;
+          short = omega (arith, d .short, a .more (not-false _ o));
+        })
 
 -- ---- features, then variables
-module _ (l : List ℕ) (t : Sheet) {features : Sheet} (f : features ≡ allPushed (warningsIn (featureEvents (sceneOf l) 0 (featuresAt l 0))) t) where
-  pub names-told : {all : Sheet} → all ≡ allPushed (warningsIn (variableEvents (sceneOf l) 0 (variablesAt l 0))) features → all ≡ allPushed (warningsIn (events (sceneOf l))) t
-  unfolding events
-  names-told w = rw (w, f, scene-lists l .0, scene-lists l .1) (simp (pushed-append, warnings-append))
+pub kept-from : (sc : Scene) (kept : List ℕ) {n : ℕ} → n ≡ length (controlsOf sc) → Kept sc kept → take n kept ≡ numbersIn 0 (events sc)
+kept-from sc kept e k = rw e k
 
-  pub features-told : variableEvents (sceneOf l) 0 (variablesAt l 0) ≡ [] → features ≡ allPushed (warningsIn (events (sceneOf l))) t
+module _ (sc : Scene) (t : Sheet) {features : Sheet} (f : features ≡ allPushed (warningsIn (featureEvents sc 0 (sc .features))) t) where
+  pub names-told : {all : Sheet} → all ≡ allPushed (warningsIn (variableEvents sc 0 (sc .variables))) features → all ≡ allPushed (warningsIn (events sc)) t
+  unfolding events
+  names-told w = rw (w, f) (simp (pushed-append, warnings-append))
+
+  pub features-told : variableEvents sc 0 (sc .variables) ≡ [] → features ≡ allPushed (warningsIn (events sc)) t
   unfolding allPushed warningsIn
   features-told h = names-told (rw h refl)
 
 -- ---- all warnings of a registration with n control points
-pub all-warned : (l : List ℕ) (t : Sheet) {n : ℕ} {view names half all : Sheet} → n ≡ length (controlsOf (sceneOf l))
-    → view ≡ allPushed (viewWarnings (sceneOf l)) t
-    → names ≡ allPushed (warningsIn (events (sceneOf l))) view
-    → half ≡ allPushed (halfWarnings (sceneOf l)) names
-    → all ≡ allPushed (ignoredWith n (sceneOf l)) half
-    → all ≡ allPushed (registerWarnings (sceneOf l)) t
+pub all-warned : (sc : Scene) (t : Sheet) {n : ℕ} {view names half all : Sheet} → n ≡ length (controlsOf sc)
+    → view ≡ allPushed (viewWarnings sc) t
+    → names ≡ allPushed (warningsIn (events sc)) view
+    → half ≡ allPushed (halfWarnings sc) names
+    → all ≡ allPushed (ignoredWith n sc) half
+    → all ≡ allPushed (registerWarnings sc) t
 unfolding registerWarnings
-all-warned l t e v w h i = rw (i, h, w, v, e) (simp pushed-append)
+all-warned sc t e v w h i = rw (i, h, w, v, e) (simp pushed-append)

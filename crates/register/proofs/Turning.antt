@@ -12,19 +12,13 @@ use Rattle.records.specs.Records.{part}
 use Rattle.scene.specs.declared.sections.Variable.{Variable}
 use Rattle.scene.specs.Scene.{NamedValue, sceneOf}
 use Rattle.scene.specs.Labels.{variableOf}
-use Rattle.scene.specs.Contracts.Answers.{Within, variablesAt, variablesBy, Variables}
+use Rattle.scene.specs.Contracts.Answers.{Within, Headed, variablesAt, variablesBy, Variables}
 use Rattle.scene.specs.Laws.Rising.{Rising}
 use Rattle.register.specs.Register.{suffixLon, suffixLat, stem, var, isLon}
-use Rattle.register.specs.Contracts.Runs.{commonOf, runsOf}
+use Rattle.register.specs.Contracts.Runs.{commonOf, runsOf, Passed, Along}
 use Rattle.records.specs.Laws.Names.{name-length}
 use Rattle.register.proofs.Lons.{stem-at, ending-at, lon-ends, lon-long, lon-near}
-use Rattle.register.proofs.Lookup.{Passed, none-passed, one-passed}
-
--- the last variable's name stands at `at`, and the next is looked for from q on
-pub record Along (s runs : List ℕ) (at len q : ℕ) : Type 0 where
-  pub passed : Passed (variablesAt (payload s)) (part (payload s) at len) runs q
-  pub within : at + len ≤ room s
-  pub short : len ≤ 31
+use Rattle.register.proofs.Lookup.{none-passed, one-passed}
 
 pub along : (s : List ℕ) {q : ℕ} → Variables (payload s) q → Rising [] (variablesAt (payload s) 0) → Along s (replicate 32 0) 0 0 q
 unfolding part
@@ -36,7 +30,7 @@ pub record Turn (s runs : List ℕ) (at len q : ℕ) (v : Variable) (to : List �
   pub lists : variablesAt (payload s) q ≡ variablesBy (payload s) v
   pub found : not (v .some) ≡ false
   pub within : Within (room s) q (v .at) (v .len) (v .next)
-  pub short : v .len ≤ 31
+  pub headed : Headed (payload s) (v .at) (v .len)
   pub common : ℕ
   pub alike : common ≡ commonOf (part (payload s) at len) (part (payload s) (v .at) (v .len))
   pub low : common ≤ len
@@ -58,7 +52,7 @@ module _ {s runs : List ℕ} {at len q : ℕ} {v : Variable} {to : List ℕ} {t 
   passes = rw (p .next) (one-passed (variablesAt (payload s)) (p .before .passed) (hereOf s v) (v .next) is-here (p .alike) (omega (arith, p .low, p .before .short)))
 
   pub turned : Along s to (v .at) (v .len) (v .next)
-  turned = record { passed = passes; within = p .within .name; short = p .short }
+  turned = record { passed = passes; within = p .within .name; short = p .headed .short }
 
   pub is-other : t ≡ false → isLon name ≡ false
   is-other h = sym (p .lon) ∙ h
@@ -81,11 +75,11 @@ module _ {s runs : List ℕ} {at len q : ℕ} {v : Variable} {to : List ℕ} {t 
     suffix = sym (ending-at s (v .at) (v .len) (p .within .name) long refl) ∙ lon-ends name is-lon
 
     pub run : Rising [] (variablesAt (payload s) (getD to (v .len - 2) 0))
-    run = passes .runs-rise (v .len - 2) (omega (arith, p .short))
+    run = passes .runs-rise (v .len - 2) (omega (arith, p .headed .short))
 
     -- and that it is one of all variables
     pub same-run : variableOf (stem name ++ suffixLat) (variablesAt (payload s) (getD to (v .len - 2) 0)) ≡ var (sceneOf (payload s)) (stem name ++ suffixLat)
     unfolding sceneOf
     same-run =
         let y : v .len - 2 ≡ length name - 2 = omega (arith, length-is) in
-        sym (passes .near (v .len - 2) _ (omega (arith, p .short)) (omega (arith, length-is)) (rw y (lon-near name is-lon)))
+        sym (passes .near (v .len - 2) _ (omega (arith, p .headed .short)) (omega (arith, length-is)) (rw y (lon-near name is-lon)))

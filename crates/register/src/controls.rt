@@ -1,41 +1,37 @@
-// Control points: host features first, then pairs of `_lon` and `_lat` variables.
+// Control points: the names of host features first, then those of pairs of `_lon` and `_lat` variables, in batches.
+//
+// A batch is as many names as a table holds. One walk over the labels tells which of them resolve; then the batch is read again, in its order: of each name that resolves the first mention is a control point.
 ghost use mathlib.Core.Path.{_≡_};
-ghost use mathlib.Core.Bool.{true, false};
-ghost use mathlib.Core.List.{[], _++_};
-ghost use Prim.Native.Nat.{_+_, _≤_};
+ghost use mathlib.Core.Bool.{Bool, true, false};
+ghost use mathlib.Core.List.{List, _∷_, [], _++_};
+ghost use Prim.Native.Nat.{ℕ, _+_, _≤_, _<_};
 ghost use lib.ListN.{length, take};
+ghost use lib.Ieee.{nan};
 ghost use Rattle.stream.specs.Payload.{payload};
 ghost use Rattle.stream.specs.Contracts.Payload.{room};
-ghost use Rattle.records.specs.Layout.{laidOut};
 ghost use Rattle.records.specs.Records.{part};
-ghost use Rattle.scene.specs.Scene.{some, sceneOf};
-ghost use Rattle.scene.specs.Labels.{variableOf};
-ghost use Rattle.scene.specs.Contracts.Answers.{Labels, Variables, featuresAt, variablesAt};
-ghost use Rattle.scene.specs.Contracts.Index.{IndexOrNone};
-ghost use Rattle.scene.specs.Laws.Rising.{Rising};
-ghost use Rattle.register.specs.Register.{isSome, suffixLon, suffixLat, placed, resolved, mentioned, featureEvents, variableEvents, isLon, events};
-ghost use Rattle.register.specs.declared.controls.Gathered.{Gathered};
+ghost use Rattle.records.specs.Layout.{laidOut};
+ghost use Rattle.scene.specs.Scene.{sceneOf};
+ghost use Rattle.similarity.specs.declared.fit.Control.{Control};
+ghost use Rattle.names.specs.Contracts.Table.{Table};
+ghost use Rattle.names.specs.Contracts.Batch.{spotOf};
+ghost use Rattle.register.specs.Register.{placed, controlsIn};
 ghost use Rattle.register.specs.Contracts.Survey.{Surveyed};
-ghost use Rattle.register.specs.Contracts.Marks.{Marked, MarkedWith};
-ghost use Rattle.register.specs.Contracts.Warned.{fateOf};
-ghost use Rattle.register.specs.Contracts.Gathered.{noControls, putOf, takenOf, named, paired, gathered};
-use crate::runs::common;
-use crate::runs::lat_of;
-use crate::runs::next_runs;
+ghost use Rattle.register.specs.Contracts.Mentions.{mentionsAt, mentionBy, moreOf, Follows, Heads};
+ghost use Rattle.register.specs.Contracts.Gathered.{numbersIn, Holds, Gathers, Added, Filling, Batch, Taken, Forgotten, Ready, Read, pointIn, partEvents, baseOf, beforeOf, batchEvents, Earlier, firstCursor};
+use crate::mentions::Cursor;
+use crate::mentions::Mention;
+use crate::mentions::next_mention;
 use crate::survey::Survey;
 use float::abs;
-use scene::find_label;
-use scene::index_labels;
-use scene::is_named;
-use scene::next_feature;
+use names::find_name;
+use names::insert;
+use names::note_labels;
+use names::unmark;
 use scene::next_name;
-use scene::next_variable;
-use scene::same_name;
-use scene::slot_of;
 use similarity::Control;
 
-pub struct Gathered {
-    pub at: [Control; 64],
+pub struct Tally {
     // how many there are, 65 for more than 64
     pub n: usize,
     // whether all of them are within condition 8's limits
@@ -49,300 +45,325 @@ pub fn is_placed(lon: f64, lat: f64) -> bool
     abs(lat) <= 85.06 && abs(lon) <= 180.0
 }
 
-fn no_controls() -> Gathered
-    ensures { λ r. ⌜ r ≡ noControls ⌝ }
-{
-    let c = Control {
-        x: 0.0,
-        y: 0.0,
-        lon: 0.0,
-        lat: 0.0,
-    };
-    Gathered {
-        at: [c; 64],
-        n: 0,
-        placed: true,
-    }
-}
-
-// One more control point.
-fn put(g: Gathered, c: Control) -> Gathered
-    requires { ⌜ length (g .at) ≡ 64 ⌝ }
-    ensures { λ r. ⌜ r ≡ putOf g c ⌝ }
+// One more control point, of the j-th name.
+fn put(flat: &mut [f64], kept: &mut [u32], g: Tally, j: usize, c: Control) -> Tally
+    requires { ⌜ (j < 4294967296) × (length (now flat) ≡ 256) × (length (now kept) ≡ 64) ⌝ }
+    ensures { λ r. ⌜ ((b : Bool) (cs : List Control) (js : List ℕ) → Holds b cs js g (now (flat .entry)) (now (kept .entry))
+        → Holds b (cs ++ c ∷ []) (js ++ j ∷ []) r (now (flat .exit)) (now (kept .exit))) ⌝ }
 {
     let ok = g.placed && is_placed(c.lon, c.lat);
-    let mut at = g.at;
     let n = g.n;
     if n >= 64 {
-        return Gathered {
-            at: at,
+        return Tally {
             n: 65,
             placed: ok,
         };
     }
-    at[n] = c;
-    Gathered {
-        at: at,
+    kept[n] = j as u32;
+    flat[4 * n] = c.x;
+    flat[4 * n + 1] = c.y;
+    flat[4 * n + 2] = c.lon;
+    flat[4 * n + 3] = c.lat;
+    Tally {
         n: n + 1,
         placed: ok,
     }
 }
 
-// Whether one of the first i host features has the name of n bytes at `at`.
-fn is_mentioned(s: &[u8], i: usize, at: usize, n: usize) -> bool
-    requires { ⌜ at + n ≤ room (now s) ⌝ }
-    ensures { λ r. ⌜ r ≡ mentioned (part (payload (now (s .entry))) at n) (take i (featuresAt (payload (now (s .entry))) 0)) ⌝ }
+// By how much the lengths of names are too great.
+fn more_of(lons: bool) -> u64
+    ensures { λ r. ⌜ r ≡ moreOf lons ⌝ }
+{
+    if lons { 4 } else { 0 }
+}
+
+// How many entries a batch has, how many mentions it is, and where the next begins.
+pub struct Filled {
+    pub n: usize,
+    pub count: usize,
+    pub next: Cursor,
+}
+
+// The name of a mention becomes an entry, if there is a latitude.
+fn add_name(s: &[u8], t: &mut [u32], n: usize, m: Mention, more: u64) -> usize
+    requires { ⌜ (room (now s) < 33554432) × (n < length (now t)) × Table more (payload (now s)) (now t) n × Heads (now s) more m ⌝ }
+    ensures { λ r. ⌜ Added more (payload (now (s .entry))) (now (t .entry)) (now (t .exit)) n r (mentionBy (payload (now (s .entry))) m) ⌝ }
+{
+    let lat = m.lat;
+    if !lat.some {
+        return n;
+    }
+    insert(s, t, n, m.at - 1, m.len, more)
+}
+
+// The names from c on, up to as many as the table holds.
+fn fill(s: &[u8], lons: bool, t: &mut [u32], c: Cursor, runs: &mut [usize]) -> Filled
+    requires { ⌜ (room (now s) < 33554432) × Follows (now s) lons c (now runs) ⌝ }
+    ensures { λ r. ⌜ Batch (now (s .entry)) lons c r (now (t .exit)) (now (runs .exit)) ⌝ }
+{
+    let more = more_of(lons);
+    let mut n = 0usize;
+    let mut count = 0usize;
+    let mut at = c;
+    while n < t.len() {
+        let m = next_mention(s, lons, at, runs);
+        at = m.next;
+        if !m.some {
+            return Filled {
+                n: n,
+                count: count,
+                next: at,
+            };
+        }
+        n = add_name(s, t, n, m, more);
+        count += 1;
+    }
+    Filled {
+        n: n,
+        count: count,
+        next: at,
+    }
+}
+
+// The name of n bytes behind p is known from now on: its entry, if there is one, loses its mark. The mark that it had.
+fn take_mark(s: &[u8], t: &mut [u32], count: usize, p: usize, n: usize, more: u64) -> usize
+    requires { ⌜ (p + 9 + n ≤ room (now s)) × (n + more ≤ 255) × Table more (payload (now s)) (now t) count ⌝ }
+    ensures { λ r. ⌜ Taken more (payload (now (s .entry))) (now (t .entry)) (now (t .exit)) count
+        (part (payload (now (s .entry))) (p + 1) n) r ⌝ }
+{
+    let e = find_name(s, t, count, p, n, more);
+    if !e.some {
+        return 0;
+    }
+    unmark(t, e.at)
+}
+
+// The names of the first i host features are known: their entries lose their marks.
+fn forget(s: &[u8], t: &mut [u32], n: usize, i: usize, more: u64)
+    requires { ⌜ (more ≤ 4) × Table more (payload (now s)) (now t) n ⌝ }
+    ensures { λ r. ⌜ Forgotten (payload (now (s .entry))) more (now (t .entry)) (now (t .exit)) n i ⌝ }
 {
     let mut q = 0usize;
     let mut k = 0usize;
     while k < i {
         let f = next_name(s, q);
         if !f.some {
-            return false;
+            return;
         }
-        if same_name(s, f.at, f.len, at, n) {
-            return true;
-        }
+        take_mark(s, t, n, f.at - 1, f.len, more);
         q = f.next;
         k += 1;
     }
-    false
 }
 
-// The same of a name that resolves, by the marks of those before it, and one more mark. Only where its slot is marked already are the names compared.
-fn is_repeat(s: &[u8], marks: &mut [u8], i: usize, at: usize, n: usize) -> bool
-    requires { ⌜ (at + n ≤ room (now s)) × Marked (sceneOf (payload (now s))) (now marks) (take i (featuresAt (payload (now s)) 0)) × (isSome (resolved (sceneOf (payload (now s))) (part (payload (now s)) at n)) ≡ true) ⌝ }
-    ensures { λ r. ⌜ (r ≡ mentioned (part (payload (now (s .entry))) at n) (take i (featuresAt (payload (now (s .entry))) 0))) × MarkedWith (sceneOf (payload (now (s .entry)))) (now (marks .exit)) (take i (featuresAt (payload (now (s .entry))) 0)) (part (payload (now (s .entry))) at n) ⌝ }
+// The point that a mark stands for; any point where no slot was left.
+fn control_of(spots: &[f64], mark: usize, lon: f64, lat: f64) -> Control
+    requires { ⌜ (1 ≤ mark) × (length (now spots) ≡ 128) ⌝ }
+    ensures { λ r. ⌜ (r .lon ≡ lon) × (r .lat ≡ lat) × (mark ≤ 64 → pointIn r ≡ spotOf (now (spots .entry)) mark nan) ⌝ }
 {
-    if marks.len() >= 4096 {
-        let h = slot_of(s, at, n);
-        if marks[h] == 0 {
-            marks[h] = 1;
-            return false;
-        }
-    }
-    is_mentioned(s, i, at, n)
-}
-
-// What a name comes to: 0 a control point, at (x, y), 1 nothing of that name, 2 the name of a host feature before.
-pub struct Named {
-    pub fate: u8,
-    pub x: f64,
-    pub y: f64,
-}
-
-// What the name of n bytes at `at` comes to, behind the first i host features. Its label is looked for from a position on, of which ix may be an index.
-pub fn resolve(
-    s: &[u8],
-    labels: usize,
-    ix: &[u32],
-    marks: &mut [u8],
-    i: usize,
-    at: usize,
-    n: usize,
-) -> Named
-    requires { ⌜ (at + n ≤ room (now s)) × Labels (payload (now s)) labels × IndexOrNone (payload (now s)) labels (now ix) × Marked (sceneOf (payload (now s))) (now marks) (take i (featuresAt (payload (now s)) 0)) ⌝ }
-    ensures { λ r. ⌜ (r .fate ≡ fateOf (resolved (sceneOf (payload (now (s .entry)))) (part (payload (now (s .entry))) at n)) (mentioned (part (payload (now (s .entry))) at n) (take i (featuresAt (payload (now (s .entry))) 0)))) × (r .fate ≡ 0 → resolved (sceneOf (payload (now (s .entry)))) (part (payload (now (s .entry))) at n) ≡ some (record { x = r .x; y = r .y })) ⌝ }
-    ensures { λ r. ⌜ MarkedWith (sceneOf (payload (now (s .entry)))) (now (marks .exit)) (take i (featuresAt (payload (now (s .entry))) 0)) (part (payload (now (s .entry))) at n) ⌝ }
-{
-    let p = find_label(s, labels, ix, at, n);
-    if !p.some {
-        return Named {
-            fate: 1,
+    if mark > 64 {
+        return Control {
             x: 0.0,
             y: 0.0,
+            lon: lon,
+            lat: lat,
         };
     }
-    let mut fate = 0u8;
-    if is_repeat(s, marks, i, at, n) {
-        fate = 2;
-    }
-    Named {
-        fate: fate,
-        x: p.x,
-        y: p.y,
-    }
-}
-
-// A control point that may be. Where `some` is false, `control` is free.
-pub struct Candidate {
-    pub some: bool,
-    pub control: Control,
-}
-
-// The control point of a name, unless it resolves to nothing or one of the first i host features has it.
-fn name_control(
-    s: &[u8],
-    labels: usize,
-    ix: &[u32],
-    marks: &mut [u8],
-    i: usize,
-    at: usize,
-    n: usize,
-    lon: f64,
-    lat: f64,
-) -> Candidate
-    requires { ⌜ (at + n ≤ room (now s)) × Labels (payload (now s)) labels × IndexOrNone (payload (now s)) labels (now ix) × Marked (sceneOf (payload (now s))) (now marks) (take i (featuresAt (payload (now s)) 0)) ⌝ }
-    ensures { λ r. ⌜ ((g : Gathered) → takenOf r g ≡ named (sceneOf (payload (now (s .entry)))) (part (payload (now (s .entry))) at n) i lon lat g) ⌝ }
-    ensures { λ r. ⌜ MarkedWith (sceneOf (payload (now (s .entry)))) (now (marks .exit)) (take i (featuresAt (payload (now (s .entry))) 0)) (part (payload (now (s .entry))) at n) ⌝ }
-{
-    let p = resolve(s, labels, ix, marks, i, at, n);
-    let c = Control {
-        x: p.x,
-        y: p.y,
+    Control {
+        x: spots[2 * mark - 2],
+        y: spots[2 * mark - 1],
         lon: lon,
         lat: lat,
-    };
-    Candidate {
-        some: p.fate == 0,
-        control: c,
     }
 }
 
-pub struct Featured {
-    pub controls: Gathered,
-    // how many host features there are
-    pub count: usize,
-}
-
-fn gather_features(s: &[u8], labels: usize, ix: &[u32], marks: &mut [u8]) -> Featured
-    requires { ⌜ Labels (payload (now s)) labels × IndexOrNone (payload (now s)) labels (now ix) × Marked (sceneOf (payload (now s))) (now marks) [] ⌝ }
-    ensures { λ r. ⌜ r .controls ≡ gathered (featureEvents (sceneOf (payload (now (s .entry)))) 0 (featuresAt (payload (now (s .entry))) 0)) noControls ⌝ }
-    ensures { λ r. ⌜ (r .count ≡ length (featuresAt (payload (now (s .entry))) 0)) × Marked (sceneOf (payload (now (s .entry)))) (now (marks .exit)) (featuresAt (payload (now (s .entry))) 0) ⌝ }
-{
-    let mut g = no_controls();
-    let mut q = 0usize;
-    let mut i = 0usize;
-    loop {
-        let f = next_feature(s, q);
-        if !f.some {
-            return Featured {
-                controls: g,
-                count: i,
-            };
-        }
-        let c = name_control(s, labels, ix, marks, i, f.at, f.len, f.lon, f.lat);
-        if c.some {
-            let control = c.control;
-            g = put(g, control);
-        }
-        q = f.next;
-        i += 1;
-    }
-}
-
-// Whether the name of n bytes at `at` is `<L>_lon`, L other than geo.
-pub fn is_lon(s: &[u8], at: usize, n: usize) -> bool
-    requires { ⌜ at + n ≤ room (now s) ⌝ }
-    ensures { λ r. ⌜ r ≡ isLon (part (payload (now (s .entry))) at n) ⌝ }
-{
-    if n < 4 {
-        return false;
-    }
-    if !is_named(s, at + n - 4, 4, b"_lon") {
-        return false;
-    }
-    !is_named(s, at, n - 4, b"geo")
-}
-
-// The control point of `<L>_lon`, which stands at `at` with L of n bytes, where `<L>_lat` is set: it is looked for from p on.
-fn lon_control(
+// One mention of a batch, the j-th name of all.
+fn read_one(
     s: &[u8],
-    labels: usize,
-    ix: &[u32],
-    marks: &mut [u8],
-    i: usize,
-    p: usize,
-    at: usize,
+    lons: bool,
+    t: &mut [u32],
     n: usize,
-    lon: f64,
-) -> Candidate
-    requires { ⌜ (at + n + 4 ≤ room (now s)) × (part (payload (now s)) (at + n) 4 ≡ suffixLon) × Rising [] (variablesAt (payload (now s)) p) × Labels (payload (now s)) labels × IndexOrNone (payload (now s)) labels (now ix) × Marked (sceneOf (payload (now s))) (now marks) (take i (featuresAt (payload (now s)) 0)) ⌝ }
-    ensures { λ r. ⌜ ((g : Gathered) → takenOf r g ≡ paired (sceneOf (payload (now (s .entry)))) (part (payload (now (s .entry))) at n) i lon (variableOf (part (payload (now (s .entry))) at n ++ suffixLat) (variablesAt (payload (now (s .entry))) p)) g) ⌝ }
-    ensures { λ r. ⌜ Marked (sceneOf (payload (now (s .entry)))) (now (marks .exit)) (take i (featuresAt (payload (now (s .entry))) 0)) ⌝ }
+    spots: &[f64],
+    m: Mention,
+    j: usize,
+    flat: &mut [f64],
+    kept: &mut [u32],
+    g: Tally,
+) -> Tally
+    requires { ⌜ (j < 4294967296) × (length (now spots) ≡ 128) × (length (now flat) ≡ 256) × (length (now kept) ≡ 64)
+        × Table (moreOf lons) (payload (now s)) (now t) n × Heads (now s) (moreOf lons) m ⌝ }
+    ensures { λ r. ⌜ ((h : Ready (payload (now (s .entry))) lons (mentionBy (payload (now (s .entry))) m ∷ []) (now (t .entry)) n
+        (now (spots .entry)) g (now (flat .entry)) (now (kept .entry)))
+        → Read (payload (now (s .entry))) lons (mentionBy (payload (now (s .entry))) m ∷ []) (now (t .entry)) (now (t .exit)) n
+        (now (spots .entry)) j (h .was) (h .b) (h .cs) (h .js) r (now (flat .exit)) (now (kept .exit))) ⌝ }
+    ensures { λ r. ⌜ Table (moreOf lons) (payload (now (s .entry))) (now (t .exit)) n ⌝ }
 {
-    let lat = lat_of(s, p, at, n);
+    let lat = m.lat;
     if !lat.some {
-        let none = Control {
-            x: 0.0,
-            y: 0.0,
-            lon: 0.0,
-            lat: 0.0,
-        };
-        return Candidate {
-            some: false,
-            control: none,
-        };
+        return g;
     }
-    name_control(s, labels, ix, marks, i, at, n, lon, lat.value)
+    let mark = take_mark(s, t, n, m.at - 1, m.len, more_of(lons));
+    if mark == 0 {
+        return g;
+    }
+    put(flat, kept, g, j, control_of(spots, mark, m.lon, lat.value))
 }
 
-// The pairs of variables, after the host features, of which there are so many.
-fn gather_variables(
+// The mentions of a batch from c on, in their order, the first of them being the base-th name of all.
+fn read(
     s: &[u8],
-    vars: usize,
-    labels: usize,
-    ix: &[u32],
-    marks: &mut [u8],
-    g: Gathered,
-    features: usize,
-) -> Gathered
-    requires { ⌜ (length (g .at) ≡ 64) × (features ≡ length (featuresAt (payload (now s)) 0)) × Rising [] (variablesAt (payload (now s)) 0) × Labels (payload (now s)) labels × Variables (payload (now s)) vars × IndexOrNone (payload (now s)) labels (now ix) × Marked (sceneOf (payload (now s))) (now marks) (take features (featuresAt (payload (now s)) 0)) ⌝ }
-    ensures { λ r. ⌜ r ≡ gathered (variableEvents (sceneOf (payload (now (s .entry)))) 0 (variablesAt (payload (now (s .entry))) 0)) g ⌝ }
+    lons: bool,
+    t: &mut [u32],
+    n: usize,
+    spots: &[f64],
+    c: Cursor,
+    runs: &mut [usize],
+    count: usize,
+    base: usize,
+    flat: &mut [f64],
+    kept: &mut [u32],
+    g: Tally,
+) -> Tally
+    requires { ⌜ (base + count < 4294967296) × (length (now spots) ≡ 128) × (length (now flat) ≡ 256) × (length (now kept) ≡ 64)
+        × Follows (now s) lons c (now runs) × Table (moreOf lons) (payload (now s)) (now t) n ⌝ }
+    ensures { λ r. ⌜ ((h : Ready (payload (now (s .entry))) lons (take count (mentionsAt (payload (now (s .entry))) lons c))
+        (now (t .entry)) n (now (spots .entry)) g (now (flat .entry)) (now (kept .entry)))
+        → Read (payload (now (s .entry))) lons (take count (mentionsAt (payload (now (s .entry))) lons c))
+        (now (t .entry)) (now (t .exit)) n (now (spots .entry)) base (h .was) (h .b) (h .cs) (h .js) r
+        (now (flat .exit)) (now (kept .exit))) ⌝ }
+{
+    let mut all = g;
+    let mut at = c;
+    let mut k = 0usize;
+    while k < count {
+        let m = next_mention(s, lons, at, runs);
+        if !m.some {
+            return all;
+        }
+        all = read_one(s, lons, t, n, spots, m, base + k, flat, kept, all);
+        at = m.next;
+        k += 1;
+    }
+    all
+}
+
+// How many host features come before a batch whose first name is the base-th of all; so many there are.
+fn features_before(lons: bool, features: usize, base: usize) -> usize
+    ensures { λ r. ⌜ r ≡ beforeOf lons features base ⌝ }
+{
+    if lons { features } else { base }
+}
+
+// The first cursor of a part of the names.
+fn first_of(lons: bool, v: Survey) -> Cursor
+    ensures { λ r. ⌜ r ≡ firstCursor lons (v .vars) ⌝ }
+{
+    if lons {
+        return Cursor {
+            q: v.vars,
+            i: 0,
+            at: 0,
+            len: 0,
+        };
+    }
+    Cursor {
+        q: 0,
+        i: 0,
+        at: 0,
+        len: 0,
+    }
+}
+
+// One batch more: a walk over the labels, and where one of its names resolves, a look at the host features before it.
+fn gather_batch(
+    s: &[u8],
+    v: Survey,
+    lons: bool,
+    t: &mut [u32],
+    f: Filled,
+    c: Cursor,
+    runs: &mut [usize],
+    base: usize,
+    flat: &mut [f64],
+    kept: &mut [u32],
+    g: Tally,
+) -> Tally
+    requires { ⌜ (room (now s) < 33554432) × Surveyed (payload (now s)) v × (base + f .count ≤ v .names)
+        × Follows (now s) lons c (now runs) × Filling (now s) lons c f (now t)
+        × (length (now flat) ≡ 256) × (length (now kept) ≡ 64) ⌝ }
+    ensures { λ r. ⌜ ((cs : List Control) (js : List ℕ) → Holds true cs js g (now (flat .entry)) (now (kept .entry))
+        → Earlier (sceneOf (payload (now (s .entry)))) lons base cs
+        → Holds true
+        (cs ++ controlsIn (batchEvents (payload (now (s .entry))) lons base (take (f .count) (mentionsAt (payload (now (s .entry))) lons c))))
+        (js ++ numbersIn base (batchEvents (payload (now (s .entry))) lons base (take (f .count) (mentionsAt (payload (now (s .entry))) lons c))))
+        r (now (flat .exit)) (now (kept .exit))) ⌝ }
+{
+    let mut keys = [0u32; 256];
+    let mut spots = [0.0f64; 128];
+    let more = more_of(lons);
+    let n = f.n;
+    let used = note_labels(s, v.labels, t, n, more, &mut keys, &mut spots);
+    if used == 0 {
+        return g;
+    }
+    forget(s, t, n, features_before(lons, v.names - v.lons, base), more);
+    read(s, lons, t, n, &spots, c, runs, f.count, base, flat, kept, g)
+}
+
+// All batches of a part of the names, behind the control points that g counts.
+fn gather_part(s: &[u8], v: Survey, lons: bool, t: &mut [u32], flat: &mut [f64], kept: &mut [u32], g: Tally) -> Tally
+    requires { ⌜ (room (now s) < 33554432) × (laidOut (payload (now s)) ≡ true) × Surveyed (payload (now s)) v
+        × (1 ≤ length (now t)) × (length (now flat) ≡ 256) × (length (now kept) ≡ 64) ⌝ }
+    ensures { λ r. ⌜ ((cs : List Control) (js : List ℕ) → Holds true cs js g (now (flat .entry)) (now (kept .entry))
+        → Earlier (sceneOf (payload (now (s .entry)))) lons 0 cs
+        → Holds true
+        (cs ++ controlsIn (partEvents lons (sceneOf (payload (now (s .entry))))))
+        (js ++ numbersIn (baseOf lons (sceneOf (payload (now (s .entry))))) (partEvents lons (sceneOf (payload (now (s .entry))))))
+        r (now (flat .exit)) (now (kept .exit))) ⌝ }
 {
     let mut all = g;
     let mut runs = [0usize; 32];
-    let mut at = 0usize;
-    let mut len = 0usize;
-    let mut q = vars;
+    let mut c = first_of(lons, v);
+    let mut base = features_before(lons, v.names - v.lons, 0);
     loop {
-        let v = next_variable(s, q);
-        if !v.some {
+        let mut back = runs;
+        let f = fill(s, lons, t, c, &mut runs);
+        if f.n == 0 {
             return all;
         }
-        let alike = common(s, at, len, v.at, v.len);
-        runs = next_runs(runs, alike, q);
-        at = v.at;
-        len = v.len;
-        if is_lon(s, at, len) {
-            let from = runs[len - 2];
-            let c = lon_control(s, labels, ix, marks, features, from, at, len - 4, v.value);
-            if c.some {
-                let control = c.control;
-                all = put(all, control);
-            }
-        }
-        q = v.next;
+        all = gather_batch(s, v, lons, t, f, c, &mut back, base, flat, kept, all);
+        c = f.next;
+        base += f.count;
     }
 }
 
-// By what may be an index, and by marks that say nothing yet.
-fn gather_names(s: &[u8], v: Survey, ix: &[u32], marks: &mut [u8]) -> Gathered
-    requires { ⌜ (laidOut (payload (now s)) ≡ true) × Surveyed (payload (now s)) v × IndexOrNone (payload (now s)) (v .labels) (now ix) × Marked (sceneOf (payload (now s))) (now marks) [] ⌝ }
-    ensures { λ r. ⌜ r ≡ gathered (events (sceneOf (payload (now (s .entry))))) noControls ⌝ }
+// Host features first, then variables.
+fn gather_names(s: &[u8], v: Survey, t: &mut [u32], flat: &mut [f64], kept: &mut [u32]) -> Tally
+    requires { ⌜ (room (now s) < 33554432) × (laidOut (payload (now s)) ≡ true) × Surveyed (payload (now s)) v
+        × (1 ≤ length (now t)) × (length (now flat) ≡ 256) × (length (now kept) ≡ 64) ⌝ }
+    ensures { λ r. ⌜ Gathers (sceneOf (payload (now (s .entry)))) r (now (flat .exit)) (now (kept .exit)) ⌝ }
 {
-    let f = gather_features(s, v.labels, ix, marks);
-    let g = f.controls;
+    let none = Tally {
+        n: 0,
+        placed: true,
+    };
+    let g = gather_part(s, v, false, t, flat, kept, none);
     if v.lons == 0 {
         return g;
     }
-    gather_variables(s, v.vars, v.labels, ix, marks, g, f.count)
+    gather_part(s, v, true, t, flat, kept, g)
 }
 
-// All control points, in their order. An index of the labels costs a walk over all records, as one name alone does: it is made for two.
-pub fn gather(s: &[u8], v: Survey) -> Gathered
-    requires { ⌜ (laidOut (payload (now s)) ≡ true) × Surveyed (payload (now s)) v ⌝ }
-    ensures { λ r. ⌜ r ≡ gathered (events (sceneOf (payload (now (s .entry))))) noControls ⌝ }
+// All control points, in their order, four numbers each, and the numbers of their names.
+pub fn gather(s: &[u8], v: Survey, flat: &mut [f64], kept: &mut [u32]) -> Tally
+    requires { ⌜ (room (now s) < 33554432) × (laidOut (payload (now s)) ≡ true) × Surveyed (payload (now s)) v
+        × (length (now flat) ≡ 256) × (length (now kept) ≡ 64) ⌝ }
+    ensures { λ r. ⌜ Gathers (sceneOf (payload (now (s .entry)))) r (now (flat .exit)) (now (kept .exit)) ⌝ }
 {
-    if v.names == 0 {
-        return no_controls();
+    if v.names <= 64 {
+        let mut few = [0u32; 64];
+        return gather_names(s, v, &mut few, flat, kept);
     }
-    if v.names == 1 {
-        let mut few = [0u8; 1];
-        return gather_names(s, v, &[0u32; 1], &mut few);
-    }
-    let mut ix = [0u32; 4096];
-    let mut marks = [0u8; 4096];
-    index_labels(s, v.labels, &mut ix);
-    gather_names(s, v, &ix, &mut marks)
+    let mut many = [0u32; 8192];
+    gather_names(s, v, &mut many, flat, kept)
 }

@@ -1,6 +1,7 @@
 // Registration, after the source's register.rs: control points and anchor, refusals 7 to 14, warnings 1 to 4.
 mod controls;
 mod declared;
+mod mentions;
 mod outcome;
 mod runs;
 mod survey;
@@ -10,6 +11,6 @@ pub use outcome::Outcome;
 pub use outcome::refuse;
 pub use outcome::register;
 pub use survey::Survey;
-pub use survey::survey_variables;
+pub use survey::survey_stream;
 pub use warnings::Warned;
 pub use warnings::write_warnings;

@@ -1,20 +1,18 @@
 // Refusals 7 to 14, and the registration.
 ghost use mathlib.Core.Path.{_≡_};
 ghost use mathlib.Core.Bool.{true};
-ghost use Prim.Native.Nat.{_≤_};
-ghost use lib.ListN.{take};
+ghost use Prim.Native.Nat.{_+_, _*_, _≤_, _<_};
+ghost use lib.ListN.{length};
 ghost use Rattle.stream.specs.Payload.{payload};
 ghost use Rattle.records.specs.Layout.{laidOut};
-ghost use Rattle.scene.specs.Scene.{sceneOf};
-ghost use Rattle.register.specs.Contracts.Survey.{Surveyed};
+ghost use Rattle.stream.specs.Contracts.Payload.{room};
+ghost use Rattle.scene.specs.Scene.{Scene, sceneOf};
+ghost use Rattle.register.specs.Contracts.Survey.{Declares, Surveyed};
+ghost use Rattle.register.specs.Contracts.Gathered.{controlIn, controlsBy, Kept};
 ghost use Rattle.register.specs.Contracts.Outcome.{refusedBy, outcomeOf, checkedOf, declaredOutcome, fittedOutcome};
 use crate::controls::gather;
 use crate::controls::is_placed;
-use crate::declared::anchor_of;
-use crate::declared::bearing_of;
-use crate::declared::is_mercator;
-use crate::declared::is_px;
-use crate::declared::scale_of;
+use crate::declared::Declared;
 use crate::survey::Survey;
 use float::is_finite;
 use scene::Spot;
@@ -68,18 +66,17 @@ fn check_scale(r: Registration) -> Outcome
 }
 
 // 12 to 14: by what is declared, about an anchor, with an origin.
-fn declare(s: &[u8], v: Survey, anchor: Spot, origin: Spot, n: u32) -> Outcome
-    requires { ⌜ Surveyed (payload (now s)) v ⌝ }
-    ensures { λ o. ⌜ o ≡ declaredOutcome (sceneOf (payload (now (s .entry)))) (record { x = anchor .x; y = anchor .y }) (record { x = origin .x; y = origin .y }) n ⌝ }
+fn declare(d: Declared, anchor: Spot, origin: Spot, n: u32) -> Outcome
+    ensures { λ o. ⌜ ((sc : Scene) → Declares sc d → o
+        ≡ declaredOutcome sc (record { x = anchor .x; y = anchor .y }) (record { x = origin .x; y = origin .y }) n) ⌝ }
 {
-    let declared = scale_of(s, v);
-    let value = if declared.some { declared.value } else { 100.0 };
+    let scale = d.scale;
+    let value = if scale.some { scale.value } else { 100.0 };
     if !(0.0 < value) {
         return refuse(12);
     }
-    let view = scene::view_scale(s);
-    let px = is_px(s, v);
-    if px {
+    let view = d.view;
+    if d.px {
         if !view.some {
             return refuse(13);
         }
@@ -87,15 +84,15 @@ fn declare(s: &[u8], v: Survey, anchor: Spot, origin: Spot, n: u32) -> Outcome
             return refuse(13);
         }
     }
-    let per_inch = if px { value * view.value } else { value };
-    let bearing = bearing_of(s, v);
+    let per_inch = if d.px { value * view.value } else { value };
+    let bearing = d.bearing;
     let turned = if bearing.some { bearing.value } else { 0.0 };
     let r = Registration {
         lon: anchor.x,
         lat: anchor.y,
         x: origin.x,
         y: origin.y,
-        scale: per_inch / scene::rescale(s),
+        scale: per_inch / d.rescale,
         bearing: turned,
         method: 0,
         controls: n,
@@ -103,11 +100,31 @@ fn declare(s: &[u8], v: Survey, anchor: Spot, origin: Spot, n: u32) -> Outcome
     check_scale(r)
 }
 
-// 11 and 14: by the first n control points, two or more.
-fn fit_controls(at: [Control; 64], n: usize) -> Outcome
-    requires { ⌜ n ≤ 64 ⌝ }
-    ensures { λ o. ⌜ o ≡ fittedOutcome (take n at) ⌝ }
+// The k-th control point of those that were gathered.
+fn control_at(flat: &[f64], k: usize) -> Control
+    requires { ⌜ 4 * k + 4 ≤ length (now flat) ⌝ }
+    ensures { λ r. ⌜ r ≡ controlIn (now (flat .entry)) k ⌝ }
 {
+    Control {
+        x: flat[4 * k],
+        y: flat[4 * k + 1],
+        lon: flat[4 * k + 2],
+        lat: flat[4 * k + 3],
+    }
+}
+
+// 11 and 14: by the first n control points, two or more.
+fn fit_controls(flat: &[f64], n: usize) -> Outcome
+    requires { ⌜ (n ≤ 64) × (length (now flat) ≡ 256) ⌝ }
+    ensures { λ o. ⌜ o ≡ fittedOutcome (controlsBy (now (flat .entry)) n) ⌝ }
+{
+    let first = control_at(flat, 0);
+    let mut at = [first; 64];
+    let mut k = 0usize;
+    while k < n {
+        at[k] = control_at(flat, k);
+        k += 1;
+    }
     let f = fit_points(at, n);
     if !f.some {
         return refuse(11);
@@ -126,16 +143,21 @@ fn fit_controls(at: [Control; 64], n: usize) -> Outcome
     check_scale(r)
 }
 
-// The registration of a stream that conditions 1 to 6 let pass.
-pub fn register(s: &[u8], v: Survey) -> Outcome
-    requires { ⌜ (laidOut (payload (now s)) ≡ true) × Surveyed (payload (now s)) v ⌝ }
+// The registration of a stream that conditions 1 to 6 let pass. Where it is accepted, `kept` has the numbers of the
+// names that are control points.
+pub fn register(s: &[u8], v: Survey, kept: &mut [u32]) -> Outcome
+    requires { ⌜ (room (now s) < 33554432) × (laidOut (payload (now s)) ≡ true) × Surveyed (payload (now s)) v
+        × (length (now kept) ≡ 64) ⌝ }
     ensures { λ o. ⌜ o ≡ outcomeOf (sceneOf (payload (now (s .entry)))) ⌝ }
+    ensures { λ o. ⌜ (o .number ≡ 0 → Kept (sceneOf (payload (now (s .entry)))) (now (kept .exit))) ⌝ }
 {
-    if !is_mercator(s, v) {
+    let d = v.declared;
+    if !d.mercator {
         return refuse(7);
     }
-    let g = gather(s, v);
-    let a = anchor_of(s, v);
+    let mut flat = [0.0f64; 256];
+    let g = gather(s, v, &mut flat, kept);
+    let a = d.anchor;
     if !g.placed {
         return refuse(8);
     }
@@ -149,12 +171,10 @@ pub fn register(s: &[u8], v: Survey) -> Outcome
         return refuse(9);
     }
     if n >= 2 {
-        let at = g.at;
-        return fit_controls(at, n);
+        return fit_controls(&flat, n);
     }
     if n == 1 {
-        let at = g.at;
-        let c = at[0];
+        let c = control_at(&flat, 0);
         let anchor = Spot {
             some: true,
             x: c.lon,
@@ -165,7 +185,7 @@ pub fn register(s: &[u8], v: Survey) -> Outcome
             x: c.x,
             y: c.y,
         };
-        return declare(s, v, anchor, origin, 1);
+        return declare(d, anchor, origin, 1);
     }
     if !a.some {
         return refuse(10);
@@ -175,5 +195,5 @@ pub fn register(s: &[u8], v: Survey) -> Outcome
         x: 0.0,
         y: 0.0,
     };
-    declare(s, v, a, origin, 0)
+    declare(d, a, origin, 0)
 }

@@ -4,6 +4,7 @@
 ghost use mathlib.Core.Path.{_≡_};
 ghost use mathlib.Core.List.{[], _++_};
 ghost use Prim.Native.Nat.{_+_, _≤_, _<_};
+ghost use lib.ListN.{length};
 ghost use Rattle.stream.specs.Payload.{payload};
 ghost use Rattle.stream.specs.Contracts.Payload.{room};
 ghost use Rattle.records.specs.Records.{part};
@@ -38,17 +39,15 @@ pub fn common(s: &[u8], p: usize, n: usize, q: usize, m: usize) -> usize
 }
 
 // The runs at a variable that is found from q on and shares c bytes with the one before it.
-pub fn next_runs(runs: [usize; 32], c: usize, q: usize) -> [usize; 32]
-    requires { ⌜ c < 32 ⌝ }
-    ensures { λ r. ⌜ r ≡ runsOf runs c q ⌝ }
+pub fn set_runs(runs: &mut [usize], c: usize, q: usize)
+    requires { ⌜ (c < 32) × (length (now runs) ≡ 32) ⌝ }
+    ensures { λ r. ⌜ now (runs .exit) ≡ runsOf (now (runs .entry)) c q ⌝ }
 {
-    let mut at = runs;
     let mut j = c + 1;
     while j < 32 {
-        at[j] = q;
+        runs[j] = q;
         j += 1;
     }
-    at
 }
 
 // Whether the m bytes at q are the n bytes at p and `_lat`.

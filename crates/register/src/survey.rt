@@ -1,29 +1,22 @@
-// What the `geo_` variables say, how many names there are and where things stand, in one walk over host features and variables.
+// What is declared, how many names there are and where things stand, in one walk over host features and variables.
 ghost use mathlib.Core.Path.{_≡_};
 ghost use Prim.Native.Nat.{_+_, _≤_};
 ghost use Rattle.stream.specs.Payload.{payload};
 ghost use Rattle.stream.specs.Contracts.Payload.{room};
 ghost use Rattle.records.specs.Records.{part};
 ghost use Rattle.register.specs.Contracts.Survey.{keptOf, notedOf, Numbered, Surveyed};
-use crate::controls::is_lon;
+use crate::declared::Declared;
+use crate::declared::Geo;
+use crate::declared::read_declared;
+use crate::mentions::is_lon;
 use scene::Value;
 use scene::Variable;
 use scene::is_named;
 use scene::next_name;
 use scene::next_variable;
 
-// The variables geo_frame, geo_px and so on.
-pub struct Geo {
-    pub frame: Value,
-    pub px: Value,
-    pub scale: Value,
-    pub bearing: Value,
-    pub lon: Value,
-    pub lat: Value,
-}
-
 pub struct Survey {
-    pub geo: Geo,
+    pub declared: Declared,
     // how many names there are to be looked up, of host features and `<L>_lon` variables, and how many of these
     pub names: usize,
     pub lons: usize,
@@ -35,7 +28,8 @@ pub struct Survey {
 // The value looked for by a name, after the variable v: the first one stays.
 fn keep(s: &[u8], old: Value, v: Variable, name: &[u8]) -> Value
     requires { ⌜ v .at + v .len ≤ room (now s) ⌝ }
-    ensures { λ r. ⌜ r ≡ keptOf (part (payload (now (s .entry))) (v .at) (v .len)) (v .value) (now (name .entry)) old ⌝ }
+    ensures { λ r. ⌜ r
+        ≡ keptOf (part (payload (now (s .entry))) (v .at) (v .len)) (v .value) (now (name .entry)) old ⌝ }
 {
     if old.some {
         return old;
@@ -82,7 +76,7 @@ fn count_features(s: &[u8]) -> FeatureCount
     }
 }
 
-pub fn survey_variables(s: &[u8]) -> Survey
+pub fn survey_stream(s: &[u8]) -> Survey
     ensures { λ r. ⌜ Surveyed (payload (now (s .entry))) r ⌝ }
 {
     let none = Value {
@@ -106,7 +100,7 @@ pub fn survey_variables(s: &[u8]) -> Survey
         let v = next_variable(s, q);
         if !v.some {
             return Survey {
-                geo: geo,
+                declared: read_declared(s, geo),
                 names: names,
                 lons: lons,
                 vars: vars,

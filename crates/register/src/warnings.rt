@@ -1,36 +1,25 @@
 // The warnings of a registration, written once it is accepted.
 ghost use mathlib.Core.Path.{_≡_};
 ghost use mathlib.Core.Bool.{true, false};
-ghost use mathlib.Core.List.{[], _∷_, _++_};
-ghost use lib.Ieee.{Float};
 ghost use Prim.Native.Nat.{_+_, _≤_, _<_};
-ghost use lib.ListN.{length, take};
+ghost use lib.ListN.{length, take, drop};
 ghost use Rattle.stream.specs.Payload.{payload};
 ghost use Rattle.stream.specs.Contracts.Payload.{room};
 ghost use Rattle.records.specs.Layout.{laidOut};
 ghost use Rattle.records.specs.Records.{part};
-ghost use Rattle.scene.specs.Scene.{sceneOf};
-ghost use Rattle.scene.specs.Labels.{variableOf};
-ghost use Rattle.scene.specs.Contracts.Answers.{Labels, Variables, featuresAt, variablesAt};
-ghost use Rattle.scene.specs.Contracts.Index.{IndexOrNone};
-ghost use Rattle.scene.specs.Laws.Rising.{Rising};
-ghost use Rattle.register.specs.Register.{suffixLon, suffixLat, featureEvents, variableEvents, events, lonEvent, warningsIn, controlsOf, viewWarnings, halfWarnings, anyDeclared, ignoredWith, registerWarnings};
-ghost use Rattle.register.specs.Contracts.Survey.{Surveyed};
-ghost use Rattle.register.specs.Contracts.Marks.{Marked};
-ghost use Rattle.register.specs.Contracts.Warned.{pushed, allPushed};
-use crate::controls::is_lon;
-use crate::controls::resolve;
-use crate::declared::anchor_of;
-use crate::declared::bearing_of;
-use crate::declared::is_px;
-use crate::declared::scale_of;
-use crate::runs::common;
-use crate::runs::lat_of;
-use crate::runs::next_runs;
+ghost use Rattle.scene.specs.Scene.{Scene, sceneOf};
+ghost use Rattle.scene.specs.Contracts.Answers.{valueBy};
+ghost use Rattle.register.specs.Register.{featureEvents, variableEvents, events, warningsIn, controlsOf, viewWarnings, halfWarnings, anyDeclared, ignoredWith, registerWarnings};
+ghost use Rattle.register.specs.Contracts.Survey.{Declares, Surveyed};
+ghost use Rattle.register.specs.Contracts.Gathered.{numbersIn, Kept};
+ghost use Rattle.register.specs.Contracts.Warned.{pushed, allPushed, firstIs, called, Stands, Behind, kindBy};
+use crate::declared::Declared;
+use crate::mentions::Cursor;
+use crate::mentions::Mention;
+use crate::mentions::next_mention;
 use crate::survey::Survey;
-use scene::index_labels;
+use scene::is_called;
 use scene::next_name;
-use scene::next_variable;
 
 // How far the slice is used, in numbers, and whether everything fitted.
 #[repr(C)]
@@ -59,223 +48,214 @@ fn push(out: &mut [u32], w: Warned, kind: u32, index: u32) -> Warned
     }
 }
 
-pub struct Counted {
+// What the walk over the host features comes to: how many there are, and how many of them are control points.
+pub struct Featured {
     pub warned: Warned,
-    // how many host features there are
     pub count: usize,
+    pub controls: usize,
 }
 
-// Of the host features.
+// Whether the h-th of the n kept names is the j-th of all.
+fn is_kept(kept: &[u32], n: usize, h: usize, j: usize) -> bool
+    requires { ⌜ n ≤ length (now kept) ⌝ }
+    ensures { λ r. ⌜ r ≡ firstIs j (drop h (take n (now (kept .entry)))) ⌝ }
+{
+    if h >= n {
+        return false;
+    }
+    kept[h] as usize == j
+}
+
+// Of the host features: each that is no control point. Where the lengths of those stand that are, goes into `heads`.
 fn warn_features(
     s: &[u8],
-    labels: usize,
-    ix: &[u32],
-    marks: &mut [u8],
+    kept: &[u32],
+    n: usize,
+    heads: &mut [u32],
     out: &mut [u32],
     w: Warned,
-) -> Counted
-    requires { ⌜ (room (now s) < 4294967296) × (w .used ≤ length (now out)) × Labels (payload (now s)) labels × IndexOrNone (payload (now s)) labels (now ix) × Marked (sceneOf (payload (now s))) (now marks) [] ⌝ }
-    ensures { λ r. ⌜ record { out = now (out .exit); said = r .warned } ≡ allPushed (warningsIn (featureEvents (sceneOf (payload (now (s .entry)))) 0 (featuresAt (payload (now (s .entry))) 0))) (record { out = now (out .entry); said = w }) ⌝ }
-    ensures { λ r. ⌜ (r .warned .used ≤ length (now (out .exit))) × (r .count ≡ length (featuresAt (payload (now (s .entry))) 0)) × Marked (sceneOf (payload (now (s .entry)))) (now (marks .exit)) (featuresAt (payload (now (s .entry))) 0) ⌝ }
+) -> Featured
+    requires { ⌜ (room (now s) < 33554432) × (w .used ≤ length (now out)) × (n ≤ 64) × (length (now kept) ≡ 64)
+        × (length (now heads) ≡ 64) × (take n (now kept) ≡ numbersIn 0 (events (sceneOf (payload (now s))))) ⌝ }
+    ensures { λ r. ⌜ record { out = now (out .exit); said = r .warned }
+        ≡ allPushed (warningsIn (featureEvents (sceneOf (payload (now (s .entry)))) 0
+        (sceneOf (payload (now (s .entry))) .features))) (record { out = now (out .entry); said = w }) ⌝ }
+    ensures { λ r. ⌜ (r .warned .used ≤ length (now (out .exit)))
+        × Behind (now (s .entry)) (now (kept .entry)) n (now (heads .exit)) (r .controls) (r .count) ⌝ }
 {
     let mut warned = w;
+    let mut h = 0usize;
     let mut q = 0usize;
     let mut i = 0usize;
     loop {
         let f = next_name(s, q);
         if !f.some {
-            return Counted {
+            return Featured {
                 warned: warned,
                 count: i,
+                controls: h,
             };
         }
-        let p = resolve(s, labels, ix, marks, i, f.at, f.len);
-        if p.fate != 0 {
+        q = f.next;
+        if is_kept(kept, n, h, i) {
+            heads[h] = (f.at - 1) as u32;
+            h += 1;
+        } else {
             warned = push(out, warned, 2, i as u32);
         }
-        q = f.next;
         i += 1;
     }
 }
 
-// Of the j-th variable, `<L>_lon` at `at` with L of n bytes, behind so many host features; `<L>_lat` is looked for from p on.
-fn warn_lon(
-    s: &[u8],
-    labels: usize,
-    ix: &[u32],
-    marks: &mut [u8],
-    out: &mut [u32],
-    w: Warned,
-    features: usize,
-    p: usize,
-    at: usize,
-    n: usize,
-    j: u32,
-) -> Warned
-    requires { ⌜ (w .used ≤ length (now out)) × (at + n + 4 ≤ room (now s)) × (part (payload (now s)) (at + n) 4 ≡ suffixLon) × Rising [] (variablesAt (payload (now s)) p) × (features ≡ length (featuresAt (payload (now s)) 0)) × Labels (payload (now s)) labels × IndexOrNone (payload (now s)) labels (now ix) × Marked (sceneOf (payload (now s))) (now marks) (take features (featuresAt (payload (now s)) 0)) ⌝ }
-    ensures { λ r. ⌜ ((lon : Float) → record { out = now (out .exit); said = r } ≡ allPushed (warningsIn (lonEvent (sceneOf (payload (now (s .entry)))) j (part (payload (now (s .entry))) at n) lon (variableOf (part (payload (now (s .entry))) at n ++ suffixLat) (variablesAt (payload (now (s .entry))) p)) ∷ [])) (record { out = now (out .entry); said = w })) ⌝ }
-    ensures { λ r. ⌜ (r .used ≤ length (now (out .exit))) × Marked (sceneOf (payload (now (s .entry)))) (now (marks .exit)) (take features (featuresAt (payload (now (s .entry))) 0)) ⌝ }
+// Whether one of the first h heads is that of the n bytes at `at`.
+fn is_headed(s: &[u8], heads: &[u32], h: usize, at: usize, n: usize) -> bool
+    requires { ⌜ Stands (now s) (now heads) h × (at + n ≤ room (now s)) ⌝ }
+    ensures { λ r. ⌜ r ≡ called (payload (now (s .entry))) (take h (now (heads .entry)))
+        (part (payload (now (s .entry))) at n) ⌝ }
 {
-    let lat = lat_of(s, p, at, n);
-    if !lat.some {
-        return push(out, w, 2, j);
+    let mut k = 0usize;
+    while k < h {
+        if is_called(s, heads[k] as usize, at, n) {
+            return true;
+        }
+        k += 1;
     }
-    let found = resolve(s, labels, ix, marks, features, at, n);
-    if found.fate == 0 {
-        return w;
-    }
-    if found.fate == 1 {
-        return push(out, w, 2, j);
-    }
-    push(out, w, 3, j)
+    false
 }
 
-// Of the variables, behind so many host features.
-fn warn_variables(
+// The warning of a mention that is no control point: 3 where a host feature has its name and resolves, else 2.
+fn kind_of(s: &[u8], heads: &[u32], h: usize, m: Mention) -> u32
+    requires { ⌜ Stands (now s) (now heads) h × (m .at + m .len ≤ room (now s)) ⌝ }
+    ensures { λ r. ⌜ r ≡ kindBy (valueBy (m .lat))
+        (called (payload (now (s .entry))) (take h (now (heads .entry)))
+        (part (payload (now (s .entry))) (m .at) (m .len))) ⌝ }
+{
+    let lat = m.lat;
+    if !lat.some {
+        return 2;
+    }
+    if is_headed(s, heads, h, m.at, m.len) {
+        return 3;
+    }
+    2
+}
+
+// Of the variables, behind `features` host features, of which the first h control points are.
+fn warn_lons(
     s: &[u8],
-    vars: usize,
-    labels: usize,
-    ix: &[u32],
-    marks: &mut [u8],
+    v: Survey,
+    kept: &[u32],
+    n: usize,
+    heads: &[u32],
+    h: usize,
+    features: usize,
     out: &mut [u32],
     w: Warned,
-    features: usize,
 ) -> Warned
-    requires { ⌜ (room (now s) < 4294967296) × (w .used ≤ length (now out)) × (features ≡ length (featuresAt (payload (now s)) 0)) × Rising [] (variablesAt (payload (now s)) 0) × Labels (payload (now s)) labels × Variables (payload (now s)) vars × IndexOrNone (payload (now s)) labels (now ix) × Marked (sceneOf (payload (now s))) (now marks) (take features (featuresAt (payload (now s)) 0)) ⌝ }
-    ensures { λ r. ⌜ record { out = now (out .exit); said = r } ≡ allPushed (warningsIn (variableEvents (sceneOf (payload (now (s .entry)))) 0 (variablesAt (payload (now (s .entry))) 0))) (record { out = now (out .entry); said = w }) ⌝ }
+    requires { ⌜ (room (now s) < 33554432) × (laidOut (payload (now s)) ≡ true) × (w .used ≤ length (now out))
+        × Surveyed (payload (now s)) v × (n ≤ 64) × (length (now kept) ≡ 64)
+        × Behind (now s) (now kept) n (now heads) h features ⌝ }
+    ensures { λ r. ⌜ record { out = now (out .exit); said = r }
+        ≡ allPushed (warningsIn (variableEvents (sceneOf (payload (now (s .entry)))) 0
+        (sceneOf (payload (now (s .entry))) .variables))) (record { out = now (out .entry); said = w }) ⌝ }
     ensures { λ r. ⌜ r .used ≤ length (now (out .exit)) ⌝ }
 {
     let mut warned = w;
     let mut runs = [0usize; 32];
-    let mut at = 0usize;
-    let mut len = 0usize;
-    let mut q = vars;
-    let mut i = 0usize;
+    let mut c = Cursor {
+        q: v.vars,
+        i: 0,
+        at: 0,
+        len: 0,
+    };
+    let mut k = h;
+    let mut j = features;
     loop {
-        let v = next_variable(s, q);
-        if !v.some {
+        let m = next_mention(s, true, c, &mut runs);
+        if !m.some {
             return warned;
         }
-        let alike = common(s, at, len, v.at, v.len);
-        runs = next_runs(runs, alike, q);
-        at = v.at;
-        len = v.len;
-        if is_lon(s, at, len) {
-            let from = runs[len - 2];
-            warned = warn_lon(
-                s,
-                labels,
-                ix,
-                marks,
-                out,
-                warned,
-                features,
-                from,
-                at,
-                len - 4,
-                i as u32,
-            );
+        c = m.next;
+        if is_kept(kept, n, k, j) {
+            k += 1;
+        } else {
+            warned = push(out, warned, kind_of(s, heads, h, m), m.index as u32);
         }
-        q = v.next;
-        i += 1;
+        j += 1;
     }
 }
 
-// Of both, by what may be an index, and by marks that say nothing yet.
-fn warn_names(
-    s: &[u8],
-    v: Survey,
-    ix: &[u32],
-    marks: &mut [u8],
-    out: &mut [u32],
-    w: Warned,
-) -> Warned
-    requires { ⌜ (room (now s) < 4294967296) × (laidOut (payload (now s)) ≡ true) × (w .used ≤ length (now out)) × Surveyed (payload (now s)) v × IndexOrNone (payload (now s)) (v .labels) (now ix) × Marked (sceneOf (payload (now s))) (now marks) [] ⌝ }
-    ensures { λ r. ⌜ record { out = now (out .exit); said = r } ≡ allPushed (warningsIn (events (sceneOf (payload (now (s .entry)))))) (record { out = now (out .entry); said = w }) ⌝ }
+// Of all names. Where each has come to one of the n control points, no look is taken.
+fn warn_names(s: &[u8], v: Survey, kept: &[u32], out: &mut [u32], w: Warned, n: u32) -> Warned
+    requires { ⌜ (room (now s) < 33554432) × (laidOut (payload (now s)) ≡ true) × (w .used ≤ length (now out)) × Surveyed (payload (now s)) v
+        × (n ≡ length (controlsOf (sceneOf (payload (now s))))) × (n ≤ 64) × (length (now kept) ≡ 64) × Kept (sceneOf (payload (now s))) (now kept) ⌝ }
+    ensures { λ r. ⌜ record { out = now (out .exit); said = r }
+        ≡ allPushed (warningsIn (events (sceneOf (payload (now (s .entry)))))) (record { out = now (out .entry); said = w }) ⌝ }
     ensures { λ r. ⌜ r .used ≤ length (now (out .exit)) ⌝ }
 {
-    let f = warn_features(s, v.labels, ix, marks, out, w);
+    let n = n as usize;
+    if v.names == n {
+        return w;
+    }
+    let mut heads = [0u32; 64];
+    let f = warn_features(s, kept, n, &mut heads, out, w);
     let featured = f.warned;
     if v.lons == 0 {
         return featured;
     }
-    warn_variables(s, v.vars, v.labels, ix, marks, out, featured, f.count)
-}
-
-// The same, with an index where `gather` makes one. Where each name has come to one of the n control points, no other look is taken.
-fn warn_controls(s: &[u8], v: Survey, out: &mut [u32], w: Warned, n: u32) -> Warned
-    requires { ⌜ (room (now s) < 4294967296) × (laidOut (payload (now s)) ≡ true) × (w .used ≤ length (now out)) × Surveyed (payload (now s)) v × (n ≡ length (controlsOf (sceneOf (payload (now s))))) ⌝ }
-    ensures { λ r. ⌜ record { out = now (out .exit); said = r } ≡ allPushed (warningsIn (events (sceneOf (payload (now (s .entry)))))) (record { out = now (out .entry); said = w }) ⌝ }
-    ensures { λ r. ⌜ r .used ≤ length (now (out .exit)) ⌝ }
-{
-    if v.names == n as usize {
-        return w;
-    }
-    if v.names == 1 {
-        let mut few = [0u8; 1];
-        return warn_names(s, v, &[0u32; 1], &mut few, out, w);
-    }
-    let mut ix = [0u32; 4096];
-    let mut marks = [0u8; 4096];
-    index_labels(s, v.labels, &mut ix);
-    warn_names(s, v, &ix, &mut marks, out, w)
+    warn_lons(s, v, kept, n, &heads, f.controls, f.count, out, featured)
 }
 
 // 1: a view_scale without geo_px.
-fn warn_view(s: &[u8], v: Survey, out: &mut [u32], w: Warned) -> Warned
-    requires { ⌜ (w .used ≤ length (now out)) × Surveyed (payload (now s)) v ⌝ }
-    ensures { λ r. ⌜ record { out = now (out .exit); said = r } ≡ allPushed (viewWarnings (sceneOf (payload (now (s .entry))))) (record { out = now (out .entry); said = w }) ⌝ }
+fn warn_view(d: Declared, out: &mut [u32], w: Warned) -> Warned
+    requires { ⌜ w .used ≤ length (now out) ⌝ }
+    ensures { λ r. ⌜ ((sc : Scene) → Declares sc d → record { out = now (out .exit); said = r }
+        ≡ allPushed (viewWarnings sc) (record { out = now (out .entry); said = w })) ⌝ }
     ensures { λ r. ⌜ r .used ≤ length (now (out .exit)) ⌝ }
 {
-    let view = scene::view_scale(s);
+    let view = d.view;
     if !view.some {
         return w;
     }
-    if is_px(s, v) {
+    if d.px {
         return w;
     }
     push(out, w, 1, 0)
 }
 
 // 2: half an anchor.
-fn warn_half(s: &[u8], v: Survey, out: &mut [u32], w: Warned) -> Warned
-    requires { ⌜ (w .used ≤ length (now out)) × Surveyed (payload (now s)) v ⌝ }
-    ensures { λ r. ⌜ record { out = now (out .exit); said = r } ≡ allPushed (halfWarnings (sceneOf (payload (now (s .entry))))) (record { out = now (out .entry); said = w }) ⌝ }
+fn warn_half(d: Declared, out: &mut [u32], w: Warned) -> Warned
+    requires { ⌜ w .used ≤ length (now out) ⌝ }
+    ensures { λ r. ⌜ ((sc : Scene) → Declares sc d → record { out = now (out .exit); said = r }
+        ≡ allPushed (halfWarnings sc) (record { out = now (out .entry); said = w })) ⌝ }
     ensures { λ r. ⌜ r .used ≤ length (now (out .exit)) ⌝ }
 {
-    let a = scene::anchor(s);
-    if a.some {
-        return w;
-    }
-    let g = v.geo;
-    let lon = g.lon;
-    let lat = g.lat;
-    if lon.some == lat.some {
+    if !d.half {
         return w;
     }
     push(out, w, 2, 0)
 }
 
 // Whether a scale, a bearing or geo_px is declared.
-fn declares(s: &[u8], v: Survey) -> bool
-    requires { ⌜ Surveyed (payload (now s)) v ⌝ }
-    ensures { λ r. ⌜ r ≡ anyDeclared (sceneOf (payload (now (s .entry)))) ⌝ }
+fn declares(d: Declared) -> bool
+    ensures { λ r. ⌜ ((sc : Scene) → Declares sc d → r ≡ anyDeclared sc) ⌝ }
 {
-    let scale = scale_of(s, v);
+    let scale = d.scale;
     if scale.some {
         return true;
     }
-    let bearing = bearing_of(s, v);
+    let bearing = d.bearing;
     if bearing.some {
         return true;
     }
-    is_px(s, v)
+    d.px
 }
 
 // 4: what is ignored with n control points.
-fn warn_ignored(s: &[u8], v: Survey, out: &mut [u32], w: Warned, n: u32) -> Warned
-    requires { ⌜ (w .used ≤ length (now out)) × Surveyed (payload (now s)) v ⌝ }
-    ensures { λ r. ⌜ record { out = now (out .exit); said = r } ≡ allPushed (ignoredWith n (sceneOf (payload (now (s .entry))))) (record { out = now (out .entry); said = w }) ⌝ }
+fn warn_ignored(d: Declared, out: &mut [u32], w: Warned, n: u32) -> Warned
+    requires { ⌜ w .used ≤ length (now out) ⌝ }
+    ensures { λ r. ⌜ ((sc : Scene) → Declares sc d → record { out = now (out .exit); said = r }
+        ≡ allPushed (ignoredWith n sc) (record { out = now (out .entry); said = w })) ⌝ }
     ensures { λ r. ⌜ r .used ≤ length (now (out .exit)) ⌝ }
 {
     if n == 0 {
@@ -283,25 +263,28 @@ fn warn_ignored(s: &[u8], v: Survey, out: &mut [u32], w: Warned, n: u32) -> Warn
     }
     let mut warned = w;
     if n >= 2 {
-        if declares(s, v) {
+        if declares(d) {
             warned = push(out, warned, 4, 0);
         }
     }
-    let anchor = anchor_of(s, v);
+    let anchor = d.anchor;
     if anchor.some {
         warned = push(out, warned, 4, 0);
     }
     warned
 }
 
-// All warnings of the registration of a stream that is laid out, with n control points.
-pub fn write_warnings(s: &[u8], v: Survey, out: &mut [u32], n: u32) -> Warned
-    requires { ⌜ (room (now s) < 4294967296) × (laidOut (payload (now s)) ≡ true) × Surveyed (payload (now s)) v × (n ≡ length (controlsOf (sceneOf (payload (now s))))) ⌝ }
-    ensures { λ r. ⌜ record { out = now (out .exit); said = r } ≡ allPushed (registerWarnings (sceneOf (payload (now (s .entry))))) (record { out = now (out .entry); said = record { ok = true; used = 0 } }) ⌝ }
+// All warnings of the registration of a stream that is laid out, with n control points, of the names that are kept.
+pub fn write_warnings(s: &[u8], v: Survey, kept: &[u32], out: &mut [u32], n: u32) -> Warned
+    requires { ⌜ (room (now s) < 33554432) × (laidOut (payload (now s)) ≡ true) × Surveyed (payload (now s)) v
+        × (n ≡ length (controlsOf (sceneOf (payload (now s))))) × (n ≤ 64) × (length (now kept) ≡ 64) × Kept (sceneOf (payload (now s))) (now kept) ⌝ }
+    ensures { λ r. ⌜ record { out = now (out .exit); said = r }
+        ≡ allPushed (registerWarnings (sceneOf (payload (now (s .entry))))) (record { out = now (out .entry); said = record { ok = true; used = 0 } }) ⌝ }
 {
     let none = Warned { ok: true, used: 0 };
-    let view = warn_view(s, v, out, none);
-    let all = warn_controls(s, v, out, view, n);
-    let half = warn_half(s, v, out, all);
-    warn_ignored(s, v, out, half, n)
+    let d = v.declared;
+    let view = warn_view(d, out, none);
+    let all = warn_names(s, v, kept, out, view, n);
+    let half = warn_half(d, out, all);
+    warn_ignored(d, out, half, n)
 }

@@ -3,7 +3,7 @@ use mathlib.Core.Path.{_≡_, refl, sym, subst, _∙_}
 use mathlib.Core.Logic.{⊎-elim}
 use mathlib.Core.Bool.{true, false, not}
 use mathlib.Core.List.{List, [], _∷_, map}
-use Prim.Native.Nat.{ℕ, _+_, _*_, _≤_, _<_}
+use Prim.Native.Nat.{ℕ, _+_, _-_, _*_, _≤_, _<_}
 use native.Mathlib.Nat.{eq-zero-or-pos}
 use native.Mathlib.Omega.{arith}
 use lib.ListN.{drop, getD}
@@ -22,6 +22,7 @@ use Rattle.records.specs.Contracts.Hits.{recordsAt, Standing, hitsOf, Later}
 use Rattle.records.specs.Walk.{tagOf}
 use Rattle.records.specs.Laws.Search.{search-got, passed-over, standing-less, standing-fits, choice-within, NameFound, PointsFound, PathFound}
 use Rattle.scene.specs.Scene.{none, some, first}
+use Rattle.scene.specs.Contracts.Answers.{Headed}
 
 -- an answer that says of itself that there is none
 pub nothing : {A : Type 0} → false ≡ true → A
@@ -120,3 +121,13 @@ module _ {s : List ℕ} {p t more : ℕ} {h : Hit} (o : One s p t 0 h) (f : Name
 
   pub named : {n : ℕ} → n ≡ getD (payload s) (h .at + 1) 0 → Named s p t h more n
   named e = record { one = o; is = e; short = rw (e, ← getD-drop (h .at) (payload s) 1 0) (f .short); ends = rw (e, ← getD-drop (h .at) (payload s) 1 0) (f .ends) }
+
+pub headed : {s : List ℕ} {p t more n : ℕ} {h : Hit} → Named s p t h more n → 10 ≤ more → Headed (payload s) (h .at + 2) n
+headed {s} {h = h} d m =
+    let e : h .at + 2 - 1 ≡ h .at + 1 = omega arith in
+    record {
+      behind = omega arith;
+      head = rw (e, ← (d .is)) refl;
+      short = d .short;
+      fits = omega (arith, d .ends, d .one .fits, payload-length s);
+    }

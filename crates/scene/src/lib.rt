@@ -19,6 +19,7 @@ pub use labels::consider_item;
 pub use labels::consider_place;
 pub use labels::point_of_label;
 pub use labels::reference_point;
+pub use names::is_called;
 pub use names::is_named;
 pub use names::same_name;
 pub use numbers::Point;

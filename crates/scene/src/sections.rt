@@ -7,7 +7,7 @@ ghost use Rattle.stream.specs.Contracts.Payload.{room};
 ghost use lib.ListN.{drop};
 ghost use Rattle.records.specs.Contracts.Hits.{Later};
 ghost use Rattle.scene.specs.Scene.{itemAt};
-ghost use Rattle.scene.specs.Contracts.Answers.{Within, PathWithin, featuresAt, featuresBy, featureBy, variablesAt, variablesBy, placesAt, placesBy, ItemStands, itemsAt, itemBy, itemsBy, pointsFrom, pointsBy, pathsFrom, pathsBy};
+ghost use Rattle.scene.specs.Contracts.Answers.{Within, Headed, PathWithin, featuresAt, featuresBy, featureBy, variablesAt, variablesBy, placesAt, placesBy, ItemStands, itemsAt, itemBy, itemsBy, pointsFrom, pointsBy, pathsFrom, pathsBy};
 use crate::numbers::Spot;
 use crate::numbers::Value;
 use crate::numbers::has_bit;
@@ -111,6 +111,7 @@ pub fn next_name(s: &[u8], p: usize) -> FeatureName
     ensures { λ r. ⌜ featuresAt (payload (now (s .entry))) p ≡ featuresBy (payload (now (s .entry))) (featureBy (payload (now (s .entry))) r) ⌝ }
     ensures { λ r. ⌜ (r .some ≡ true → Within (room (now (s .entry))) p (r .at) (r .len + 16) (r .next)) ⌝ }
     ensures { λ r. ⌜ Later (payload (now (s .entry))) 3 p (r .next) ⌝ }
+    ensures { λ r. ⌜ (r .some ≡ true → Headed (payload (now (s .entry))) (r .at) (r .len)) ⌝ }
 {
     let h = seek(s, p, 3, 0);
     if !h.some {
@@ -134,6 +135,7 @@ pub fn next_name(s: &[u8], p: usize) -> FeatureName
 pub fn next_feature(s: &[u8], p: usize) -> Feature
     ensures { λ r. ⌜ featuresAt (payload (now (s .entry))) p ≡ featuresBy (payload (now (s .entry))) r ⌝ }
     ensures { λ r. ⌜ (r .some ≡ true → Within (room (now (s .entry))) p (r .at) (r .len) (r .next)) ⌝ }
+    ensures { λ r. ⌜ (r .some ≡ true → Headed (payload (now (s .entry))) (r .at) (r .len)) ⌝ }
 {
     let f = next_name(s, p);
     if !f.some {
@@ -161,7 +163,7 @@ pub fn next_feature(s: &[u8], p: usize) -> Feature
 pub fn next_variable(s: &[u8], p: usize) -> Variable
     ensures { λ r. ⌜ variablesAt (payload (now (s .entry))) p ≡ variablesBy (payload (now (s .entry))) r ⌝ }
     ensures { λ r. ⌜ (r .some ≡ true → Within (room (now (s .entry))) p (r .at) (r .len) (r .next)) ⌝ }
-    ensures { λ r. ⌜ (r .some ≡ true → r .len ≤ 31) ⌝ }
+    ensures { λ r. ⌜ (r .some ≡ true → Headed (payload (now (s .entry))) (r .at) (r .len)) ⌝ }
     ensures { λ r. ⌜ Later (payload (now (s .entry))) 4 p (r .next) ⌝ }
 {
     let h = seek(s, p, 4, 0);

@@ -1,53 +1,192 @@
--- Control points as the code gathers them: the first 64 kept, counted up to 65.
-use mathlib.Core.Bool.{Bool, true, false, _&&_}
-use mathlib.Core.List.{List, [], _∷_}
-use Prim.Native.Nat.{ℕ, _+_}
-use lib.ListN.{take, set, replicate}
-use lib.Dec.{ltb}
+-- Control points as the code gathers them: counted up to 65, the first 64 kept with the numbers of their names.
+use mathlib.Core.Path.{_≡_}
+use mathlib.Core.Logic.{_⊎_}
+use mathlib.Core.Bool.{Bool, true, false, cond, _||_}
+use mathlib.Core.List.{List, [], _∷_, _++_}
+use Prim.Native.Nat.{ℕ, zero, suc, _+_, _*_, _%_, _≤_, _<_}
+use lib.ListN.{length, take, drop, getD}
+use lib.Dec.{eqb, ltb}
+use lib.Ieee.{Float, nan}
+use Rattle.stream.specs.Payload.{payload}
+use Rattle.stream.specs.Contracts.Payload.{room}
+use Rattle.scene.specs.Scene.{Maybe, none, some, Point, Scene, sceneOf}
+use Rattle.scene.specs.Labels.{same}
 use Rattle.similarity.specs.declared.fit.Control.{Control}
-use Rattle.register.specs.declared.controls.Candidate.{Candidate}
-use Rattle.register.specs.declared.controls.Gathered.{Gathered}
-use lib.Ieee.{Float}
-use Rattle.scene.specs.Scene.{Maybe, none, some, Scene}
-use Rattle.register.specs.Register.{f0, Warning, Event, control, warn, placed, resolved, mentioned, eventOf}
+use Rattle.names.specs.Contracts.Table.{nameOf, markOf, marked, Table, Unmarked, In}
+use Rattle.names.specs.Contracts.Batch.{spotOf}
+use Rattle.register.specs.declared.controls.Tally.{Tally}
+use Rattle.register.specs.declared.controls.Filled as code-filled
+use Rattle.register.specs.declared.mentions.Cursor.{Cursor}
+use Rattle.register.specs.Register.{isSome, Event, control, warn, allPlaced, resolved, mentioned, featureEvents, variableEvents, controlsIn, controlsOf, events}
+use Rattle.register.specs.Contracts.Mentions.{Mention, featureMentions, grownBy, eventsOf, mentionsAt, moreOf, Follows}
 
-abbrev pub blank : Control
-blank = record { x = f0; y = f0; lon = f0; lat = f0 }
+-- which events are control points, the first event being the j-th
+unfoldable pub numbersIn : ℕ → List Event → List ℕ
+numbersIn j [] = []
+numbersIn j (control c ∷ es) = j ∷ numbersIn (suc j) es
+numbersIn j (warn w ∷ es) = numbersIn (suc j) es
 
-abbrev pub noControls : Gathered
-noControls = record { at = replicate 64 blank; n = 0; placed = true }
+abbrev pub upTo65 : ℕ → ℕ
+upTo65 n = cond (ltb 64 n) 65 n
 
-abbrev pub pickGathered : Bool → Gathered → Gathered → Gathered
-pickGathered true a b = a
-pickGathered false a b = b
+-- the k-th control point of a slice, four numbers each, and the first n
+abbrev pub controlIn : List Float → ℕ → Control
+controlIn flat k = record { x = getD flat (4 * k) nan; y = getD flat (4 * k + 1) nan; lon = getD flat (4 * k + 2) nan; lat = getD flat (4 * k + 3) nan }
 
-unfoldable pub putOf : Gathered → Control → Gathered
-putOf g c =
-    let ok = g .placed && placed (c .lon) (c .lat) in
-    pickGathered (ltb (g .n) 64)
-    (record { at = set (g .at) (g .n) c; n = g .n + 1; placed = ok })
-    (record { at = g .at; n = 65; placed = ok })
+unfoldable pub controlsBy : List Float → ℕ → List Control
+controlsBy flat zero = []
+controlsBy flat (suc n) = controlsBy flat n ++ controlIn flat n ∷ []
 
--- one more that may be
-abbrev pub takenOf : Candidate → Gathered → Gathered
-takenOf c g = pickGathered (c .some) (putOf g (c .control)) g
+-- cs are gathered, of the names js; where b is false, only how many there are is known, and whether all are placed
+pub record Holds (b : Bool) (cs : List Control) (js : List ℕ) (g : Tally) (flat : List Float) (kept : List ℕ) : Type 0 where
+  pub count : g .n ≡ upTo65 (length cs)
+  pub placed : g .placed ≡ allPlaced cs
+  pub controls : b ≡ true → length cs ≤ 64 → controlsBy flat (length cs) ≡ cs
+  pub numbers : b ≡ true → length cs ≤ 64 → take (length cs) kept ≡ js
+  pub as-many : length js ≡ length cs
+  pub room-for : length flat ≡ 256
+  pub kept-room : length kept ≡ 64
 
-unfoldable pub after : Event → Gathered → Gathered
-after (control c) g = putOf g c
-after (warn w) g = g
+-- all of them, and where there are not too many, their names
+abbrev pub Gathers : Scene → Tally → List Float → List ℕ → Type 0
+Gathers sc g flat kept = Holds true (controlsOf sc) (numbersIn 0 (events sc)) g flat kept
 
--- the control point of a name, unless it resolves to nothing or one of the first i host features has it: which warning then stands is all one here
-abbrev pub unnamed : Warning
-unnamed = record { kind = 0; index = 0 }
+abbrev pub Kept : Scene → List ℕ → Type 0
+Kept sc kept = take (length (controlsOf sc)) kept ≡ numbersIn 0 (events sc)
 
-unfoldable pub named : Scene → List ℕ → ℕ → Float → Float → Gathered → Gathered
-named sc name i lon lat g = after (eventOf (resolved sc name) (mentioned name (take i (sc .features))) lon lat unnamed unnamed) g
+-- ---- a batch of names
+-- the mention has the name x and a latitude
+abbrev pub named : List ℕ → Mention → Maybe Float → Bool
+named x m none = false
+named x m (some lat) = same (m .name) x
 
--- the same, where the latitude is set
-unfoldable pub paired : Scene → List ℕ → ℕ → Float → Maybe Float → Gathered → Gathered
-paired sc name i lon none g = g
-paired sc name i lon (some lat) g = named sc name i lon lat g
+-- one of them does
+unfoldable pub among : List ℕ → List Mention → Bool
+among x [] = false
+among x (m ∷ ms) = named x m (m .lat) || among x ms
 
-unfoldable pub gathered : List Event → Gathered → Gathered
-gathered [] g = g
-gathered (e ∷ es) g = gathered es (after e g)
+-- the name of m became one of the entries, if m has a latitude
+pub record Added (more : ℕ) (l t t′ : List ℕ) (n r : ℕ) (m : Mention) : Type 0 where
+  pub count : (n ≤ r) × (r ≤ n + 1)
+  pub table : Table more l t′ r
+  pub unmarked : Unmarked t n → Unmarked t′ r
+  pub new : (x : List ℕ) → named x m (m .lat) ≡ true → In more l t′ r x
+  pub old : (x : List ℕ) → In more l t n x → In more l t′ r x
+  pub only : (x : List ℕ) → In more l t′ r x → In more l t n x ⊎ (named x m (m .lat) ≡ true)
+
+-- a table holds the names of the first mentions from c on
+pub record Filling (s : List ℕ) (lons : Bool) (c : Cursor) (r : code-filled.Filled) (t : List ℕ) : Type 0 where
+  pub enough : r .count ≤ length (mentionsAt (payload s) lons c)
+  pub table : Table (moreOf lons) (payload s) t (r .n)
+  pub unmarked : Unmarked t (r .n)
+  pub all : (x : List ℕ) → among x (take (r .count) (mentionsAt (payload s) lons c)) ≡ true → In (moreOf lons) (payload s) t (r .n) x
+  pub only : (x : List ℕ) → In (moreOf lons) (payload s) t (r .n) x → among x (take (r .count) (mentionsAt (payload s) lons c)) ≡ true
+
+-- and where the next batch begins
+pub record Batch (s : List ℕ) (lons : Bool) (c : Cursor) (r : code-filled.Filled) (t runs : List ℕ) : Type 0 where
+  pub filling : Filling s lons c r t
+  pub follows : Follows s lons (r .next) runs
+  pub rest : mentionsAt (payload s) lons (r .next) ≡ drop (r .count) (mentionsAt (payload s) lons c)
+  -- the table is full, or no mention is left
+  pub ends : r .n < length t → mentionsAt (payload s) lons (r .next) ≡ []
+  pub onward : c .q ≤ r .next .q
+  pub more : r .n ≡ 0 ⊎ (c .q < r .next .q)
+  pub fits : r .n ≡ 0 ⊎ (c .q < room s)
+
+-- ---- marks
+-- the name x is known: its entry, if there is one, had the mark r and has none now
+pub record Taken (more : ℕ) (l t t′ : List ℕ) (n : ℕ) (x : List ℕ) (r : ℕ) : Type 0 where
+  pub table : Table more l t′ n
+  pub names : (i : ℕ) → getD t′ i 0 % 33554432 ≡ getD t i 0 % 33554432
+  pub mark : (i : ℕ) → i < n → nameOf more l (getD t i 0) ≡ x → r ≡ markOf (getD t i 0)
+  pub gone : (i : ℕ) → i < n → nameOf more l (getD t i 0) ≡ x → markOf (getD t′ i 0) ≡ 0
+  pub others : (i : ℕ) → i < n → (nameOf more l (getD t i 0) ≡ x → ⊥) → getD t′ i 0 ≡ getD t i 0
+  pub from : 1 ≤ r → In more l t n x
+  pub counted : marked t n ≡ marked t′ n + cond (eqb r 0) 0 1
+
+-- which names of a table resolve and were not before: those that have a mark
+pub record Waits (sc : Scene) (more : ℕ) (l t : List ℕ) (n : ℕ) (spots : List Float) (was : List ℕ → Bool) : Type 0 where
+  pub no-more : (i : ℕ) → i < n → markOf (getD t i 0) ≡ 0 → (isSome (resolved sc (nameOf more l (getD t i 0))) ≡ false) ⊎ (was (nameOf more l (getD t i 0)) ≡ true)
+  pub resolves : (i : ℕ) → i < n → 1 ≤ markOf (getD t i 0) → isSome (resolved sc (nameOf more l (getD t i 0))) ≡ true
+  pub unnamed : (i : ℕ) → i < n → 1 ≤ markOf (getD t i 0) → was (nameOf more l (getD t i 0)) ≡ false
+  pub spot : (i : ℕ) → i < n → 1 ≤ markOf (getD t i 0) → markOf (getD t i 0) ≤ 64 → (d : Float)
+      → resolved sc (nameOf more l (getD t i 0)) ≡ some (spotOf spots (markOf (getD t i 0)) d)
+
+abbrev pub nobody : List ℕ → Bool
+nobody x = false
+
+-- after the first i host features
+abbrev pub featured : Scene → ℕ → List ℕ → Bool
+featured sc i x = mentioned x (take i (sc .features))
+
+abbrev pub Fewer : List ℕ → List ℕ → ℕ → Type 0
+Fewer t t′ n = (i : ℕ) → i < n → markOf (getD t′ i 0) ≤ markOf (getD t i 0)
+
+-- the names of the first i host features wait no more, and each that did was a control point among them
+pub record Forgotten (l : List ℕ) (more : ℕ) (t t′ : List ℕ) (n i : ℕ) : Type 0 where
+  pub table : Table more l t′ n
+  pub names : (k : ℕ) → getD t′ k 0 % 33554432 ≡ getD t k 0 % 33554432
+  pub fewer : Fewer t t′ n
+  pub waits : (spots : List Float) → Waits (sceneOf l) more l t n spots nobody → Waits (sceneOf l) more l t′ n spots (featured (sceneOf l) i)
+  pub counted : (spots : List Float) → Waits (sceneOf l) more l t n spots nobody
+      → marked t n ≤ marked t′ n + length (controlsIn (eventsOf (sceneOf l) 2 nobody (featureMentions 0 (take i (sceneOf l .features)))))
+
+-- ---- the mentions ms are read: what is known before
+pub record Ready (l : List ℕ) (lons : Bool) (ms : List Mention) (t : List ℕ) (n : ℕ) (spots : List Float) (g : Tally) (flat : List Float) (kept : List ℕ) : Type 0 where
+  pub was : List ℕ → Bool
+  pub b : Bool
+  pub cs : List Control
+  pub js : List ℕ
+  pub waits : Waits (sceneOf l) (moreOf lons) l t n spots was
+  pub inside : (x : List ℕ) → among x ms ≡ true → In (moreOf lons) l t n x
+  pub slots : b ≡ true → (i : ℕ) → i < n → markOf (getD t i 0) ≤ 64
+  pub holds : Holds b cs js g flat kept
+
+abbrev pub againOf : Bool → ℕ
+againOf true = 3
+againOf false = 2
+
+unfoldable pub grownAll : (List ℕ → Bool) → List Mention → List ℕ → Bool
+grownAll was [] y = was y
+grownAll was (m ∷ ms) y = grownAll (grownBy was (m .name) (m .lat)) ms y
+
+-- and after: their control points are gathered, the first of their names being the j-th of all
+pub record Read (l : List ℕ) (lons : Bool) (ms : List Mention) (t t′ : List ℕ) (n : ℕ) (spots : List Float) (j : ℕ) (was : List ℕ → Bool) (b : Bool) (cs : List Control) (js : List ℕ) (r : Tally) (flat : List Float) (kept : List ℕ) : Type 0 where
+  pub names : (k : ℕ) → getD t′ k 0 % 33554432 ≡ getD t k 0 % 33554432
+  pub fewer : Fewer t t′ n
+  pub waits : Waits (sceneOf l) (moreOf lons) l t′ n spots (grownAll was ms)
+  pub holds : Holds b (cs ++ controlsIn (eventsOf (sceneOf l) (againOf lons) was ms)) (js ++ numbersIn j (eventsOf (sceneOf l) (againOf lons) was ms)) r flat kept
+  -- each mark that is gone was a control point
+  pub counted : marked t n ≤ marked t′ n + length (controlsIn (eventsOf (sceneOf l) (againOf lons) was ms))
+
+-- the point of a control point
+abbrev pub pointIn : Control → Point
+pointIn c = record { x = c .x; y = c .y }
+
+-- ---- one part of the names: host features, or variables
+abbrev pub partEvents : Bool → Scene → List Event
+partEvents true sc = variableEvents sc 0 (sc .variables)
+partEvents false sc = featureEvents sc 0 (sc .features)
+
+-- the number of its first name among all names
+abbrev pub baseOf : Bool → Scene → ℕ
+baseOf true sc = length (sc .features)
+baseOf false sc = 0
+
+-- how many host features come before a batch whose first name is the base-th
+abbrev pub beforeOf : Bool → ℕ → ℕ → ℕ
+beforeOf true features base = features
+beforeOf false features base = base
+
+abbrev pub batchEvents : List ℕ → Bool → ℕ → List Mention → List Event
+batchEvents l lons base ms =
+    eventsOf (sceneOf l) (againOf lons) (featured (sceneOf l) (beforeOf lons (length (sceneOf l .features)) base)) ms
+
+-- the control points of the host features before it are among cs
+abbrev pub Earlier : Scene → Bool → ℕ → List Control → Type 0
+Earlier sc lons base cs =
+    length (controlsIn (eventsOf sc 2 nobody (featureMentions 0 (take (beforeOf lons (length (sc .features)) base) (sc .features))))) ≤ length cs
+
+abbrev pub firstCursor : Bool → ℕ → Cursor
+firstCursor true vars = record { q = vars; i = 0; at = 0; len = 0 }
+firstCursor false vars = record { q = 0; i = 0; at = 0; len = 0 }

@@ -1,4 +1,5 @@
--- What one walk over host features and variables tells: the `geo_` values, how many names of control points there are, and where variables and labels stand.
+-- What one walk over host features and variables tells: what is declared, how many names of control points there are,
+-- and where variables and labels stand.
 use mathlib.Core.Path.{_≡_}
 use mathlib.Core.Bool.{cond}
 use mathlib.Core.List.{List, [], _∷_}
@@ -6,12 +7,13 @@ use Prim.Native.Nat.{ℕ, suc, _+_, _≤_}
 use lib.ListN.{length}
 use lib.Ieee.{Float}
 use Rattle.scene.specs.declared.numbers.Value.{Value}
-use Rattle.scene.specs.Scene.{NamedValue}
+use Rattle.scene.specs.Scene.{NamedValue, Scene, sceneOf}
 use Rattle.scene.specs.Labels.{same, pick, variableOf}
-use Rattle.scene.specs.Contracts.Answers.{valueBy, featuresAt, variablesAt, Labels, Variables}
-use Rattle.register.specs.declared.survey.Geo.{Geo}
+use Rattle.scene.specs.Contracts.Answers.{valueBy, spotBy, featuresAt, variablesAt, Labels, Variables}
+use Rattle.register.specs.declared.declared.Geo.{Geo}
+use Rattle.register.specs.declared.declared.Declared.{Declared}
 use Rattle.register.specs.declared.survey.Survey.{Survey}
-use Rattle.register.specs.Register.{geoFrame, geoPx, geoScale, geoBearing, geoLon, geoLat, isLon}
+use Rattle.register.specs.Register.{isMercator, var, pxMode, declaredScale, declaredBearing, anchorOf, halfAnchor, geoFrame, geoPx, geoScale, geoBearing, geoLon, geoLat, isLon}
 
 -- each of the `geo_` values, with the variable's name
 pub record Each (P : List ℕ → Value → Type 0) (g : Geo) : Type 0 where
@@ -46,10 +48,22 @@ unfoldable pub lonsIn : List NamedValue → ℕ
 lonsIn [] = 0
 lonsIn (v ∷ vs) = cond (isLon (v .name)) (suc (lonsIn vs)) (lonsIn vs)
 
+-- what options and variables of a scene declare
+pub record Declares (sc : Scene) (d : Declared) : Type 0 where
+  pub mercator : d .mercator ≡ isMercator (sc .frame) (var sc geoFrame)
+  pub px : d .px ≡ pxMode sc
+  pub scale : valueBy (d .scale) ≡ declaredScale sc
+  pub bearing : valueBy (d .bearing) ≡ declaredBearing sc
+  pub anchor : spotBy (d .anchor) ≡ anchorOf sc
+  pub half : d .half ≡ halfAnchor sc
+  pub view : valueBy (d .view) ≡ sc .viewScale
+  pub rescale : d .rescale ≡ sc .rescale
+
 pub record Surveyed (l : List ℕ) (v : Survey) : Type 0 where
-  pub says : Says (variablesAt l 0) (v .geo)
+  pub declares : Declares (sceneOf l) (v .declared)
   pub names : v .names ≡ length (featuresAt l 0) + lonsIn (variablesAt l 0)
   pub lons : v .lons ≡ lonsIn (variablesAt l 0)
+  pub few : v .names ≤ length l
   pub vars : Variables l (v .vars)
   pub labels : Labels l (v .labels)
 
@@ -57,4 +71,5 @@ pub record Surveyed (l : List ℕ) (v : Survey) : Type 0 where
 pub record Numbered (l : List ℕ) (n end : ℕ) : Type 0 where
   pub count : n ≡ length (featuresAt l 0)
   pub short : n ≤ end
+  pub fits : end ≤ length l
   pub behind : Variables l end

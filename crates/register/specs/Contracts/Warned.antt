@@ -1,12 +1,19 @@
--- Warnings as the code writes them into a lent slice, two numbers each, up to the first that lacks room.
-use Prim.Native.Nat.{ℕ, _+_}
-use mathlib.Core.Bool.{Bool, true, false, _&&_}
+-- Warnings as the code writes them into a lent slice, two numbers each, up to the first that lacks room, and of which names.
+use Prim.Native.Nat.{ℕ, _+_, _≤_, _<_}
+use mathlib.Core.Path.{_≡_}
+use mathlib.Core.Bool.{Bool, true, false, _&&_, _||_, cond}
 use mathlib.Core.List.{List, [], _∷_}
-use lib.ListN.{length, set}
-use lib.Dec.{leb}
-use Rattle.scene.specs.Scene.{Maybe, none, some, Point}
+use lib.ListN.{length, take, drop, getD, set}
+use lib.Dec.{leb, eqb}
+use lib.Ieee.{Float}
+use Rattle.stream.specs.Payload.{payload}
+use Rattle.stream.specs.Contracts.Payload.{room}
+use Rattle.records.specs.Records.{part}
+use Rattle.scene.specs.Scene.{Maybe, none, some, NamedFeature, sceneOf}
+use Rattle.scene.specs.Labels.{same}
 use Rattle.register.specs.declared.warnings.Warned.{Warned}
-use Rattle.register.specs.Register.{Warning}
+use Rattle.register.specs.Register.{Warning, isSome, resolved, mentioned, variableEvents}
+use Rattle.register.specs.Contracts.Gathered.{numbersIn}
 
 -- the slice, and what was said of it
 pub record Sheet : Type 0 where
@@ -29,8 +36,37 @@ unfoldable pub allPushed : List Warning → Sheet → Sheet
 allPushed [] t = t
 allPushed (w ∷ ws) t = allPushed ws (pushed w t)
 
--- ---- what a name comes to: 0 a control point, 1 nothing of that name, 2 the name of a host feature
-unfoldable pub fateOf : Maybe Point → Bool → ℕ
-fateOf none earlier = 1
-fateOf (some p) true = 2
-fateOf (some p) false = 0
+-- ---- numbers of names that are control points
+-- the first of these is j
+unfoldable pub firstIs : ℕ → List ℕ → Bool
+firstIs j [] = false
+firstIs j (k ∷ ks) = eqb k j
+
+-- ---- names, by where their lengths stand
+-- one of these is x
+unfoldable pub called : List ℕ → List ℕ → List ℕ → Bool
+called l [] x = false
+called l (p ∷ ps) x = same (part l (p + 1) (getD l p 0)) x || called l ps x
+
+-- the first h of them lie within the payload
+pub record Stands (s heads : List ℕ) (h : ℕ) : Type 0 where
+  pub few : h ≤ length heads
+  pub within : (k : ℕ) → k < h → getD heads k 0 + 1 + getD (payload s) (getD heads k 0) 0 ≤ room s
+
+-- they are those of fs that resolve
+pub record Heading (s heads : List ℕ) (h : ℕ) (fs : List NamedFeature) : Type 0 where
+  pub stands : Stands s heads h
+  pub names : (x : List ℕ) → called (payload s) (take h heads) x
+      ≡ (isSome (resolved (sceneOf (payload s)) x) && mentioned x fs)
+
+-- what is known behind the host features: their heads, and which of n kept numbers are left for the variables
+pub record Behind (s kept : List ℕ) (n : ℕ) (heads : List ℕ) (h features : ℕ) : Type 0 where
+  pub heading : Heading s heads h (sceneOf (payload s) .features)
+  pub left : drop h (take n kept)
+      ≡ numbersIn features (variableEvents (sceneOf (payload s)) 0 (sceneOf (payload s) .variables))
+  pub short : features ≤ room s
+
+-- the warning of a mention that is no control point, where b says that a host feature which resolves has its name
+unfoldable pub kindBy : Maybe Float → Bool → ℕ
+kindBy none b = 2
+kindBy (some lat) b = cond b 3 2

@@ -1,16 +1,14 @@
 -- What has been gathered stands for the list of control points, and each return of `register` answers outcomeOf.
 use borrow.Author.Tests.{lt-ltb, le-ltb, ne-eqb, ltb-true, ltb-false}
 use mathlib.Core.Path.{_≡_, refl, sym, ap, _∙_}
-use mathlib.Core.Logic.{_⊎_, inl, inr}
+use mathlib.Core.Logic.{_⊎_, inl, inr, ⊎-elim}
 use mathlib.Core.Bool.{Bool, true, false, not, _&&_, cond}
-use mathlib.Core.List.{List, [], _∷_, _++_, append-assoc, append-nil}
-use Prim.Native.Nat.{ℕ, _≤_, _<_, min}
-use native.Mathlib.Numerals.{add-one}
+use mathlib.Core.List.{List, [], _∷_}
+use Prim.Native.Nat.{ℕ, _≤_, _<_}
 use native.Mathlib.Omega.{arith}
-use lib.ListN.{length, take, getD, length-append, length-set}
-use lib.Seq.{take-suc-set, take-suc}
+use lib.ListN.{length, take}
 use lib.Dec.{eqb, ltb}
-use lib.Ieee.{lt, le}
+use lib.Ieee.{Float, lt, le}
 use lib.Ieee.Scale.{finite}
 use Rattle.stream.specs.Conditions.{firstOf}
 use Rattle.stream.specs.Laws.Conditions.{Numbered}
@@ -20,86 +18,44 @@ use Rattle.scene.specs.Contracts.Answers.{spotBy}
 use Rattle.similarity.specs.declared.fit.Control.{Control}
 use Rattle.similarity.specs.declared.projection.Registration.{Registration}
 use Rattle.similarity.specs.Fit.{fitOf}
-use Rattle.register.specs.declared.controls.Gathered.{Gathered}
+use Rattle.register.specs.declared.controls.Tally.{Tally}
 use Rattle.register.specs.declared.outcome.Outcome.{Outcome}
-use Rattle.register.specs.Register.{f0, maxScale, var, geoFrame, isMercator, placed, allPlaced, anchorPlaced, anchorOf, Event, control, warn, events, controlsIn, controlsOf, scaleValue, pxMode, above0, declaredAt, fitted, registrationBy, registrationOf, ofRegistration}
-use Rattle.register.specs.Contracts.Outcome.{registerRefusal, accepted, refusedBy, pickOutcome, outcomeOf, checkedOf, declaredOutcome, fittedOutcome}
-use Rattle.register.specs.Contracts.Gathered.{noControls, putOf, after, gathered}
+use Rattle.register.specs.Register.{f0, maxScale, var, geoFrame, isMercator, placed, allPlaced, anchorPlaced, anchorOf, controlsOf, scaleValue, pxMode, above0, declaredAt, fitted, registrationBy, registrationOf, ofRegistration}
+use Rattle.register.specs.Contracts.Outcome.{accepted, refusedBy, pickOutcome, outcomeOf, checkedOf, declaredOutcome, fittedOutcome}
+use Rattle.register.specs.Contracts.Gathered.{upTo65, controlIn, controlsBy, Holds}
 
 -- ---- what has been gathered
-pub record Holds (cs : List Control) (g : Gathered) : Type 0 where
-  pub count : g .n ≡ min (length cs) 65
-  pub size : length (g .at) ≡ 64
-  pub within : g .placed ≡ allPlaced cs
-  pub kept : length cs ≤ 64 → take (length cs) (g .at) ≡ cs
-
-all-snoc : (cs : List Control) (c : Control) → allPlaced cs && placed (c .lon) (c .lat) ≡ allPlaced (cs ++ c ∷ [])
-unfolding allPlaced
-all-snoc [] c = and-true (placed (c .lon) (c .lat))
+up-to : (n : ℕ) → ((n ≤ 64) × (upTo65 n ≡ n)) ⊎ ((64 < n) × (upTo65 n ≡ 65))
+up-to n = by (ltb 64 n) refl
   where
-    and-true : (b : Bool) → b ≡ b && true
-    and-true true = refl
-    and-true false = refl
-all-snoc (d ∷ cs) c = and-both (placed (d .lon) (d .lat)) _ _ ∙ ap (λ b. placed (d .lon) (d .lat) && b) (all-snoc cs c)
-  where
-    and-both : (a b c : Bool) → a && b && c ≡ a && (b && c)
-    and-both true b c = refl
-    and-both false b c = refl
+    by : (b : Bool) → ltb 64 n ≡ b → ((n ≤ 64) × (upTo65 n ≡ n)) ⊎ ((64 < n) × (upTo65 n ≡ 65))
+    by true e = inr (ltb-true 64 n e, rw e)
+    by false e = inl (ltb-false 64 n e, rw e)
 
--- one more
-put-holds : {cs : List Control} {g : Gathered} (c : Control) → Holds cs g → Holds (cs ++ c ∷ []) (putOf g c)
-unfolding putOf
-put-holds {cs} {g} c h = by (ltb (g .n) 64) refl
-  where
-    by : (b : Bool) → ltb (g .n) 64 ≡ b → Holds (cs ++ c ∷ []) (putOf g c)
-    by true e =
-        let k : length cs < 64 = omega (arith, ltb-true (g .n) 64 e, h .count) in
-        let q : g .n ≡ length cs = omega (arith, h .count) in
-        rw e
-        (record {
-          count = simp length-append (omega (arith, h .count));
-          size = simp length-set (h .size);
-          within = rw (h .within) (all-snoc cs c);
-          kept = λ m. rw (length-append, q, add-one, take-suc-set (g .at) (length cs) c (omega (arith, h .size))) (rw (h .kept (omega arith)));
-        })
-    by false e =
-        let k : 64 ≤ length cs = omega (arith, ltb-false (g .n) 64 e, h .count) in
-        rw e
-        (record {
-          count = simp length-append (omega arith);
-          size = h .size;
-          within = rw (h .within) (all-snoc cs c);
-          kept = λ m. absurd (omega (arith, length-append cs (c ∷ [])));
-        })
+module _ {cs : List Control} {js : List ℕ} {g : Tally} {flat : List Float} {kept : List ℕ} (h : Holds true cs js g flat kept) where
+  pub counted : g .n ≤ 64 → length cs ≡ g .n
+  counted few = ⊎-elim (λ w. omega (arith, w, h .count)) (λ w. absurd (omega (arith, w, h .count))) (up-to (length cs))
 
--- all of them
-all-hold : (es : List Event) {cs : List Control} {g : Gathered} → Holds cs g → Holds (cs ++ controlsIn es) (gathered es g)
-unfolding gathered after controlsIn
-all-hold [] h = rw append-nil h
-all-hold (control c ∷ es) {cs} h = rw (← append-assoc cs (c ∷ []) (controlsIn es)) (all-hold es (put-holds c h))
-all-hold (warn w ∷ es) h = all-hold es h
+  pub over : 64 < g .n → 64 < length cs
+  over many = ⊎-elim (λ w. absurd (omega (arith, w, h .count))) (λ w. w .0) (up-to (length cs))
 
-controls-held : (sc : Scene) → Holds (controlsOf sc) (gathered (events sc) noControls)
-unfolding controlsOf allPlaced
-controls-held sc = all-hold (events sc) {cs = []} (record { count = refl; size = refl; within = refl; kept = λ m. refl })
-
-pub held : (sc : Scene) {g : Gathered} → g ≡ gathered (events sc) noControls → Holds (controlsOf sc) g
-held sc e = rw e (controls-held sc)
-
--- the list by the array and its count
-module _ {cs : List Control} {g : Gathered} (h : Holds cs g) where
-  pub first-kept : g .n ≤ 64 → take (g .n) (g .at) ≡ cs
-  first-kept few =
-      let q : g .n ≡ length cs = omega (arith, h .count) in
-      rw q (h .kept (omega arith))
+  pub all-kept : g .n ≤ 64 → controlsBy flat (g .n) ≡ cs
+  all-kept few =
+      let e = counted few in
+      rw e at (h .controls refl (omega arith))
 
   pub none-kept : g .n ≡ 0 → cs ≡ []
-  none-kept e = sym (first-kept (omega arith)) ∙ rw e
+  unfolding controlsBy
+  none-kept e = sym (all-kept (omega arith)) ∙ rw e
 
-  pub one-kept : (d : Control) → g .n ≡ 1 → cs ≡ getD (g .at) 0 d ∷ []
-  one-kept d e = sym (first-kept (omega arith)) ∙ rw e (take-suc (g .at) 0 d (omega (arith, h .size)))
+  pub one-kept : {c : Control} → c ≡ controlIn flat 0 → g .n ≡ 1 → cs ≡ c ∷ []
+  unfolding controlsBy
+  one-kept k e = sym (all-kept (omega arith)) ∙ rw (e, k)
 
--- the anchor by what `anchor_of` answers
+  pub keeps : g .n ≤ 64 → take (length cs) kept ≡ js
+  keeps few = h .numbers refl (omega (arith, counted few))
+
+-- the anchor by what is declared
 pub anchor-in : (a : Spot) (m : Maybe Point) → spotBy a ≡ m → ((a .some ≡ true) × (placed (a .x) (a .y) ≡ true)) ⊎ (a .some ≡ false) → anchorPlaced m ≡ true
 unfolding anchorPlaced
 anchor-in a m e (inl w) = rw (← e, w .0) (w .1)
@@ -110,6 +66,12 @@ unfolding anchorPlaced
 anchor-out a m e h k = rw (← e, h) k
 
 -- ---- each return of `register`
+-- a refusal keeps nothing
+pub refused : {A : Type 0} {o p : Outcome} (k : ℕ) → o ≡ refusedBy k → 1 ≤ k → refusedBy k ≡ p → (o ≡ p) × (o .number ≡ 0 → A)
+refused {o = o} k e h r =
+    let n : o .number ≡ k = ap (λ (x : Outcome). x .number) e in
+    (e ∙ r, λ z. absurd (omega arith))
+
 pub registration-numbered : (sc : Scene) → Numbered (ofRegistration sc)
 unfolding ofRegistration
 registration-numbered sc =

@@ -1,9 +1,9 @@
 -- What the answers to questions stand for, and which lists a question from a position on asks of.
 use mathlib.Core.Path.{_≡_}
-use Prim.Native.Nat.{ℕ, _+_, _*_, _≤_, _<_}
+use Prim.Native.Nat.{ℕ, _+_, _-_, _*_, _≤_, _<_}
 use mathlib.Core.Bool.{true, false, cond}
 use mathlib.Core.List.{List, [], _∷_, map}
-use lib.ListN.{drop, getD}
+use lib.ListN.{length, drop, getD}
 use lib.Dec.{ltb}
 use lib.Ieee.{Float}
 use Rattle.stream.specs.Numbers.{u16At}
@@ -119,6 +119,13 @@ pub record Within (n p at len next : ℕ) : Type 0 where
   pub name : at + len ≤ n
   pub more : p < next
   pub fits : next ≤ n
+
+-- a name of n bytes stands at `at`, its length before it and eight bytes at least behind it
+pub record Headed (l : List ℕ) (at n : ℕ) : Type 0 where
+  pub behind : 1 ≤ at
+  pub head : getD l (at - 1) 0 ≡ n
+  pub short : n ≤ 31
+  pub fits : at + n + 8 ≤ length l
 
 pub record PathWithin (n p : ℕ) (r : Path) : Type 0 where
   pub start : r .curve ≡ true → r .start + 16 ≤ n

@@ -1,39 +1,61 @@
 use borrow.Author.Needs.{needs}
-use lib.Seq.{take-length}
-use Rattle.scene.specs.Laws.Rising.{variables-rising}
-use Rattle.register.proofs.Surveying.{only-features}
-use Rattle.register.proofs.Gathering.{features-sized, features-alone, all-gathered}
 use Rattle.register.proofs.controls.gather_names.Statement.{statement}
 use Rattle.register.proofs.controls.gather_names.Tie as tie
+use Rattle.register.proofs.controls.gather_names.Reads as reads
+use Rattle.register.proofs.controls.gather_names.Lts as lts
+use Rattle.register.proofs.controls.gather_part.Reads as gather-part-reads
 
-gather-features-requires : tie.Need-gather-features-requires
-gather-features-requires c κs = search needs
+-- src/controls.rt:350:9
+gather-part-requires : tie.Need-gather-part-requires
+gather-part-requires c κs = search needs
 
+-- src/controls.rt:352:9
 same-length : tie.Need-same-length
 same-length c = search needs
 
-returns : tie.Need-returns
-returns c = features-alone _ (c .before .before .before .before .before .gather-features .ensures .0) (only-features (c .before .before .before .before .before .before .before .before .before .before .pre .1) (c .if1 .taken) 0)
-
-gather-variables-requires : tie.Need-gather-variables-requires
-gather-variables-requires c κs =
-    let f = c .before .before .before .before .before .before .gather-features in
-    let pre = c .before .before .before .before .before .before .before .before .before .before .before .pre in
-    (features-sized _ (f .ensures .0), f .ensures .1 .0, variables-rising _ (pre .0), pre .1 .labels, pre .1 .vars, pre .2, rw (f .ensures .1 .0, take-length) (f .ensures .1 .1))
-
+-- src/controls.rt:352:9
 same-length-2 : tie.Need-same-length-2
 same-length-2 c = search needs
 
+-- src/controls.rt:352:9
+same-length-3 : tie.Need-same-length-3
+same-length-3 c = search needs
+
+-- src/controls.rt:352:9
+returns : tie.Need-returns
+returns c = ?
+
+-- src/controls.rt:354:5
+gather-part-requires-2 : tie.Need-gather-part-requires-2
+gather-part-requires-2 c κs = search needs
+
+-- src/controls.rt:341:1
+same-length-4 : tie.Need-same-length-4
+same-length-4 c = search needs
+
+-- src/controls.rt:341:1
+same-length-5 : tie.Need-same-length-5
+same-length-5 c = search needs
+
+-- src/controls.rt:341:1
+same-length-6 : tie.Need-same-length-6
+same-length-6 c = search needs
+
+-- src/controls.rt:341:1
 returns-2 : tie.Need-returns-2
-returns-2 c = all-gathered _ (c .before .before .before .before .before .before .before .before .before .gather-features .ensures .0) (c .before .before .gather-variables .ensures)
+returns-2 c = ?
 
 pub gather-names-spec : {M : Type 1} → statement M
 gather-names-spec =
     tie.close
     (tie.spec
-    gather-features-requires
+    gather-part-requires
     same-length
-    returns
-    gather-variables-requires
     same-length-2
+    same-length-3
+    returns
+    gather-part-requires-2
+    same-length-4
+    same-length-5
+    same-length-6
     returns-2)

@@ -4,6 +4,7 @@ use Prim.Native.Nat.{_-_}
 use native.Mathlib.Omega.{arith}
 use Rattle.stream.specs.Payload.{payload}
 use Rattle.stream.specs.Contracts.Payload.{room}
+use Rattle.stream.specs.Laws.Payload.{payload-length}
 use Rattle.scene.specs.Contracts.Answers.{featureBy}
 use Rattle.register.proofs.Surveying.{Numbering, numbering, numbered, one-numbered}
 use Rattle.register.proofs.survey.count_features.Statement.{statement}
@@ -31,7 +32,11 @@ loop-less : tie.Need-loop-less Inv-loop μ-loop
 loop-less c = omega (arith, c .before .before .next-name .ensures .1 .0 (not-false _ (c .if1 .left)))
 
 loop-again : tie.Need-loop-again Inv-loop μ-loop
-loop-again c = one-numbered (c .before .before .before .loop .inv) (featureBy _ (c .before .before .next-name .result)) (c .before .before .next-name .ensures .0) (c .before .before .next-name .ensures .1 .1) (c .if1 .left) (c .before .before .next-name .ensures .1 .0 (not-false _ (c .if1 .left)) .more)
+loop-again c =
+    let f = c .before .before .next-name in
+    let w = f .ensures .1 .0 (not-false _ (c .if1 .left)) in
+    let s = c .before .before .before .before .before .args .s .now in
+    one-numbered (c .before .before .before .loop .inv) (featureBy _ (f .result)) (f .ensures .0) (f .ensures .1 .1 .0) (c .if1 .left) (w .more) (omega (arith, payload-length s, w .fits))
 
 pub count-features-spec : {M : Type 1} → statement M
 count-features-spec =

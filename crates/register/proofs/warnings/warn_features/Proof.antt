@@ -1,69 +1,92 @@
 use borrow.Author.Needs.{needs}
 use borrow.Author.Tests.{not-false}
-use mathlib.Core.Path.{_≡_, refl, _∙_}
-use mathlib.Core.Logic.{⊎-elim, inl, inr}
-use mathlib.Core.Bool.{false, not}
-use Prim.Native.Nat.{_-_}
+use mathlib.Core.Path.{_≡_, sym, _∙_}
+use mathlib.Core.Logic.{⊎-elim}
+use mathlib.Core.Bool.{true}
+use Prim.Native.Nat.{_-_, _<_, _≤_, _+_}
 use native.Mathlib.Omega.{arith}
 use lib.ListN.{length}
 use Rattle.stream.specs.Payload.{payload}
 use Rattle.stream.specs.Contracts.Payload.{room}
-use Rattle.scene.specs.Contracts.Answers.{Within, featureBy}
-use Rattle.register.proofs.Marking.{MarkedTo, marks-begin, marks-end, marks-on}
+use Rattle.scene.specs.Contracts.Answers.{Within, Headed}
 use Rattle.register.proofs.Pushing.{sheet, sheets}
-use Rattle.register.proofs.Telling.{Told, none-told, all-told, one-told}
+use Rattle.register.proofs.Telling.{Told, none-told, all-told, one-fits, one-control, one-warned}
 use Rattle.register.proofs.warnings.warn_features.Statement.{statement}
 use Rattle.register.proofs.warnings.warn_features.Tie as tie
 
 abbrev Inv-loop : tie.InvT-loop
-Inv-loop s labels ix marks₀ out₀ warned₀ q₀ i₀ marks out warned q i = Told (payload s) (sheet out₀ warned₀) (sheet out warned) q i × MarkedTo (payload s) marks q i × (length marks ≡ length marks₀)
+Inv-loop s kept n heads₀ out₀ warned₀ h₀ q₀ i₀ heads out warned h q i = Told s kept n heads h (sheet out₀ warned₀) (sheet out warned) q i
 
 abbrev μ-loop : tie.MeasureT-loop
-μ-loop s labels ix marks₀ out₀ warned₀ q₀ i₀ marks out warned q i = room s - q
+μ-loop s kept n heads₀ out₀ warned₀ h₀ q₀ i₀ heads out warned h q i = room s - q
 
-within : (c : tie.After-next-name Inv-loop μ-loop) → not (c .next-name .result .some) ≡ false → Within (room (c .before .before .before .before .before .before .args .s .now)) (c .before .loop .q) (c .next-name .result .at) (c .next-name .result .len) (c .next-name .result .next)
-within c h =
-    let w = c .next-name .ensures .1 .0 (not-false _ h) in
-    record { name = omega (arith, w); more = w .more; fits = w .fits }
+within : (c : tie.Else1 Inv-loop μ-loop) → Within (room (c .before .before .before .before .before .before .before .before .args .s .now)) (c .before .before .before .loop .q) (c .before .before .next-name .result .at) (c .before .before .next-name .result .len + 16) (c .before .before .next-name .result .next)
+within c = c .before .before .next-name .ensures .1 .0 (not-false _ (c .if1 .left))
+
+headed : (c : tie.Else1 Inv-loop μ-loop) → Headed (payload (c .before .before .before .before .before .before .before .before .args .s .now)) (c .before .before .next-name .result .at) (c .before .before .next-name .result .len)
+headed c = c .before .before .next-name .ensures .1 .1 .1 (not-false _ (c .if1 .left))
+
+long : (c : tie.Else1 Inv-loop μ-loop) → c .before .before .before .before .before .before .before .before .args .n ≤ length (c .before .before .before .before .before .before .before .before .args .kept .now)
+long c = omega (arith, c .before .before .before .before .before .before .before .before .pre .2, c .before .before .before .before .before .before .before .before .pre .3)
+
+-- a control point has a place among the heads
+place : (c : tie.After-is-kept Inv-loop μ-loop) → c .is-kept .result ≡ true → c .before .before .before .before .loop .h < 64
+place c h = omega (arith, one-fits (c .before .before .before .before .loop .inv) (c .before .before .before .next-name .result) (c .before .before .before .next-name .ensures .0) (c .before .if1 .left) (within (c .before)) (long (c .before)) (c .is-kept .ensures) h, c .before .before .before .before .before .before .before .before .before .pre .2)
 
 loop-holds : tie.Need-loop-holds Inv-loop μ-loop
-loop-holds c = (none-told _ _ (c .before .before .before .before .pre .1), marks-begin _ (c .before .before .before .before .pre .4), refl)
+loop-holds c = none-told _ _ _ _ _ (c .before .before .before .before .pre .1) (c .before .before .before .before .pre .4) (c .before .before .before .before .pre .5)
 
 next-name-requires : tie.Need-next-name-requires Inv-loop μ-loop
 next-name-requires c κs = search needs
 
 same-length : tie.Need-same-length Inv-loop μ-loop
-same-length c = c .before .before .before .loop .inv .2
+same-length c = c .before .before .before .loop .inv .sized ∙ sym (c .before .before .before .before .before .before .before .before .pre .4)
 
 same-length-2 : tie.Need-same-length-2 Inv-loop μ-loop
-same-length-2 c = c .before .before .before .loop .inv .0 .kept
+same-length-2 c = c .before .before .before .loop .inv .as-long
 
 returns : tie.Need-returns Inv-loop μ-loop
-returns c =
-    let f = featureBy _ (c .before .before .next-name .result) in
-    let t = all-told (c .before .before .before .loop .inv .0) f (c .before .before .next-name .ensures .0) (c .if1 .taken) in
-    (t .0, (t .1 .0, t .1 .1, marks-end (c .before .before .before .loop .inv .1) f (c .before .before .next-name .ensures .0) (c .if1 .taken)))
+returns c = all-told (c .before .before .before .loop .inv) (c .before .before .next-name .result) (c .before .before .next-name .ensures .0) (c .if1 .taken)
 
-resolve-requires : tie.Need-resolve-requires Inv-loop μ-loop
-resolve-requires c κs = (within (c .before .before .before) (c .before .if1 .left) .name, c .before .before .before .before .before .before .before .before .before .pre .2, c .before .before .before .before .before .before .before .before .before .pre .3, c .before .before .before .before .loop .inv .1 .marked)
+is-kept-requires : tie.Need-is-kept-requires Inv-loop μ-loop
+is-kept-requires c κs = long c
+
+sub-heads : tie.Need-sub-heads Inv-loop μ-loop
+sub-heads c = headed (c .before .before .before) .behind
+
+cast-heads : tie.Need-cast-heads Inv-loop μ-loop
+cast-heads c = omega (arith, within (c .before .before .before), c .before .before .before .before .before .before .before .before .before .before .before .pre .0)
+
+mul-heads : tie.Need-mul-heads Inv-loop μ-loop
+mul-heads c = omega (arith, place (c .before .before) (c .before .if2 .taken))
+
+slice-write-heads : tie.Need-slice-write-heads Inv-loop μ-loop
+slice-write-heads c = omega (arith, place (c .before .before) (c .before .if2 .taken), c .before .before .before .before .before .before .loop .inv .sized)
+
+add-h : tie.Need-add-h Inv-loop μ-loop
+add-h c = omega (arith, place (c .before .before) (c .before .if2 .taken))
 
 cast-push : tie.Need-cast-push Inv-loop μ-loop
-cast-push c = omega (arith, c .before .before .before .before .before .before .before .before .before .next-name .ensures .1 .0 (not-false _ (c .before .before .before .before .before .before .before .if1 .left)), c .before .before .before .before .before .before .before .before .before .before .loop .inv .0 .short, c .before .before .before .before .before .before .before .before .before .before .before .before .before .before .before .pre .0)
+cast-push c = omega (arith, c .before .before .before .before .before .before .loop .inv .short, c .before .before .before .before .before .before .loop .inv .within, c .before .before .before .before .before .before .before .before .before .before .before .pre .0)
 
 push-requires : tie.Need-push-requires Inv-loop μ-loop
-push-requires c κs = c .before .before .before .before .before .before .before .before .before .before .loop .inv .0 .fits
+push-requires c κs = c .before .before .before .before .before .before .loop .inv .fits
 
 add-i : tie.Need-add-i Inv-loop μ-loop
-add-i c = omega (arith, c .before .before .before .before .before .before .before .before .next-name .ensures .1 .0 (not-false _ (c .before .before .before .before .before .before .if1 .left)), c .before .before .before .before .before .before .before .before .before .loop .inv .0 .short)
+add-i c = omega (arith, c .before .before .before .before .before .loop .inv .short, c .before .before .before .before .before .loop .inv .within, c .before .before .before .before .before .before .before .before .before .before .pre .0)
 
 loop-less : tie.Need-loop-less Inv-loop μ-loop
-loop-less c = omega (arith, c .before .before .before .before .before .before .before .before .next-name .ensures .1 .0 (not-false _ (c .before .before .before .before .before .before .if1 .left)))
+loop-less c = omega (arith, within (c .before .before))
 
 loop-again : tie.Need-loop-again Inv-loop μ-loop
 loop-again c =
-    let f = featureBy _ (c .before .before .before .before .before .before .before .before .next-name .result) in
-    let e = c .before .before .before .before .before .before .before .before .next-name .ensures .0 in
-    (one-told (c .before .before .before .before .before .before .before .before .before .loop .inv .0) f e (c .before .before .before .before .before .before .if1 .left) (c .before .before .before .before .before .before .before .before .next-name .ensures .1 .0 (not-false _ (c .before .before .before .before .before .before .if1 .left)) .more) (c .before .before .before .before .resolve .ensures .0 .0) (⊎-elim (λ w. inl (w .0 .taken, sheets (w .5) (w .6) ∙ w .2 .ensures)) (λ w. inr (w .0 .left, sheets (w .1) (w .2))) (c .if2 .came)), marks-on (c .before .before .before .before .before .before .before .before .before .loop .inv .1) f e (c .before .before .before .before .before .before .if1 .left) (c .before .before .before .before .resolve .ensures .1), search needs)
+    let e = c .before .before in
+    let d = c .before .before .before .before .before .loop .inv in
+    let r = c .before .before .before .before .next-name in
+    ⊎-elim
+    (λ w. one-control d (r .result) (r .ensures .0) (e .if1 .left) (within e) (long e) (c .before .is-kept .ensures) (c .before .before .before .before .before .before .before .before .before .before .pre .2) (headed e) (w .0 .taken) (sheets (w .3) (w .4)) (w .2) (w .5))
+    (λ w. one-warned d (r .result) (r .ensures .0) (e .if1 .left) (within e) (long e) (c .before .is-kept .ensures) (w .0 .left) (sheets (w .6) (w .7) ∙ w .2 .ensures) (w .5) (w .8))
+    (c .if2 .came)
 
 pub warn-features-spec : {M : Type 1} → statement M
 warn-features-spec =
@@ -76,7 +99,12 @@ warn-features-spec =
     same-length
     same-length-2
     returns
-    resolve-requires
+    is-kept-requires
+    sub-heads
+    cast-heads
+    mul-heads
+    slice-write-heads
+    add-h
     cast-push
     push-requires
     add-i

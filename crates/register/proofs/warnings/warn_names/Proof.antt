@@ -1,47 +1,53 @@
 use borrow.Author.Needs.{needs}
-use lib.Seq.{take-length}
-use Rattle.scene.specs.Laws.Rising.{variables-rising}
-use Rattle.register.proofs.Surveying.{only-features}
-use Rattle.register.proofs.Telling.{features-told, names-told}
+use mathlib.Core.Path.{refl}
+use Rattle.register.proofs.Counting.{only-features, none-warned}
+use Rattle.register.proofs.Pushing.{none-written}
+use Rattle.register.proofs.Telling.{kept-from, features-told, names-told}
 use Rattle.register.proofs.warnings.warn_names.Statement.{statement}
 use Rattle.register.proofs.warnings.warn_names.Tie as tie
 
+returns : tie.Need-returns
+returns c = none-written _ _ _ (none-warned (c .before .before .before .before .before .pre .3) (c .before .before .before .before .before .pre .4) (c .if1 .taken)) refl (c .before .before .before .before .before .pre .2)
+
+slice-aggregate-warn-features : tie.Need-slice-aggregate-warn-features
+slice-aggregate-warn-features c = search needs
+
 warn-features-requires : tie.Need-warn-features-requires
-warn-features-requires c κs = search needs
+warn-features-requires c κs =
+    let pre = c .before .before .before .before .before .before .before .pre in
+    (pre .0, pre .2, pre .5, pre .6, refl, kept-from _ _ (pre .4) (pre .7))
 
 same-length : tie.Need-same-length
 same-length c = search needs
 
+returns-2 : tie.Need-returns-2
+returns-2 c = (features-told _ _ (c .before .before .before .before .before .before .warn-features .ensures .0) (only-features (c .before .before .before .before .before .before .before .before .before .before .before .before .before .before .pre .3) (c .if2 .taken)), c .before .before .before .before .before .before .warn-features .ensures .1 .0)
+
+slice-aggregate-warn-lons : tie.Need-slice-aggregate-warn-lons
+slice-aggregate-warn-lons c = search needs
+
+warn-lons-requires : tie.Need-warn-lons-requires
+warn-lons-requires c κs =
+    let pre = c .before .before .before .before .before .before .before .before .before .before .before .before .before .before .before .before .pre in
+    let f = c .before .before .before .before .before .before .before .before .warn-features .ensures .1 in
+    (pre .0, pre .1, f .0, pre .3, pre .5, pre .6, f .1)
+
 same-length-2 : tie.Need-same-length-2
 same-length-2 c = search needs
 
-returns : tie.Need-returns
-returns c = (features-told _ _ (c .before .before .before .before .before .before .before .warn-features .ensures .0) (only-features (c .before .before .before .before .before .before .before .before .before .before .before .before .before .before .pre .3) (c .if1 .taken) 0), c .before .before .before .before .before .before .before .warn-features .ensures .1 .0)
-
-warn-variables-requires : tie.Need-warn-variables-requires
-warn-variables-requires c κs =
-    let f = c .before .before .before .before .before .before .before .before .before .warn-features .ensures .1 in
-    let pre = c .before .before .before .before .before .before .before .before .before .before .before .before .before .before .before .before .pre in
-    (pre .0, f .0, f .1, variables-rising _ (pre .1), pre .3 .labels, pre .3 .vars, pre .4, rw (f .1, take-length) (f .2))
-
-same-length-3 : tie.Need-same-length-3
-same-length-3 c = search needs
-
-same-length-4 : tie.Need-same-length-4
-same-length-4 c = search needs
-
-returns-2 : tie.Need-returns-2
-returns-2 c = (names-told _ _ (c .before .before .before .before .before .before .before .before .before .before .before .before .before .before .warn-features .ensures .0) (c .before .before .before .before .warn-variables .ensures .0), c .before .before .before .before .warn-variables .ensures .1)
+returns-3 : tie.Need-returns-3
+returns-3 c = (names-told _ _ (c .before .before .before .before .before .before .before .before .before .before .before .warn-features .ensures .0) (c .before .before .warn-lons .ensures .0), c .before .before .warn-lons .ensures .1)
 
 pub warn-names-spec : {M : Type 1} → statement M
 warn-names-spec =
     tie.close
     (tie.spec
+    returns
+    slice-aggregate-warn-features
     warn-features-requires
     same-length
+    returns-2
+    slice-aggregate-warn-lons
+    warn-lons-requires
     same-length-2
-    returns
-    warn-variables-requires
-    same-length-3
-    same-length-4
-    returns-2)
+    returns-3)

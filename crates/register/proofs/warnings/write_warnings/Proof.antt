@@ -6,8 +6,8 @@ use Rattle.register.proofs.warnings.write_warnings.Tie as tie
 warn-view-requires : tie.Need-warn-view-requires
 warn-view-requires c κs = search needs
 
-warn-controls-requires : tie.Need-warn-controls-requires
-warn-controls-requires c κs = search needs
+warn-names-requires : tie.Need-warn-names-requires
+warn-names-requires c κs = search needs
 
 warn-half-requires : tie.Need-warn-half-requires
 warn-half-requires c κs = search needs
@@ -19,14 +19,16 @@ same-length : tie.Need-same-length
 same-length c = search needs
 
 returns : tie.Need-returns
-returns c = all-warned _ _ (c .before .before .before .before .before .before .before .before .before .before .before .before .before .before .before .before .before .before .pre .3) (c .before .before .before .before .before .before .before .before .before .before .before .before .before .before .warn-view .ensures .0) (c .before .before .before .before .before .before .before .before .before .before .warn-controls .ensures .0) (c .before .before .before .before .before .before .warn-half .ensures .0) (c .before .before .warn-ignored .ensures .0)
+returns c =
+    let d = c .before .before .before .before .before .before .before .before .before .before .before .before .before .before .before .before .before .before .before .before .pre .2 .declares in
+    all-warned _ _ (c .before .before .before .before .before .before .before .before .before .before .before .before .before .before .before .before .before .before .before .before .pre .3) (c .before .before .before .before .before .before .before .before .before .before .before .before .before .before .warn-view .ensures .0 _ d) (c .before .before .before .before .before .before .before .before .before .before .warn-names .ensures .0) (c .before .before .before .before .before .before .warn-half .ensures .0 _ d) (c .before .before .warn-ignored .ensures .0 _ d)
 
 pub write-warnings-spec : {M : Type 1} → statement M
 write-warnings-spec =
     tie.close
     (tie.spec
     warn-view-requires
-    warn-controls-requires
+    warn-names-requires
     warn-half-requires
     warn-ignored-requires
     same-length

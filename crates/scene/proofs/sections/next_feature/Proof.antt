@@ -16,7 +16,7 @@ next-name-requires : tie.Need-next-name-requires
 next-name-requires c κs = search needs
 
 returns : tie.Need-returns
-returns c = (feature-none _ (c .before .before .before .before .args .p) (c .before .before .next-name .result) (c .before .before .next-name .ensures .0) (c .if1 .taken), nothing)
+returns c = (feature-none _ (c .before .before .before .before .args .p) (c .before .before .next-name .result) (c .before .before .next-name .ensures .0) (c .if1 .taken), (nothing, nothing))
 
 add-end : tie.Need-add-end
 add-end c = omega (arith, within (c .before))
@@ -34,7 +34,7 @@ returns-2 : tie.Need-returns-2
 returns-2 c =
     let e = c .before .before .before in
     let w = within e in
-    (feature-read _ (e .before .before .before .before .args .p) (e .before .before .next-name .result) (e .before .before .next-name .ensures .0) (e .if1 .left) (c .before .number .ensures) (c .number2 .ensures), λ _. record { name = omega (arith, w); more = w .more; fits = w .fits })
+    (feature-read _ (e .before .before .before .before .args .p) (e .before .before .next-name .result) (e .before .before .next-name .ensures .0) (e .if1 .left) (c .before .number .ensures) (c .number2 .ensures), (λ _. record { name = omega (arith, w); more = w .more; fits = w .fits }, λ _. e .before .before .next-name .ensures .1 .1 .1 (not-false _ (e .if1 .left))))
 
 pub next-feature-spec : {M : Type 1} → statement M
 next-feature-spec = tie.close (tie.spec next-name-requires returns add-end number-requires add-number number-requires-2 returns-2)

@@ -6,7 +6,7 @@ use Rattle.stream.specs.Contracts.Payload.{room, rest}
 use Rattle.stream.specs.Laws.Payload.{rest-length}
 use Rattle.records.specs.Laws.Search.{standing-tells}
 use Rattle.scene.specs.Scene.{featureAt}
-use Rattle.scene.proofs.Found.{nothing, answer, One, one-found, beyond, none-listed, name-begins, named}
+use Rattle.scene.proofs.Found.{nothing, answer, One, one-found, beyond, none-listed, name-begins, named, headed}
 use Rattle.scene.proofs.Reading.{feature-found}
 use Rattle.scene.proofs.sections.next_name.Statement.{statement}
 use Rattle.scene.proofs.sections.next_name.Tie as tie
@@ -23,7 +23,7 @@ seek-requires c κs = search needs
 returns : tie.Need-returns
 returns c =
     let p = c .before .before .before .before .args .p in
-    (none-listed _ p _ _ _ (answer _ p _ _ _ (c .before .before .seek .ensures)) featureAt (c .if1 .taken), (nothing, c .before .before .seek .ensures .1 .1 .1))
+    (none-listed _ p _ _ _ (answer _ p _ _ _ (c .before .before .seek .ensures)) featureAt (c .if1 .taken), (nothing, (c .before .before .seek .ensures .1 .1 .1, nothing)))
 
 add-t6 : tie.Need-add-t6
 add-t6 c = omega (arith, begins c)
@@ -42,8 +42,9 @@ unfolding rest
 returns-2 c =
     let w = c .before .before in
     let o = one w in
-    let f = feature-found (named o (standing-tells (o .stands)) (c .wide .ensures .0 ∙ c .before .byte .ensures)) in
-    (f .0, (f .1, beyond o (w .before .before .seek .ensures .1 .1 .1)))
+    let d = named o (standing-tells (o .stands)) (c .wide .ensures .0 ∙ c .before .byte .ensures) in
+    let f = feature-found d in
+    (f .0, (f .1, (beyond o (w .before .before .seek .ensures .1 .1 .1), λ h. headed d (omega arith))))
 
 pub next-name-spec : {M : Type 1} → statement M
 next-name-spec = tie.close (tie.spec seek-requires returns add-t6 add-byte byte-requires wide-requires returns-2)

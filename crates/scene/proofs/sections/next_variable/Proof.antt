@@ -6,7 +6,7 @@ use Rattle.stream.specs.Contracts.Payload.{room, rest}
 use Rattle.stream.specs.Laws.Payload.{rest-length}
 use Rattle.records.specs.Laws.Search.{standing-tells}
 use Rattle.scene.specs.Scene.{variableAt}
-use Rattle.scene.proofs.Found.{nothing, answer, One, one-found, beyond, none-listed, name-begins, Named, named}
+use Rattle.scene.proofs.Found.{nothing, answer, One, one-found, beyond, none-listed, name-begins, Named, named, headed}
 use Rattle.scene.proofs.Reading.{variable-found}
 use Rattle.scene.proofs.sections.next_variable.Statement.{statement}
 use Rattle.scene.proofs.sections.next_variable.Tie as tie
@@ -53,7 +53,7 @@ number-requires c κs = omega (arith, ends c)
 returns-2 : tie.Need-returns-2
 returns-2 c = let f = variable-found (ends (c .before)) (c .number .ensures) in
     let w = c .before .before .before in
-    (f .0, (f .1, (λ h. ends (c .before) .short, beyond (one w) (w .before .before .seek .ensures .1 .1 .1))))
+    (f .0, (f .1, (λ h. headed (ends (c .before)) (omega arith), beyond (one w) (w .before .before .seek .ensures .1 .1 .1))))
 
 pub next-variable-spec : {M : Type 1} → statement M
 next-variable-spec =

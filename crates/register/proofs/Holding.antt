@@ -1,0 +1,176 @@
+-- One control point more: what a tally and its slices hold.
+use mathlib.Core.Path.{_≡_, refl, sym, ap, _∙_}
+use mathlib.Core.Logic.{_⊎_, inl, inr}
+use mathlib.Core.Bool.{Bool, true, false, _&&_, and-true, and-assoc, false≢true}
+use mathlib.Core.List.{List, [], _∷_, _++_}
+use Prim.Native.Nat.{ℕ, zero, suc, _+_, _*_, _≤_, _<_}
+use native.Mathlib.Numerals.{add-one}
+use native.Mathlib.Omega.{arith}
+use lib.Dec.{ltb}
+use lib.ListN.{length, getD, set, length-append, length-set}
+use lib.Seq.{getD-set-same, getD-set-other, take-suc-set}
+use lib.Ieee.{Float, nan}
+use borrow.Author.Tests.{lt-ltb, le-ltb, ltb-true, ltb-false}
+use Rattle.similarity.specs.declared.fit.Control.{Control}
+use Rattle.register.specs.declared.controls.Tally.{Tally}
+use Rattle.register.specs.Register.{placed, allPlaced}
+use Rattle.register.specs.Contracts.Gathered.{upTo65, controlsBy, Holds}
+
+pub both : (a b : Bool) {r : Bool} → ((a ≡ true) × (r ≡ b)) ⊎ ((a ≡ false) × (r ≡ false)) → r ≡ (a && b)
+both true b (inl h) = h .1
+both true b (inr h) = cc
+both false b (inl h) = cc
+both false b (inr h) = h .1
+
+-- ---- one more in a list
+placed-append : (cs : List Control) (c : Control) → allPlaced (cs ++ c ∷ []) ≡ (allPlaced cs && placed (c .lon) (c .lat))
+unfolding allPlaced
+placed-append [] c = and-true (placed (c .lon) (c .lat))
+placed-append (d ∷ cs) c = rw (placed-append cs c) (sym (and-assoc (placed (d .lon) (d .lat)) (allPlaced cs) (placed (c .lon) (c .lat))))
+
+length-one : {A : Type 0} (xs : List A) (x : A) → length (xs ++ x ∷ []) ≡ length xs + 1
+length-one xs x = length-append xs (x ∷ [])
+
+-- counted up to 65
+few : (n : ℕ) → n ≤ 64 → upTo65 n ≡ n
+few n h = rw (le-ltb 64 n h) refl
+
+many : (n : ℕ) → 64 < n → upTo65 n ≡ 65
+many n h = rw (lt-ltb 64 n h) refl
+
+counts : (n : ℕ) → ((n ≤ 64) × (upTo65 n ≡ n)) ⊎ ((64 < n) × (upTo65 n ≡ 65))
+counts n = by (ltb 64 n) refl
+  where
+    by : (b : Bool) → ltb 64 n ≡ b → ((n ≤ 64) × (upTo65 n ≡ n)) ⊎ ((64 < n) × (upTo65 n ≡ 65))
+    by true e = inr (ltb-true 64 n e, many n (ltb-true 64 n e))
+    by false e = inl (ltb-false 64 n e, few n (ltb-false 64 n e))
+
+-- ---- slices that agree
+controls-by : (flat flat′ : List Float) (n : ℕ) → ((i : ℕ) → i < 4 * n → getD flat′ i nan ≡ getD flat i nan) → controlsBy flat′ n ≡ controlsBy flat n
+unfolding controlsBy
+controls-by flat flat′ zero e = refl
+controls-by flat flat′ (suc n) e =
+    let a : getD flat′ (4 * n) nan ≡ getD flat (4 * n) nan = e (4 * n) (omega arith) in
+    let b : getD flat′ (4 * n + 1) nan ≡ getD flat (4 * n + 1) nan = e (4 * n + 1) (omega arith) in
+    let c : getD flat′ (4 * n + 2) nan ≡ getD flat (4 * n + 2) nan = e (4 * n + 2) (omega arith) in
+    let d : getD flat′ (4 * n + 3) nan ≡ getD flat (4 * n + 3) nan = e (4 * n + 3) (omega arith) in
+    rw (controls-by flat flat′ n (λ i h. e i (omega arith)), a, b, c, d) refl
+
+-- four stores
+module _ (flat : List Float) (n : ℕ) (c : Control) where
+  abbrev one-stored : List Float
+  one-stored = set flat (4 * n) (c .x)
+
+  abbrev two-stored : List Float
+  two-stored = set one-stored (4 * n + 1) (c .y)
+
+  abbrev three-stored : List Float
+  three-stored = set two-stored (4 * n + 2) (c .lon)
+
+  abbrev pub stored : List Float
+  stored = set three-stored (4 * n + 3) (c .lat)
+
+  stored-length : length stored ≡ length flat
+  stored-length = simp length-set
+
+  module _ (h : 4 * n + 3 < length flat) where
+    stored-below : (i : ℕ) → i < 4 * n → getD stored i nan ≡ getD flat i nan
+    stored-below i k =
+        getD-set-other three-stored (4 * n + 3) i (c .lat) nan (λ e. omega arith)
+        ∙ getD-set-other two-stored (4 * n + 2) i (c .lon) nan (λ e. omega arith)
+        ∙ getD-set-other one-stored (4 * n + 1) i (c .y) nan (λ e. omega arith)
+        ∙ getD-set-other flat (4 * n) i (c .x) nan (λ e. omega arith)
+
+    stored-x : getD stored (4 * n) nan ≡ c .x
+    stored-x =
+        getD-set-other three-stored (4 * n + 3) (4 * n) (c .lat) nan (λ e. omega arith)
+        ∙ getD-set-other two-stored (4 * n + 2) (4 * n) (c .lon) nan (λ e. omega arith)
+        ∙ getD-set-other one-stored (4 * n + 1) (4 * n) (c .y) nan (λ e. omega arith)
+        ∙ getD-set-same flat (4 * n) (c .x) nan (omega arith)
+
+    stored-y : getD stored (4 * n + 1) nan ≡ c .y
+    stored-y =
+        getD-set-other three-stored (4 * n + 3) (4 * n + 1) (c .lat) nan (λ e. omega arith)
+        ∙ getD-set-other two-stored (4 * n + 2) (4 * n + 1) (c .lon) nan (λ e. omega arith)
+        ∙ getD-set-same one-stored (4 * n + 1) (c .y) nan (simp length-set (omega arith))
+
+    stored-lon : getD stored (4 * n + 2) nan ≡ c .lon
+    stored-lon =
+        getD-set-other three-stored (4 * n + 3) (4 * n + 2) (c .lat) nan (λ e. omega arith)
+        ∙ getD-set-same two-stored (4 * n + 2) (c .lon) nan (simp length-set (omega arith))
+
+    stored-lat : getD stored (4 * n + 3) nan ≡ c .lat
+    stored-lat = getD-set-same three-stored (4 * n + 3) (c .lat) nan (simp length-set (omega arith))
+
+    pub stored-controls : controlsBy stored (suc n) ≡ controlsBy flat n ++ c ∷ []
+    unfolding controlsBy
+    stored-controls = rw (controls-by flat stored n stored-below, stored-x, stored-y, stored-lon, stored-lat) refl
+
+-- ---- one more is put
+module _ {b : Bool} {cs : List Control} {js : List ℕ} {g : Tally} {flat : List Float} {kept : List ℕ} (h : Holds b cs js g flat kept) (c : Control) (j : ℕ)
+    {ok : Bool} (e : ok ≡ (g .placed && placed (c .lon) (c .lat))) where
+  placed-now : ok ≡ allPlaced (cs ++ c ∷ [])
+  placed-now = e ∙ rw (h .placed) (sym (placed-append cs c))
+
+  one-more : (length (cs ++ c ∷ []) ≡ length cs + 1) × (length (js ++ j ∷ []) ≡ length (cs ++ c ∷ []))
+  one-more =
+      let p : length (cs ++ c ∷ []) ≡ length cs + 1 = length-one cs c in
+      let q : length (js ++ j ∷ []) ≡ length js + 1 = length-one js j in
+      let s = h .as-many in
+      (p, omega arith)
+
+  pub put-full : 64 ≤ g .n → Holds b (cs ++ c ∷ []) (js ++ j ∷ []) (record { n = 65; placed = ok }) flat kept
+  put-full k =
+      record {
+        count = sym (many (length (cs ++ c ∷ [])) too-many);
+        placed = placed-now;
+        controls = λ t d. absurd (omega (arith, too-many));
+        numbers = λ t d. absurd (omega (arith, too-many));
+        as-many = one-more .1;
+        room-for = h .room-for;
+        kept-room = h .kept-room;
+      }
+    where
+      too-many : 64 < length (cs ++ c ∷ [])
+      too-many = by (counts (length cs))
+        where
+          by : ((length cs ≤ 64) × (upTo65 (length cs) ≡ length cs)) ⊎ ((64 < length cs) × (upTo65 (length cs) ≡ 65)) → 64 < length (cs ++ c ∷ [])
+          by (inl p) = omega (arith, h .count ∙ p .1, one-more .0)
+          by (inr p) = omega (arith, one-more .0)
+
+  pub put-more : g .n < 64 → Holds b (cs ++ c ∷ []) (js ++ j ∷ []) (record { n = g .n + 1; placed = ok }) (stored flat (g .n) c) (set kept (g .n) j)
+  put-more k =
+      record {
+        count = rw next (sym (few (g .n + 1) (omega arith)));
+        placed = placed-now;
+        controls = λ t d. rw (next, add-one (g .n)) (stored-controls flat (g .n) c (omega (arith, h .room-for)) ∙ rw (is, h .controls t (omega (arith, is))) refl);
+        numbers = λ t d. rw (next, add-one (g .n)) (take-suc-set kept (g .n) j (omega (arith, h .kept-room)) ∙ rw (is, h .numbers t (omega (arith, is))) refl);
+        as-many = one-more .1;
+        room-for = stored-length flat (g .n) c ∙ h .room-for;
+        kept-room = length-set kept (g .n) j ∙ h .kept-room;
+      }
+    where
+      is : g .n ≡ length cs
+      is = by (counts (length cs))
+        where
+          by : ((length cs ≤ 64) × (upTo65 (length cs) ≡ length cs)) ⊎ ((64 < length cs) × (upTo65 (length cs) ≡ 65)) → g .n ≡ length cs
+          by (inl p) = h .count ∙ p .1
+          by (inr p) = absurd (omega (arith, h .count ∙ p .1))
+
+      next : length (cs ++ c ∷ []) ≡ g .n + 1
+      next = rw is (one-more .0)
+
+-- where the points are not known, only longitude and latitude matter
+pub holds-as : {b : Bool} (cs : List Control) {js : List ℕ} {g : Tally} {flat : List Float} {kept : List ℕ} (c d : Control) → b ≡ false → c .lon ≡ d .lon → c .lat ≡ d .lat
+    → Holds b (cs ++ c ∷ []) js g flat kept → Holds b (cs ++ d ∷ []) js g flat kept
+holds-as cs c d f a o h =
+    let e : length (cs ++ c ∷ []) ≡ length (cs ++ d ∷ []) = length-one cs c ∙ sym (length-one cs d) in
+    record {
+      count = h .count ∙ ap upTo65 e;
+      placed = h .placed ∙ placed-append cs c ∙ rw (a, o) (sym (placed-append cs d));
+      controls = λ t k. absurd (false≢true (sym f ∙ t));
+      numbers = λ t k. absurd (false≢true (sym f ∙ t));
+      as-many = h .as-many ∙ e;
+      room-for = h .room-for;
+      kept-room = h .kept-room;
+    }

@@ -1,0 +1,84 @@
+use borrow.Author.Tests.{not-false}
+use mathlib.Core.Path.{refl, sym, _∙_}
+use mathlib.Core.Logic.{⊎-elim}
+use Prim.Native.Nat.{_-_}
+use native.Mathlib.Omega.{arith}
+use Rattle.stream.specs.Contracts.Payload.{room}
+use Rattle.scene.specs.Laws.Rising.{variables-rising}
+use Rattle.register.proofs.Pushing.{sheet, sheets}
+use Rattle.register.proofs.Telling.{Telling, telling, all-variables, lon-fits, lon-control, lon-warned}
+use Rattle.register.proofs.warnings.warn_lons.Statement.{statement}
+use Rattle.register.proofs.warnings.warn_lons.Tie as tie
+
+abbrev Inv-loop : tie.InvT-loop
+Inv-loop s kept n heads h features out₀ warned₀ runs₀ c₀ k₀ j₀ out warned runs c k j = Telling s kept n (sheet out₀ warned₀) (sheet out warned) runs c k features j
+
+abbrev μ-loop : tie.MeasureT-loop
+μ-loop s kept n heads h features out₀ warned₀ runs₀ c₀ k₀ j₀ out warned runs c k j = room s - c .q
+
+loop-holds : tie.Need-loop-holds Inv-loop μ-loop
+loop-holds c = telling _ _ _ _ (c .before .before .before .before .pre .2) (c .before .before .before .before .pre .3 .vars) (variables-rising _ (c .before .before .before .before .pre .1)) (c .before .before .before .before .pre .6 .left)
+
+slice-aggregate-next-mention : tie.Need-slice-aggregate-next-mention Inv-loop μ-loop
+slice-aggregate-next-mention c = sym (c .before .loop .inv .follows .along refl .passed .sized)
+
+next-mention-requires : tie.Need-next-mention-requires Inv-loop μ-loop
+next-mention-requires c κs = c .before .loop .inv .follows
+
+same-length : tie.Need-same-length Inv-loop μ-loop
+same-length c = c .before .before .before .before .before .loop .inv .as-long
+
+returns : tie.Need-returns Inv-loop μ-loop
+returns c = all-variables (c .before .before .before .before .before .loop .inv) (c .before .before .before .next-mention .result) (c .before .before .before .next-mention .ensures) (c .if1 .taken)
+
+is-kept-requires : tie.Need-is-kept-requires Inv-loop μ-loop
+is-kept-requires c κs = omega (arith, c .before .before .before .before .before .before .before .before .before .before .before .pre .4, c .before .before .before .before .before .before .before .before .before .before .before .pre .5)
+
+add-k : tie.Need-add-k Inv-loop μ-loop
+add-k c = omega (arith, lon-fits (c .before .before .before .before .before .before .before .before .loop .inv) (c .before .before .before .before .before .before .next-mention .result) (c .before .before .before .before .before .before .next-mention .ensures) (c .before .before .before .if1 .left) (omega (arith, c .before .before .before .before .before .before .before .before .before .before .before .before .before .pre .4, c .before .before .before .before .before .before .before .before .before .before .before .before .before .pre .5)) (c .before .is-kept .ensures) (c .if2 .taken), c .before .before .before .before .before .before .before .before .before .before .before .before .before .pre .4)
+
+kind-of-requires : tie.Need-kind-of-requires Inv-loop μ-loop
+kind-of-requires c κs = (c .before .before .before .before .before .before .before .before .before .before .before .before .before .before .pre .6 .heading .stands, omega (arith, c .before .before .before .before .before .before .before .next-mention .ensures .heads (not-false _ (c .before .before .before .before .if1 .left))))
+
+cast-push : tie.Need-cast-push Inv-loop μ-loop
+cast-push c = omega (arith, c .before .before .before .before .before .before .before .before .before .next-mention .ensures .index (not-false _ (c .before .before .before .before .before .before .if1 .left)), c .before .before .before .before .before .before .before .before .before .next-mention .ensures .fits (not-false _ (c .before .before .before .before .before .before .if1 .left)), c .before .before .before .before .before .before .before .before .before .next-mention .ensures .follows .short, c .before .before .before .before .before .before .before .before .before .before .before .before .before .before .before .before .pre .0)
+
+push-requires : tie.Need-push-requires Inv-loop μ-loop
+push-requires c κs = c .before .before .before .before .before .before .before .before .before .before .before .loop .inv .fits
+
+add-j : tie.Need-add-j Inv-loop μ-loop
+add-j c = omega (arith, c .before .before .before .before .before .before .before .before .loop .inv .short, c .before .before .before .before .before .before .next-mention .ensures .more (not-false _ (c .before .before .before .if1 .left)), c .before .before .before .before .before .before .next-mention .ensures .fits (not-false _ (c .before .before .before .if1 .left)), c .before .before .before .before .before .before .before .before .before .before .before .before .before .pre .6 .short, c .before .before .before .before .before .before .before .before .before .before .before .before .before .pre .0)
+
+loop-less : tie.Need-loop-less Inv-loop μ-loop
+loop-less c = omega (arith, c .before .before .before .before .before .before .next-mention .ensures .more (not-false _ (c .before .before .before .if1 .left)), c .before .before .before .before .before .before .next-mention .ensures .fits (not-false _ (c .before .before .before .if1 .left)))
+
+loop-again : tie.Need-loop-again Inv-loop μ-loop
+loop-again c =
+    let d = c .before .before .before .before .before .before .before .before .loop .inv in
+    let m = c .before .before .before .before .before .before .next-mention in
+    let o = c .before .before .before .if1 .left in
+    let k = c .before .is-kept .ensures in
+    ⊎-elim
+    (λ w. lon-control d (m .result) (m .ensures) o (omega (arith, c .before .before .before .before .before .before .before .before .before .before .before .before .before .pre .4, c .before .before .before .before .before .before .before .before .before .before .before .before .before .pre .5)) k (w .0 .taken) (sheets (w .1) (w .2)) (w .3))
+    (λ w. lon-warned d (m .result) (m .ensures) o (omega (arith, c .before .before .before .before .before .before .before .before .before .before .before .before .before .pre .4, c .before .before .before .before .before .before .before .before .before .before .before .before .before .pre .5)) k (c .before .before .before .before .before .before .before .before .before .before .before .before .before .pre .6 .heading) (w .0 .left) (w .2 .ensures) (sheets (w .7) (w .8) ∙ w .4 .ensures) (w .9))
+    (c .if2 .came)
+
+pub warn-lons-spec : {M : Type 1} → statement M
+warn-lons-spec =
+    tie.close
+    (tie.spec
+    Inv-loop
+    μ-loop
+    loop-holds
+    slice-aggregate-next-mention
+    next-mention-requires
+    same-length
+    returns
+    is-kept-requires
+    add-k
+    kind-of-requires
+    cast-push
+    push-requires
+    add-j
+    loop-less
+    loop-again)

@@ -1,0 +1,155 @@
+// Names one after another: those of host features, and those of `<L>_lon` variables with the value of `<L>_lat`.
+ghost use mathlib.Core.Path.{_≡_};
+ghost use mathlib.Core.Bool.{true, false};
+ghost use mathlib.Core.List.{List};
+ghost use Prim.Native.Nat.{ℕ, _+_, _≤_};
+ghost use Rattle.stream.specs.Payload.{payload};
+ghost use Rattle.stream.specs.Contracts.Payload.{room};
+ghost use Rattle.records.specs.Records.{part};
+ghost use Rattle.register.specs.Register.{isLon};
+ghost use Rattle.register.specs.Contracts.Mentions.{Follows, Asked};
+use crate::runs::common;
+use crate::runs::lat_of;
+use crate::runs::set_runs;
+use scene::Value;
+use scene::is_named;
+use scene::next_feature;
+use scene::next_variable;
+
+// Where the next name is looked for, how many host features or variables come before it, and the name of the last variable.
+pub struct Cursor {
+    pub q: usize,
+    pub i: usize,
+    pub at: usize,
+    pub len: usize,
+}
+
+// Where `some` is false the other fields are free, except `next`.
+pub struct Mention {
+    pub some: bool,
+    pub at: usize,
+    pub len: usize,
+    pub lon: f64,
+    pub lat: Value,
+    pub index: usize,
+    pub next: Cursor,
+}
+
+fn no_mention(c: Cursor) -> Mention
+    ensures { λ r. ⌜ (r .some ≡ false) × (r .next ≡ c) ⌝ }
+{
+    let none = Value {
+        some: false,
+        value: 0.0,
+    };
+    Mention {
+        some: false,
+        at: 0,
+        len: 0,
+        lon: 0.0,
+        lat: none,
+        index: 0,
+        next: c,
+    }
+}
+
+fn next_featured(s: &[u8], c: Cursor) -> Mention
+    requires { ⌜ c .i ≤ c .q ⌝ }
+    ensures { λ r. ⌜ ((runs : List ℕ) → Asked (now (s .entry)) false c r runs) ⌝ }
+{
+    let f = next_feature(s, c.q);
+    if !f.some {
+        return no_mention(c);
+    }
+    let lat = Value {
+        some: true,
+        value: f.lat,
+    };
+    let next = Cursor {
+        q: f.next,
+        i: c.i + 1,
+        at: 0,
+        len: 0,
+    };
+    Mention {
+        some: true,
+        at: f.at,
+        len: f.len,
+        lon: f.lon,
+        lat: lat,
+        index: c.i,
+        next: next,
+    }
+}
+
+// Whether the name of n bytes at `at` is `<L>_lon`, L other than geo.
+pub fn is_lon(s: &[u8], at: usize, n: usize) -> bool
+    requires { ⌜ at + n ≤ room (now s) ⌝ }
+    ensures { λ r. ⌜ r ≡ isLon (part (payload (now (s .entry))) at n) ⌝ }
+{
+    if n < 4 {
+        return false;
+    }
+    if !is_named(s, at + n - 4, 4, b"_lon") {
+        return false;
+    }
+    !is_named(s, at, n - 4, b"geo")
+}
+
+fn next_lon(s: &[u8], c: Cursor, runs: &mut [usize]) -> Mention
+    requires { ⌜ Follows (now s) true c (now runs) ⌝ }
+    ensures { λ r. ⌜ Asked (now (s .entry)) true c r (now (runs .exit)) ⌝ }
+{
+    let mut at = c.at;
+    let mut len = c.len;
+    let mut q = c.q;
+    let mut i = c.i;
+    loop {
+        let v = next_variable(s, q);
+        if !v.some {
+            let end = Cursor {
+                q: q,
+                i: i,
+                at: at,
+                len: len,
+            };
+            return no_mention(end);
+        }
+        let alike = common(s, at, len, v.at, v.len);
+        set_runs(runs, alike, q);
+        at = v.at;
+        len = v.len;
+        q = v.next;
+        if is_lon(s, at, len) {
+            let from = runs[len - 2];
+            let lat = lat_of(s, from, at, len - 4);
+            let next = Cursor {
+                q: q,
+                i: i + 1,
+                at: at,
+                len: len,
+            };
+            return Mention {
+                some: true,
+                at: at,
+                len: len - 4,
+                lon: v.value,
+                lat: lat,
+                index: i,
+                next: next,
+            };
+        }
+        i += 1;
+    }
+}
+
+// The first name from c on: of a `_lon` variable, or of a host feature.
+pub fn next_mention(s: &[u8], lons: bool, c: Cursor, runs: &mut [usize]) -> Mention
+    requires { ⌜ Follows (now s) lons c (now runs) ⌝ }
+    ensures { λ r. ⌜ Asked (now (s .entry)) lons c r (now (runs .exit)) ⌝ }
+{
+    if lons {
+        return next_lon(s, c, runs);
+    }
+    next_featured(s, c)
+}
