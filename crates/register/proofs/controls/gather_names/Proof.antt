@@ -1,4 +1,8 @@
 use borrow.Author.Needs.{needs}
+use mathlib.Core.List.{[]}
+use Rattle.stream.specs.Payload.{payload}
+use Rattle.scene.specs.Scene.{sceneOf}
+use Rattle.register.proofs.Gathering.{both-parts, features-alone, features-first, none-before-all, none-held, no-lons}
 use Rattle.register.proofs.controls.gather_names.Statement.{statement}
 use Rattle.register.proofs.controls.gather_names.Tie as tie
 use Rattle.register.proofs.controls.gather_names.Reads as reads
@@ -23,7 +27,11 @@ same-length-3 c = search needs
 
 -- src/controls.rt:352:9
 returns : tie.Need-returns
-returns c = ?
+returns c = 
+    let pre = c .before .before .before .before .before .before .before .before .before .before .before .before .before .before .before .before .pre in
+    let sc = sceneOf (payload (c .before .before .before .before .before .before .before .before .before .before .before .before .before .before .before .before .args .s .now)) in
+    let h = c .before .before .before .before .before .before .before .before .gather-part .ensures [] [] (none-held (pre .4) (pre .5)) (none-before-all sc) in
+    features-alone sc (no-lons _ (pre .2) (c .if1 .taken)) h
 
 -- src/controls.rt:354:5
 gather-part-requires-2 : tie.Need-gather-part-requires-2
@@ -43,7 +51,11 @@ same-length-6 c = search needs
 
 -- src/controls.rt:341:1
 returns-2 : tie.Need-returns-2
-returns-2 c = ?
+returns-2 c = 
+    let pre = c .before .before .before .before .before .before .before .before .before .before .before .before .before .before .before .before .before .before .before .before .before .before .before .before .before .before .pre in
+    let sc = sceneOf (payload (c .before .before .before .before .before .before .before .before .before .before .before .before .before .before .before .before .before .before .before .before .before .before .before .before .before .before .args .s .now)) in
+    let h = c .before .before .before .before .before .before .before .before .before .before .before .before .before .before .before .before .before .before .gather-part .ensures [] [] (none-held (pre .4) (pre .5)) (none-before-all sc) in
+    both-parts sc (c .before .before .before .before .before .before .gather-part2 .ensures _ _ h (features-first sc))
 
 pub gather-names-spec : {M : Type 1} → statement M
 gather-names-spec =
@@ -59,3 +71,4 @@ gather-names-spec =
     same-length-5
     same-length-6
     returns-2)
+
