@@ -16,7 +16,7 @@ use convert::State;
 use convert::convert;
 use register::Survey;
 use register::register;
-use register::survey_variables;
+use register::survey_stream;
 use register::write_warnings;
 use similarity::Registration;
 use similarity::projection_of;
@@ -86,16 +86,18 @@ fn clear_words(out: &mut [u32]) -> usize
     n
 }
 
-// The step with which each call of the host begins: every condition that is checked before the lent slices.
-fn open_stream(s: &[u8]) -> Opened
-    ensures { λ o. ⌜ Opens (now (s .entry)) o ⌝ }
+// The step with which each call of the host begins: every condition that is checked before the lent slices. `kept` gets
+// the numbers of the names that are control points.
+fn open_stream(s: &[u8], kept: &mut [u32]) -> Opened
+    requires { ⌜ length (now kept) ≡ 64 ⌝ }
+    ensures { λ o. ⌜ Opens (now (s .entry)) (now (kept .exit)) o ⌝ }
 {
     let number = records::refusal(s);
     if number != 0 {
         return Opened::Refused(number);
     }
-    let survey = survey_variables(s);
-    let o = register(s, survey);
+    let survey = survey_stream(s);
+    let o = register(s, survey, kept);
     if o.number != 0 {
         return Opened::Refused(o.number);
     }
@@ -108,18 +110,19 @@ fn draw(
     s: &[u8],
     v: Survey,
     r: Registration,
+    kept: &[u32],
     work: &mut [f64],
     positions: &mut [f64],
     features: &mut [u32],
     warnings: &mut [u32],
 ) -> State
-    requires { ⌜ Registers (now s) v r ⌝ }
+    requires { ⌜ Registers (now s) v r (now kept) ⌝ }
     ensures { λ st. ⌜ Played (traceOf (sceneOf (payload (now (s .entry)))))
         (blank (lentBy (now (work .entry)) (now (positions .entry)) (now (features .entry)) (now (warnings .entry))))
         (sheetBy (length (now (work .exit))) (now (positions .exit)) (now (features .exit)) (now (warnings .exit)) st)
         (st .budget) ⌝ }
 {
-    let w = write_warnings(s, v, warnings, r.controls);
+    let w = write_warnings(s, v, kept, warnings, r.controls);
     let fresh = Budget {
         left: MAX_VERTICES,
         hit: false,
@@ -168,12 +171,13 @@ fn fill(
     s: &[u8],
     v: Survey,
     r: Registration,
+    kept: &[u32],
     work: &mut [f64],
     positions: &mut [f64],
     features: &mut [u32],
     warnings: &mut [u32],
 ) -> Answer
-    requires { ⌜ Registers (now s) v r ⌝ }
+    requires { ⌜ Registers (now s) v r (now kept) ⌝ }
     ensures { λ a. ⌜ a
         ≡ answerOf (now (s .entry))
         (lentBy (now (work .entry)) (now (positions .entry)) (now (features .entry)) (now (warnings .entry))) ⌝ }
@@ -181,7 +185,7 @@ fn fill(
         ≡ lentAfter (now (s .entry))
         (lentBy (now (work .entry)) (now (positions .entry)) (now (features .entry)) (now (warnings .entry))) ⌝ }
 {
-    let st = draw(s, v, r, work, positions, features, warnings);
+    let st = draw(s, v, r, kept, work, positions, features, warnings);
     clear_floats(work);
     if st.number != 0 {
         clear_floats(positions);
@@ -208,8 +212,9 @@ pub extern "C" fn geopic_place(
         ≡ lentAfter (now (s .entry))
         (lentBy (now (work .entry)) (now (positions .entry)) (now (features .entry)) (now (warnings .entry))) ⌝ }
 {
-    match open_stream(s) {
+    let mut kept = [0u32; 64];
+    match open_stream(s, &mut kept) {
         Opened::Refused(number) => refuse(number),
-        Opened::Registered(v, r) => fill(s, v, r, work, positions, features, warnings),
+        Opened::Registered(v, r) => fill(s, v, r, &kept, work, positions, features, warnings),
     }
 }

@@ -1,6 +1,7 @@
 -- The laws of these definitions that callers use.
 pub mod Names
 pub mod Outcomes
+pub mod Kept
 pub mod Near
 pub mod Sound
 pub mod Everything

@@ -19,7 +19,8 @@ pub extern "C" fn register_stream(s: &[u8]) -> Outcome
     if number != 0 {
         return register::refuse(number);
     }
-    register::register(s, register::survey_variables(s))
+    let mut kept = [0u32; 64];
+    register::register(s, register::survey_stream(s), &mut kept)
 }
 
 // The warnings of an accepted registration; none of any other stream.
@@ -27,12 +28,18 @@ pub extern "C" fn register_stream(s: &[u8]) -> Outcome
 pub extern "C" fn register_warnings(s: &[u8], out: &mut [u32]) -> Warned
     ensures { λ r. ⌜ record { out = now (out .exit); said = r } ≡ warnedOf (now (s .entry)) (now (out .entry)) ⌝ }
 {
-    let o = register_stream(s);
+    let none = Warned { ok: true, used: 0 };
+    if records::refusal(s) != 0 {
+        return none;
+    }
+    let v = register::survey_stream(s);
+    let mut kept = [0u32; 64];
+    let o = register::register(s, v, &mut kept);
     if o.number != 0 {
-        return Warned { ok: true, used: 0 };
+        return none;
     }
     let r = o.registration;
-    register::write_warnings(s, register::survey_variables(s), out, r.controls)
+    register::write_warnings(s, v, &kept, out, r.controls)
 }
 
 // A canvas point through a registration.

@@ -2,6 +2,7 @@
 use Prim.Native.Nat.{ℕ}
 use mathlib.Core.Path.{_≡_}
 use mathlib.Core.List.{List}
+use lib.ListN.{length}
 use Rattle.stream.specs.Conditions.{firstOf}
 use Rattle.stream.specs.Payload.{payload}
 use Rattle.scene.specs.Scene.{sceneOf}
@@ -9,6 +10,7 @@ use Rattle.similarity.specs.declared.projection.Registration.{Registration}
 use Rattle.register.specs.declared.survey.Survey.{Survey}
 use Rattle.register.specs.Register.{registrationOf}
 use Rattle.register.specs.Contracts.Survey.{Surveyed}
+use Rattle.register.specs.Contracts.Gathered.{Kept}
 use Rattle.geopic.specs.declared.Opened.{Opened}
 use Rattle.geopic.specs.declared.Opened.the-variants.{Refused, Registered}
 use Rattle.geopic.specs.Geopic.{early}
@@ -18,16 +20,18 @@ numberBy (Refused n) = n
 numberBy (Registered v r) = 0
 
 -- no early condition holds, and these are the scene's
-pub record Registers (s : List ℕ) (v : Survey) (r : Registration) : Type 0 where
+pub record Registers (s : List ℕ) (v : Survey) (r : Registration) (kept : List ℕ) : Type 0 where
   pub none : firstOf (early s) ≡ 0
   pub is : r ≡ registrationOf (sceneOf (payload s))
   pub surveyed : Surveyed (payload s) v
+  pub room-kept : length kept ≡ 64
+  pub kept-so : Kept (sceneOf (payload s)) kept
 
-abbrev pub Comes : List ℕ → Opened → Type 0
-Comes s (Refused n) = n ≡ 0 → ⊥
-Comes s (Registered v r) = Registers s v r
+abbrev pub Comes : List ℕ → List ℕ → Opened → Type 0
+Comes s kept (Refused n) = n ≡ 0 → ⊥
+Comes s kept (Registered v r) = Registers s v r kept
 
 -- the number of the first early condition that holds; the registration where none does
-pub record Opens (s : List ℕ) (o : Opened) : Type 0 where
+pub record Opens (s kept : List ℕ) (o : Opened) : Type 0 where
   pub number : numberBy o ≡ firstOf (early s)
-  pub comes : Comes s o
+  pub comes : Comes s kept o

@@ -22,6 +22,7 @@ use Rattle.register.specs.declared.warnings.Warned.{Warned}
 use Rattle.register.specs.declared.outcome.Outcome.{Outcome}
 use Rattle.register.specs.declared.survey.Survey.{Survey}
 use Rattle.register.specs.Contracts.Survey.{Surveyed}
+use Rattle.register.specs.Contracts.Gathered.{Kept}
 use Rattle.register.specs.Register.{Warning, f0, controlsOf, anchorOf, registrationBy, registrationOf, registerWarnings}
 use Rattle.register.specs.Contracts.Outcome.{registerRefusal, accepted, refusedBy, pickOutcome, outcomeOf}
 use Rattle.register.specs.Contracts.Warned.{pushed, allPushed}
@@ -213,25 +214,25 @@ module _ (s : List ℕ) (t : Lent) where
 
 -- ---- what `open_stream` comes to
 module _ (s : List ℕ) where
-  pub stream-opens : {n : ℕ} → n ≡ refusalOf s → (n ≡ 0 → ⊥) → Opens s (Refused n)
+  pub stream-opens : {kept : List ℕ} {n : ℕ} → n ≡ refusalOf s → (n ≡ 0 → ⊥) → Opens s kept (Refused n)
   stream-opens e some = record { number = e ∙ sym (early-stream s (λ z. some (e ∙ z))); comes = some }
 
   module _ (read : refusalOf s ≡ 0) {o : Outcome} (is : o ≡ outcomeOf (sc s)) where
     number : o .number ≡ firstOf (early s)
     number = outcome-number (sc s) is ∙ sym (early-registration s read)
 
-    pub registration-opens : (o .number ≡ 0 → ⊥) → Opens s (Refused (o .number))
+    pub registration-opens : {kept : List ℕ} → (o .number ≡ 0 → ⊥) → Opens s kept (Refused (o .number))
     registration-opens some = record { number = number; comes = some }
 
-    pub registered-opens : {v : Survey} → o .number ≡ 0 → Surveyed (payload s) v → Opens s (Registered v (o .registration))
-    registered-opens z w =
+    pub registered-opens : {v : Survey} {kept : List ℕ} → o .number ≡ 0 → Surveyed (payload s) v → length kept ≡ 64 → Kept (sceneOf (payload s)) kept → Opens s kept (Registered v (o .registration))
+    registered-opens z w n k =
         let none = sym number ∙ z in
-        record { number = sym none; comes = record { none = none; is = outcome-is (sc s) is z; surveyed = w } }
+        record { number = sym none; comes = record { none = none; is = outcome-is (sc s) is z; surveyed = w; room-kept = n; kept-so = k } }
 
   -- the same by the answer's case
-  module _ {o : Opened} (h : Opens s o) where
-    pub is-registered : {v : Survey} {r : Registration} → o ≡ Registered v r → Registers s v r
-    is-registered e = subst (λ (x : Opened). Comes s x) e (h .comes)
+  module _ {kept : List ℕ} {o : Opened} (h : Opens s kept o) where
+    pub is-registered : {v : Survey} {r : Registration} → o ≡ Registered v r → Registers s v r kept
+    is-registered e = subst (λ (x : Opened). Comes s kept x) e (h .comes)
 
     pub is-refused : {n : ℕ} → o ≡ Refused n → (n ≡ firstOf (early s)) × (n ≡ 0 → ⊥)
-    is-refused e = (sym (ap numberBy e) ∙ h .number, subst (λ (x : Opened). Comes s x) e (h .comes))
+    is-refused e = (sym (ap numberBy e) ∙ h .number, subst (λ (x : Opened). Comes s kept x) e (h .comes))
