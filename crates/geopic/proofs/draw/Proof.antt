@@ -9,6 +9,9 @@ use native.Mathlib.Omega.{arith}
 use borrow.Author.Needs.{needs}
 use borrow.Author.Tests.{not-true, not-false}
 use Rattle.records.specs.Laws.Refusals.{is-short, is-laid-out}
+use Rattle.stream.specs.Payload.{payload}
+use Rattle.scene.specs.Scene.{sceneOf}
+use Rattle.register.specs.Laws.Kept.{kept-few}
 use Rattle.geopic.specs.Geopic.{Lent, early}
 use Rattle.geopic.specs.Laws.Conditions.{early-none}
 use Rattle.geopic.specs.Laws.Calls.{controls-are, begun, drawn}
@@ -30,9 +33,11 @@ short j =
 
 write-warnings-requires : tie.Need-write-warnings-requires
 write-warnings-requires c κs =
-    let a = c .before .before .before .before .before .before in
+    let a = c .before .before .before .before .before .before .before in
     let s = a .args .s .now in
-    (omega (arith, is-short s (read s (a .pre .none))), is-laid-out s (read s (a .pre .none)), a .pre .surveyed, controls-are s (a .pre .is))
+    let h = read s (a .pre .none) in
+    let n = controls-are s (a .pre .is) in
+    (omega (arith, is-short s h), is-laid-out s h, a .pre .surveyed, n, omega (arith, n, kept-few (sceneOf (payload s)) (a .args .kept .now) (a .pre .room-kept) (a .pre .kept-so)), a .pre .room-kept, a .pre .kept-so)
 
 projection-of-requires : tie.Need-projection-of-requires
 projection-of-requires c κs = search needs
@@ -42,7 +47,7 @@ flatten-requires c κs = search needs
 
 convert-requires : tie.Need-convert-requires
 convert-requires c κs =
-    let a = c .before .before .before .before .before .before .before .before .before .before .before .before .before .before .before .before .before in
+    let a = c .before .before .before .before .before .before .before .before .before .before .before .before .before .before .before .before .before .before in
     let s = a .args .s .now in
     (omega (arith, is-short s (read s (a .pre .none))), begun s (lent a) (c .before .before .before .before .before .before .before .before .before .before .write-warnings .ensures) (short (c .before .before .before .before .before .before)) .fits, a .pre .surveyed .labels)
 
@@ -60,7 +65,7 @@ same-length-4 c = search needs
 
 returns : tie.Need-returns
 returns c =
-    let a = c .before .before .before .before .before .before .before .before .before .before .before .before .before .before .before .before .before .before .before .before .before .before .before .before .before .before in
+    let a = c .before .before .before .before .before .before .before .before .before .before .before .before .before .before .before .before .before .before .before .before .before .before .before .before .before .before .before in
     drawn (a .args .s .now) (lent a) (c .before .before .before .before .before .before .before .before .before .before .before .before .before .before .before .before .before .before .before .write-warnings .ensures) (short (c .before .before .before .before .before .before .before .before .before .before .before .before .before .before .before)) (a .pre .is) (c .before .before .before .before .before .before .before .before .before .before .before .before .before .before .projection-of .ensures) (c .before .before .before .before .before .before .before .before .before .before .before .before .before .flatten .ensures) (c .before .before .before .before .before .before .before .before .convert .ensures)
 
 pub draw-spec : {M : Type 1} → statement M
@@ -76,3 +81,4 @@ draw-spec =
     same-length-3
     same-length-4
     returns)
+

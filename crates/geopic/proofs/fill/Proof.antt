@@ -43,10 +43,10 @@ same-length-4 c = search needs
 
 returns : tie.Need-returns
 returns c =
-    let s = c .before .before .before .before .before .before .before .before .before .before .before .before .before .before .before .before .before .before .before .before .before .before .before .before .before .before .before .before .before .before .before .before .before .before .before .before .before .before .args .s .now in
-    let none = c .before .before .before .before .before .before .before .before .before .before .before .before .before .before .before .before .before .before .before .before .before .before .before .before .before .before .before .before .before .before .before .before .before .before .before .before .before .before .pre .none in
+    let a = c .before .before .before .before .before .before .before .before .before .before .before .before .before .before .before .before .before .before .before .before .before .before .before .before .before .before .before .before .before .before .before .before .before .before .before .before .before .before .before in
+    let s = a .args .s .now in
     let some = c .before .before .before .before .before .before .before .before .before .before .before .before .before .before .if1 .taken in
-    (late-answer s (lent (c .before .before .before .before .before .before .before .before .before .before .before .before .before .before .before .before .before .before .before .before .before .before .before .before .before .before .before .before .before .before .before .before .before .before .before .before .before .before)) none (c .before .before .before .before .before .before .before .before .before .before .before .before .before .before .before .before .before .before .before .before .before .before .before .before .before .before .before .before .draw .ensures) some (c .refuse .ensures), late-lent s (lent (c .before .before .before .before .before .before .before .before .before .before .before .before .before .before .before .before .before .before .before .before .before .before .before .before .before .before .before .before .before .before .before .before .before .before .before .before .before .before)) none (c .before .before .before .before .before .before .before .before .before .before .before .before .before .before .before .before .before .before .before .before .before .before .before .before .before .before .before .before .draw .ensures) some (c .before .before .before .before .before .before .before .before .before .before .before .before .before .before .before .before .before .before .clear-floats .ensures .0) (c .before .before .before .before .before .before .before .before .before .before .before .before .clear-floats2 .ensures .0) (c .before .before .before .before .before .before .before .before .clear-words .ensures .0) (c .before .before .before .before .clear-words2 .ensures .0))
+    (late-answer s (lent a) (a .pre .none) (c .before .before .before .before .before .before .before .before .before .before .before .before .before .before .before .before .before .before .before .before .before .before .before .before .before .before .before .before .draw .ensures) some (c .refuse .ensures), late-lent s (lent a) (a .pre .none) (c .before .before .before .before .before .before .before .before .before .before .before .before .before .before .before .before .before .before .before .before .before .before .before .before .before .before .before .before .draw .ensures) some (c .before .before .before .before .before .before .before .before .before .before .before .before .before .before .before .before .before .before .clear-floats .ensures .0) (c .before .before .before .before .before .before .before .before .before .before .before .before .clear-floats2 .ensures .0) (c .before .before .before .before .before .before .before .before .clear-words .ensures .0) (c .before .before .before .before .clear-words2 .ensures .0))
 
 accept-requires : tie.Need-accept-requires
 accept-requires c κs = search needs
@@ -65,10 +65,10 @@ same-length-8 c = search needs
 
 returns-2 : tie.Need-returns-2
 returns-2 c =
-    let s = c .before .before .before .before .before .before .before .before .before .before .before .before .before .before .before .before .before .before .before .before .before .before .before .before .before .args .s .now in
-    let none = c .before .before .before .before .before .before .before .before .before .before .before .before .before .before .before .before .before .before .before .before .before .before .before .before .before .pre .none in
+    let a = c .before .before .before .before .before .before .before .before .before .before .before .before .before .before .before .before .before .before .before .before .before .before .before .before .before .before in
+    let s = a .args .s .now in
     let room = c .before .if1 .left in
-    (accepted-answer s (lent (c .before .before .before .before .before .before .before .before .before .before .before .before .before .before .before .before .before .before .before .before .before .before .before .before .before)) none (c .before .before .before .before .before .before .before .before .before .before .before .before .before .before .before .draw .ensures) room (c .before .before .before .before .before .before .before .before .before .before .before .before .before .before .before .before .before .before .before .before .before .before .before .before .before .pre .is) (c .accept .ensures 0 [] [] []), accepted-lent s (lent (c .before .before .before .before .before .before .before .before .before .before .before .before .before .before .before .before .before .before .before .before .before .before .before .before .before)) none (c .before .before .before .before .before .before .before .before .before .before .before .before .before .before .before .draw .ensures) room (c .before .before .before .before .before .clear-floats .ensures .0))
+    (accepted-answer s (lent a) (a .pre .none) (c .before .before .before .before .before .before .before .before .before .before .before .before .before .before .before .draw .ensures) room (a .pre .is) (c .accept .ensures 0 [] [] []), accepted-lent s (lent a) (a .pre .none) (c .before .before .before .before .before .before .before .before .before .before .before .before .before .before .before .draw .ensures) room (c .before .before .before .before .before .clear-floats .ensures .0))
 
 pub fill-spec : {M : Type 1} → statement M
 fill-spec =
@@ -92,3 +92,4 @@ fill-spec =
     same-length-7
     same-length-8
     returns-2)
+

@@ -7,6 +7,9 @@ use Rattle.geopic.proofs.geopic_place.Tie as tie
 abbrev lent : tie.Start → Lent
 lent a = record { work = a .args .work .now; positions = a .args .positions .now; features = a .args .features .now; warnings = a .args .warnings .now }
 
+slice-aggregate-open-stream : tie.Need-slice-aggregate-open-stream
+slice-aggregate-open-stream c = search needs
+
 open-stream-requires : tie.Need-open-stream-requires
 open-stream-requires c κs = search needs
 
@@ -19,14 +22,17 @@ refuse-requires c κs = search needs
 enum-known-v : tie.Need-enum-known-v
 enum-known-v c = search needs
 
+slice-aggregate-fill : tie.Need-slice-aggregate-fill
+slice-aggregate-fill c = search needs
+
 fill-requires : tie.Need-fill-requires
-fill-requires c κs = is-registered (c .before .before .before .before .before .before .before .before .before .before .before .before .before .args .s .now) (c .before .before .before .before .before .before .before .open-stream .ensures) (c .before .before .before .before .before .v .given .1)
+fill-requires c κs = is-registered (c .before .before .before .before .before .before .before .before .before .before .before .before .before .before .before .before .args .s .now) (c .before .before .before .before .before .before .before .before .before .open-stream .ensures) (c .before .before .before .before .before .before .v .given .1)
 
 returns : tie.Need-returns
 returns c =
-    let s = c .before .before .before .before .before .before .before .before .before .before .args .s .now in
-    let o = is-refused s (c .before .before .before .before .open-stream .ensures) (c .before .before .number .given .1) in
-    (early-answer s (lent (c .before .before .before .before .before .before .before .before .before .before)) (o .0) (o .1) (c .refuse .ensures), early-lent s (lent (c .before .before .before .before .before .before .before .before .before .before)) (o .0) (o .1))
+    let s = c .before .before .before .before .before .before .before .before .before .before .before .before .args .s .now in
+    let o = is-refused s (c .before .before .before .before .before .open-stream .ensures) (c .before .before .number .given .1) in
+    (early-answer s (lent (c .before .before .before .before .before .before .before .before .before .before .before .before)) (o .0) (o .1) (c .refuse .ensures), early-lent s (lent (c .before .before .before .before .before .before .before .before .before .before .before .before)) (o .0) (o .1))
 
 same-length : tie.Need-same-length
 same-length c = search needs
@@ -47,10 +53,12 @@ pub geopic-place-spec : {M : Type 1} → statement M
 geopic-place-spec =
     tie.close
     (tie.spec
+    slice-aggregate-open-stream
     open-stream-requires
     enum-known-number
     refuse-requires
     enum-known-v
+    slice-aggregate-fill
     fill-requires
     returns
     same-length
@@ -58,3 +66,4 @@ geopic-place-spec =
     same-length-3
     same-length-4
     returns-2)
+

@@ -1,6 +1,7 @@
 use borrow.Author.Needs.{needs}
 use mathlib.Core.Path.{sym, _∙_}
-use Rattle.records.specs.Laws.Refusals.{is-laid-out}
+use native.Mathlib.Omega.{arith}
+use Rattle.records.specs.Laws.Refusals.{is-short, is-laid-out}
 use Rattle.geopic.specs.Laws.Calls.{stream-opens, registration-opens, registered-opens}
 use Rattle.geopic.proofs.open_stream.Statement.{statement}
 use Rattle.geopic.proofs.open_stream.Tie as tie
@@ -9,19 +10,27 @@ refusal-requires : tie.Need-refusal-requires
 refusal-requires c κs = search needs
 
 returns : tie.Need-returns
-returns c = stream-opens (c .before .before .before .args .s .now) (c .before .refusal .ensures) (c .if1 .taken)
+returns c = stream-opens (c .before .before .before .before .args .s .now) (c .before .refusal .ensures) (c .if1 .taken)
 
-survey-variables-requires : tie.Need-survey-variables-requires
-survey-variables-requires c κs = search needs
+survey-stream-requires : tie.Need-survey-stream-requires
+survey-stream-requires c κs = search needs
 
 register-requires : tie.Need-register-requires
-register-requires c κs = (is-laid-out (c .before .before .before .before .args .s .now) (sym (c .before .before .refusal .ensures) ∙ c .before .if1 .left), c .survey-variables .ensures)
+register-requires c κs =
+    let h = sym (c .before .before .before .refusal .ensures) ∙ c .before .before .if1 .left in
+    (omega (arith, is-short (c .before .before .before .before .before .before .args .s .now) h), is-laid-out (c .before .before .before .before .before .before .args .s .now) h, c .before .survey-stream .ensures, c .before .before .before .before .before .before .pre)
+
+same-length : tie.Need-same-length
+same-length c = search needs
 
 returns-2 : tie.Need-returns-2
-returns-2 c = registration-opens (c .before .before .before .before .before .before .before .args .s .now) (sym (c .before .before .before .before .before .refusal .ensures) ∙ c .before .before .before .before .if1 .left) (c .before .before .register .ensures) (c .if2 .taken)
+returns-2 c = registration-opens (c .before .before .before .before .before .before .before .before .before .before .before .args .s .now) (sym (c .before .before .before .before .before .before .before .before .refusal .ensures) ∙ c .before .before .before .before .before .before .before .if1 .left) (c .before .before .before .before .register .ensures .0) (c .if2 .taken)
+
+same-length-2 : tie.Need-same-length-2
+same-length-2 c = search needs
 
 returns-3 : tie.Need-returns-3
-returns-3 c = registered-opens (c .before .before .before .before .before .before .before .before .args .s .now) (sym (c .before .before .before .before .before .before .refusal .ensures) ∙ c .before .before .before .before .before .if1 .left) (c .before .before .before .register .ensures) (c .before .if2 .left) (c .before .before .before .before .survey-variables .ensures)
+returns-3 c = registered-opens (c .before .before .before .before .before .before .before .before .before .before .before .before .args .s .now) (sym (c .before .before .before .before .before .before .before .before .before .refusal .ensures) ∙ c .before .before .before .before .before .before .before .before .if1 .left) (c .before .before .before .before .before .register .ensures .0) (c .before .if2 .left) (c .before .before .before .before .before .before .before .survey-stream .ensures) (omega (arith, c .before .before .before .before .kept .given, c .before .before .before .before .before .before .before .before .before .before .before .before .pre)) (c .before .before .before .before .before .register .ensures .1 (c .before .if2 .left))
 
 pub open-stream-spec : {M : Type 1} → statement M
 open-stream-spec =
@@ -29,7 +38,10 @@ open-stream-spec =
     (tie.spec
     refusal-requires
     returns
-    survey-variables-requires
+    survey-stream-requires
     register-requires
+    same-length
     returns-2
+    same-length-2
     returns-3)
+
