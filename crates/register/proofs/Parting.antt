@@ -253,5 +253,5 @@ part-earlier false sc a cs h =
     let z = ap (λ (x : List Mention). length (controlsIn (eventsOf sc 2 nobody x))) (mentions-take sc a 0 (sc .features)) in
     let o = ap (λ (b : ℕ). length (controlsIn (eventsOf sc 2 nobody (featureMentions 0 (take b (sc .features)))))) (none-before a) in
     let k : length (controlsIn (eventsOf sc 2 nobody (featureMentions 0 (take (0 + a) (sc .features))))) ≤ length (cs ++ controlsIn (eventsOf sc 2 nobody (take a (featureMentions 0 (sc .features))))) =
-        omega (arith, o, z, length-append cs (controlsIn (eventsOf sc 2 nobody (take a (featureMentions 0 (sc .features)))))) in
+    omega (arith, o, z, length-append cs (controlsIn (eventsOf sc 2 nobody (take a (featureMentions 0 (sc .features)))))) in
     k

@@ -54,10 +54,7 @@ fn put(flat: &mut [f64], kept: &mut [u32], g: Tally, j: usize, c: Control) -> Ta
     let ok = g.placed && is_placed(c.lon, c.lat);
     let n = g.n;
     if n >= 64 {
-        return Tally {
-            n: 65,
-            placed: ok,
-        };
+        return Tally { n: 65, placed: ok };
     }
     kept[n] = j as u32;
     flat[4 * n] = c.x;
@@ -311,7 +308,15 @@ fn gather_batch(
 }
 
 // All batches of a part of the names, behind the control points that g counts.
-fn gather_part(s: &[u8], v: Survey, lons: bool, t: &mut [u32], flat: &mut [f64], kept: &mut [u32], g: Tally) -> Tally
+fn gather_part(
+    s: &[u8],
+    v: Survey,
+    lons: bool,
+    t: &mut [u32],
+    flat: &mut [f64],
+    kept: &mut [u32],
+    g: Tally,
+) -> Tally
     requires { ⌜ (room (now s) < 33554432) × (laidOut (payload (now s)) ≡ true) × Surveyed (payload (now s)) v
         × (1 ≤ length (now t)) × (length (now flat) ≡ 256) × (length (now kept) ≡ 64) ⌝ }
     ensures { λ r. ⌜ ((cs : List Control) (js : List ℕ) → Holds true cs js g (now (flat .entry)) (now (kept .entry))
@@ -343,10 +348,7 @@ fn gather_names(s: &[u8], v: Survey, t: &mut [u32], flat: &mut [f64], kept: &mut
         × (1 ≤ length (now t)) × (length (now flat) ≡ 256) × (length (now kept) ≡ 64) ⌝ }
     ensures { λ r. ⌜ Gathers (sceneOf (payload (now (s .entry)))) r (now (flat .exit)) (now (kept .exit)) ⌝ }
 {
-    let none = Tally {
-        n: 0,
-        placed: true,
-    };
+    let none = Tally { n: 0, placed: true };
     let g = gather_part(s, v, false, t, flat, kept, none);
     if v.lons == 0 {
         return g;

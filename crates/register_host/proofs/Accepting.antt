@@ -44,9 +44,6 @@ module _ (s : List ℕ) where
       unfolding answerOf outcomeOf
       parts = both (eqb (refusalOf s) 0) (eqb (registerRefusal (sceneOf (payload s))) 0) (refusalOf s) (registerRefusal (sceneOf (payload s))) (registrationOf (sceneOf (payload s))) refl refl e h
 
-      pub is-accepted : refusalOf s ≡ 0
-      is-accepted = parts .0
-
       pub controls-are : o .registration .controls ≡ length (controlsOf (sceneOf (payload s)))
       unfolding registrationOf
       controls-are = rw (parts .1) (counted (sceneOf (payload s)) (anchorOf (sceneOf (payload s))) (controlsOf (sceneOf (payload s))))

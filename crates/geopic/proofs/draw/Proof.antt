@@ -81,4 +81,3 @@ draw-spec =
     same-length-3
     same-length-4
     returns)
-

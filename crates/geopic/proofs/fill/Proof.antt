@@ -92,4 +92,3 @@ fill-spec =
     same-length-7
     same-length-8
     returns-2)
-

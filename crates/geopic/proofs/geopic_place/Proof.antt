@@ -66,4 +66,3 @@ geopic-place-spec =
     same-length-3
     same-length-4
     returns-2)
-

@@ -44,4 +44,3 @@ open-stream-spec =
     returns-2
     same-length-2
     returns-3)
-

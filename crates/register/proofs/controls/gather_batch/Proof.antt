@@ -26,7 +26,7 @@ slice-aggregate-note-labels-2 c = search needs
 
 -- src/controls.rt:305:9
 note-labels-requires : tie.Need-note-labels-requires
-note-labels-requires c κs = 
+note-labels-requires c κs =
     let pre = c .before .before .before .before .before .before .before .before .before .pre in
     let e = c .before .before .before .more-of .ensures in
     (pre .0, more-few (c .before .before .before .before .before .before .before .before .before .args .lons) e, rw e (pre .4 .table), pre .4 .unmarked, search needs, search needs)
@@ -37,7 +37,7 @@ same-length c = search needs
 
 -- src/controls.rt:307:9
 returns : tie.Need-returns
-returns c = 
+returns c =
     let pre = c .before .before .before .before .before .before .before .before .before .before .before .before .before .before .before .pre in
     let d = rw (c .before .before .before .before .before .before .before .before .before .more-of .ensures) at (c .before .before .before .before .before .note-labels .ensures) in
     λ cs js h o. batch-lost _ _ _ _ _ (pre .4) d (pre .1 .labels) h (c .if1 .taken)
@@ -52,7 +52,7 @@ features-before-requires c κs = search needs
 
 -- src/controls.rt:309:5
 forget-requires : tie.Need-forget-requires
-forget-requires c κs = 
+forget-requires c κs =
     let d = c .before .before .before .before .before .before .before .before .note-labels .ensures in
     (more-few (c .before .before .before .before .before .before .before .before .before .before .before .before .before .before .before .before .before .before .args .lons) (c .before .before .before .before .before .before .before .before .before .before .before .before .more-of .ensures), d .table)
 
@@ -62,7 +62,7 @@ slice-aggregate-read c = search needs
 
 -- src/controls.rt:310:5
 read-requires : tie.Need-read-requires
-read-requires c κs = 
+read-requires c κs =
     let pre = c .before .before .before .before .before .before .before .before .before .before .before .before .before .before .before .before .before .before .before .before .before .before .before .before .before .before .pre in
     (omega (arith, pre .0, pre .1 .few, pre .2, payload-length (c .before .before .before .before .before .before .before .before .before .before .before .before .before .before .before .before .before .before .before .before .before .before .before .before .before .before .args .s .now)), search needs, search needs, search needs, pre .3, rw (← (c .before .before .before .before .before .before .before .before .before .before .before .before .before .before .before .before .before .before .before .before .more-of .ensures)) (c .before .before .before .before .before .before .before .forget .ensures .table))
 
@@ -84,7 +84,7 @@ same-length-5 c = search needs
 
 -- src/controls.rt:278:1
 returns-2 : tie.Need-returns-2
-returns-2 c = 
+returns-2 c =
     let pre = c .before .before .before .before .before .before .before .before .before .before .before .before .before .before .before .before .before .before .before .before .before .before .before .before .before .before .before .before .before .before .before .before .before .before .before .pre in
     let d = rw (c .before .before .before .before .before .before .before .before .before .before .before .before .before .before .before .before .before .before .before .before .before .before .before .before .before .before .before .before .before .more-of .ensures) at (c .before .before .before .before .before .before .before .before .before .before .before .before .before .before .before .before .before .before .before .before .before .before .before .before .before .note-labels .ensures) in
     let o = rw (c .before .before .before .before .before .before .before .before .before .before .before .before .before .before .before .before .before .before .before .before .before .before .before .before .before .before .before .before .before .more-of .ensures, c .before .before .before .before .before .before .before .before .before .before .before .before .before .before .before .before .before .features-before .ensures, surveyed-features (pre .1)) at (c .before .before .before .before .before .before .before .before .before .before .before .before .before .before .before .before .forget .ensures) in
@@ -110,4 +110,3 @@ gather-batch-spec =
     same-length-4
     same-length-5
     returns-2)
-

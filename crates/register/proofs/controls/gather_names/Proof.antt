@@ -27,7 +27,7 @@ same-length-3 c = search needs
 
 -- src/controls.rt:352:9
 returns : tie.Need-returns
-returns c = 
+returns c =
     let pre = c .before .before .before .before .before .before .before .before .before .before .before .before .before .before .before .before .pre in
     let sc = sceneOf (payload (c .before .before .before .before .before .before .before .before .before .before .before .before .before .before .before .before .args .s .now)) in
     let h = c .before .before .before .before .before .before .before .before .gather-part .ensures [] [] (none-held (pre .4) (pre .5)) (none-before-all sc) in
@@ -51,7 +51,7 @@ same-length-6 c = search needs
 
 -- src/controls.rt:341:1
 returns-2 : tie.Need-returns-2
-returns-2 c = 
+returns-2 c =
     let pre = c .before .before .before .before .before .before .before .before .before .before .before .before .before .before .before .before .before .before .before .before .before .before .before .before .before .before .pre in
     let sc = sceneOf (payload (c .before .before .before .before .before .before .before .before .before .before .before .before .before .before .before .before .before .before .before .before .before .before .before .before .before .before .args .s .now)) in
     let h = c .before .before .before .before .before .before .before .before .before .before .before .before .before .before .before .before .before .before .gather-part .ensures [] [] (none-held (pre .4) (pre .5)) (none-before-all sc) in
@@ -71,4 +71,3 @@ gather-names-spec =
     same-length-5
     same-length-6
     returns-2)
-

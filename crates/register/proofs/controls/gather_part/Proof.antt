@@ -74,21 +74,21 @@ slice-aggregate-gather-batch c = search needs
 
 -- src/controls.rt:334:9
 gather-batch-requires : tie.Need-gather-batch-requires Inv-loop μ-loop
-gather-batch-requires c κs = 
+gather-batch-requires c κs =
     let pre = c .before .before .before .before .before .before .before .before .before .before .before .before .before .before .before .before .before .before .before .before .pre in
     let d = c .before .before .before .before .before .before .before .before .before .fill .ensures in
     (pre .0, pre .2, omega (arith, left (c .before .before .before .before .before .before .before .before .before .before .before .before .loop .inv .0), d .filling .enough, part-total (pre .2) (c .before .before .before .before .before .before .before .before .before .before .before .before .before .before .before .before .before .before .before .before .args .lons)), c .before .before .before .before .before .before .before .before .before .before .before .before .loop .inv .0 .follows, d .filling, omega (arith, pre .4, c .before .before .before .before .before .before .before .before .before .before .before .before .loop .inv .2), omega (arith, pre .5, c .before .before .before .before .before .before .before .before .before .before .before .before .loop .inv .3))
 
 -- src/controls.rt:336:9
 add-base : tie.Need-add-base Inv-loop μ-loop
-add-base c = 
+add-base c =
     let pre = c .before .before .before .before .before .before .before .before .before .before .before .before .before .before .before .before .before .before .before .before .before .before .before .before .before .before .before .before .before .before .pre in
     let d = c .before .before .before .before .before .before .before .before .before .before .before .before .before .before .before .before .before .before .before .fill .ensures in
     omega (arith, left (c .before .before .before .before .before .before .before .before .before .before .before .before .before .before .before .before .before .before .before .before .before .before .loop .inv .0), d .filling .enough, part-total (pre .2) (c .before .before .before .before .before .before .before .before .before .before .before .before .before .before .before .before .before .before .before .before .before .before .before .before .before .before .before .before .before .before .args .lons), pre .2 .few, pre .0, payload-length (c .before .before .before .before .before .before .before .before .before .before .before .before .before .before .before .before .before .before .before .before .before .before .before .before .before .before .before .before .before .before .args .s .now))
 
 -- src/controls.rt:328:5
 loop-less : tie.Need-loop-less Inv-loop μ-loop
-loop-less c = 
+loop-less c =
     let d = c .before .before .before .before .before .before .before .before .before .before .before .before .before .before .before .before .before .before .before .fill .ensures in
     further (c .before .before .before .before .before .before .before .before .before .before .before .before .before .before .if1 .left) (d .more) (d .fits)
 
@@ -118,4 +118,3 @@ gather-part-spec =
     add-base
     loop-less
     loop-again)
-
