@@ -1,6 +1,7 @@
 // One walk over places and items for the names of a table: which of them have a point, and where.
 //
-// What was found stands in 64 slots, four numbers of a key and two of a point. Mark m of an entry, from 1 to 64, is slot m - 1; mark 65 is that no slot was left.
+// What was found stands in 64 slots, four numbers of a key and two of a point. Mark m of an entry, from 1 to 64, is slot
+// m - 1; mark 65 is that no slot was left.
 ghost use mathlib.Core.Path.{_≡_};
 ghost use mathlib.Core.Bool.{true, false};
 ghost use Prim.Native.Nat.{_+_, _*_, _≤_, _<_};
@@ -244,7 +245,8 @@ fn note_items(
     }
 }
 
-// The labels from p on, for the names of the first `count` entries, none of which has a mark. How many slots are used then.
+// The labels from p on, for the names of the first `count` entries, none of which has a mark. How many slots are used
+// then.
 pub fn note_labels(
     s: &[u8],
     p: usize,

@@ -1,7 +1,8 @@
 // A table of names: the positions where their lengths stand in the payload, in the order of the names, no name twice.
 //
-// Names are ordered by their length, then by their bytes, so that eight bytes from the length on decide most comparisons.
-// The names of one table have lengths that are `more` too great: 4 for `_lon` variables, whose ending is not counted, else 0.
+// Names are ordered by their length, then by their bytes, so that eight bytes from the length on decide most
+// comparisons. The names of one table have lengths that are `more` too great: 4 for `_lon` variables, whose ending is not
+// counted, else 0.
 ghost use mathlib.Core.Path.{_≡_};
 ghost use Prim.Native.Nat.{_+_, _-_, _*_, _≤_, _<_, _%_};
 ghost use lib.ListN.{length, getD, set};
@@ -25,7 +26,8 @@ pub struct Found {
     pub at: usize,
 }
 
-// The order of the n bytes at p and the n bytes at q: 0 if they come before, 1 if they are the same, 2 if they come after.
+// The order of the n bytes at p and the n bytes at q: 0 if those at p come before, 1 if they are the same, 2 if they
+// come after.
 fn order_bytes(s: &[u8], p: usize, q: usize, n: usize) -> u8
     requires { ⌜ (p + n ≤ room (now s)) × (q + n ≤ room (now s)) ⌝ }
     ensures { λ r. ⌜ r ≡ orderOf (part (payload (now (s .entry))) p n) (part (payload (now (s .entry))) q n) ⌝ }
@@ -63,7 +65,8 @@ fn word_of(s: &[u8], p: usize, n: usize, more: u64) -> u64
     word_at(s, p) % FIRST + (n as u64 + more) * FIRST
 }
 
-// The order of the name whose length stands at p and the n bytes behind q, of which w are the first without the spare bits.
+// The order of the name whose length stands at p and the n bytes behind q, of which w are the first without the spare
+// bits.
 fn order(s: &[u8], p: usize, q: usize, n: usize, w: u64, more: u64) -> u8
     requires { ⌜ Stands more (payload (now s)) p × (q + 9 + n ≤ room (now s)) × (n + more ≤ 255)
         × (w ≡ frontOf (wordOf (payload (now s)) q (n + more)) n) ⌝ }
@@ -125,7 +128,8 @@ fn make_room(t: &mut [u32], at: usize, n: usize)
     }
 }
 
-// The name of n bytes whose length stands at p becomes one of the first `count` entries, unless it is one of them. How many there are then. Most names come in their order: the last entry is looked at first.
+// The name of n bytes whose length stands at p becomes one of the first `count` entries, unless it is one of them. How
+// many there are then. Most names come in their order: the last entry is looked at first.
 pub fn insert(s: &[u8], t: &mut [u32], count: usize, p: usize, n: usize, more: u64) -> usize
     requires { ⌜ (p < 33554432) × Stands more (payload (now s)) p
         × (n + more ≡ getD (payload (now s)) p 0) × (n + more ≤ 255)

@@ -1,6 +1,7 @@
 // Control points: the names of host features first, then those of pairs of `_lon` and `_lat` variables, in batches.
 //
-// A batch is as many names as a table holds. One walk over the labels tells which of them resolve; then the batch is read again, in its order: of each name that resolves the first mention is a control point.
+// A batch is as many names as a table holds. One walk over the labels tells which of them resolve; then the batch is
+// read again, in its order: of each name that resolves the first mention is a control point.
 ghost use mathlib.Core.Path.{_≡_};
 ghost use mathlib.Core.Bool.{Bool, true, false};
 ghost use mathlib.Core.List.{List, _∷_, [], _++_};
@@ -48,7 +49,8 @@ pub fn is_placed(lon: f64, lat: f64) -> bool
 // One more control point, of the j-th name.
 fn put(flat: &mut [f64], kept: &mut [u32], g: Tally, j: usize, c: Control) -> Tally
     requires { ⌜ (j < 4294967296) × (length (now flat) ≡ 256) × (length (now kept) ≡ 64) ⌝ }
-    ensures { λ r. ⌜ ((b : Bool) (cs : List Control) (js : List ℕ) → Holds b cs js g (now (flat .entry)) (now (kept .entry))
+    ensures { λ r. ⌜ ((b : Bool) (cs : List Control) (js : List ℕ)
+        → Holds b cs js g (now (flat .entry)) (now (kept .entry))
         → Holds b (cs ++ c ∷ []) (js ++ j ∷ []) r (now (flat .exit)) (now (kept .exit))) ⌝ }
 {
     let ok = g.placed && is_placed(c.lon, c.lat);
@@ -83,8 +85,10 @@ pub struct Filled {
 
 // The name of a mention becomes an entry, if there is a latitude.
 fn add_name(s: &[u8], t: &mut [u32], n: usize, m: Mention, more: u64) -> usize
-    requires { ⌜ (room (now s) < 33554432) × (n < length (now t)) × Table more (payload (now s)) (now t) n × Heads (now s) more m ⌝ }
-    ensures { λ r. ⌜ Added more (payload (now (s .entry))) (now (t .entry)) (now (t .exit)) n r (mentionBy (payload (now (s .entry))) m) ⌝ }
+    requires { ⌜ (room (now s) < 33554432) × (n < length (now t)) × Table more (payload (now s)) (now t) n
+        × Heads (now s) more m ⌝ }
+    ensures { λ r. ⌜ Added more (payload (now (s .entry))) (now (t .entry)) (now (t .exit)) n r
+        (mentionBy (payload (now (s .entry))) m) ⌝ }
 {
     let lat = m.lat;
     if !lat.some {
@@ -156,7 +160,8 @@ fn forget(s: &[u8], t: &mut [u32], n: usize, i: usize, more: u64)
 // The point that a mark stands for; any point where no slot was left.
 fn control_of(spots: &[f64], mark: usize, lon: f64, lat: f64) -> Control
     requires { ⌜ (1 ≤ mark) × (length (now spots) ≡ 128) ⌝ }
-    ensures { λ r. ⌜ (r .lon ≡ lon) × (r .lat ≡ lat) × (mark ≤ 64 → pointIn r ≡ spotOf (now (spots .entry)) mark nan) ⌝ }
+    ensures { λ r. ⌜ (r .lon ≡ lon) × (r .lat ≡ lat)
+        × (mark ≤ 64 → pointIn r ≡ spotOf (now (spots .entry)) mark nan) ⌝ }
 {
     if mark > 64 {
         return Control {
@@ -189,10 +194,10 @@ fn read_one(
 ) -> Tally
     requires { ⌜ (j < 4294967296) × (length (now spots) ≡ 128) × (length (now flat) ≡ 256) × (length (now kept) ≡ 64)
         × Table (moreOf lons) (payload (now s)) (now t) n × Heads (now s) (moreOf lons) m ⌝ }
-    ensures { λ r. ⌜ ((h : Ready (payload (now (s .entry))) lons (mentionBy (payload (now (s .entry))) m ∷ []) (now (t .entry)) n
-        (now (spots .entry)) g (now (flat .entry)) (now (kept .entry)))
-        → Read (payload (now (s .entry))) lons (mentionBy (payload (now (s .entry))) m ∷ []) (now (t .entry)) (now (t .exit)) n
-        (now (spots .entry)) j (h .was) (h .b) (h .cs) (h .js) r (now (flat .exit)) (now (kept .exit))) ⌝ }
+    ensures { λ r. ⌜ ((h : Ready (payload (now (s .entry))) lons (mentionBy (payload (now (s .entry))) m ∷ [])
+        (now (t .entry)) n (now (spots .entry)) g (now (flat .entry)) (now (kept .entry)))
+        → Read (payload (now (s .entry))) lons (mentionBy (payload (now (s .entry))) m ∷ [])
+        (now (t .entry)) (now (t .exit)) n (now (spots .entry)) j (h .was) (h .b) (h .cs) (h .js) r (now (flat .exit)) (now (kept .exit))) ⌝ }
     ensures { λ r. ⌜ Table (moreOf lons) (payload (now (s .entry))) (now (t .exit)) n ⌝ }
 {
     let lat = m.lat;
@@ -221,10 +226,10 @@ fn read(
     kept: &mut [u32],
     g: Tally,
 ) -> Tally
-    requires { ⌜ (base + count < 4294967296) × (length (now spots) ≡ 128) × (length (now flat) ≡ 256) × (length (now kept) ≡ 64)
-        × Follows (now s) lons c (now runs) × Table (moreOf lons) (payload (now s)) (now t) n ⌝ }
-    ensures { λ r. ⌜ ((h : Ready (payload (now (s .entry))) lons (take count (mentionsAt (payload (now (s .entry))) lons c))
-        (now (t .entry)) n (now (spots .entry)) g (now (flat .entry)) (now (kept .entry)))
+    requires { ⌜ (base + count < 4294967296) × (length (now spots) ≡ 128) × (length (now flat) ≡ 256)
+        × (length (now kept) ≡ 64) × Follows (now s) lons c (now runs) × Table (moreOf lons) (payload (now s)) (now t) n ⌝ }
+    ensures { λ r. ⌜ ((h : Ready (payload (now (s .entry))) lons
+        (take count (mentionsAt (payload (now (s .entry))) lons c)) (now (t .entry)) n (now (spots .entry)) g (now (flat .entry)) (now (kept .entry)))
         → Read (payload (now (s .entry))) lons (take count (mentionsAt (payload (now (s .entry))) lons c))
         (now (t .entry)) (now (t .exit)) n (now (spots .entry)) base (h .was) (h .b) (h .cs) (h .js) r
         (now (flat .exit)) (now (kept .exit))) ⌝ }
@@ -291,8 +296,10 @@ fn gather_batch(
     ensures { λ r. ⌜ ((cs : List Control) (js : List ℕ) → Holds true cs js g (now (flat .entry)) (now (kept .entry))
         → Earlier (sceneOf (payload (now (s .entry)))) lons base cs
         → Holds true
-        (cs ++ controlsIn (batchEvents (payload (now (s .entry))) lons base (take (f .count) (mentionsAt (payload (now (s .entry))) lons c))))
-        (js ++ numbersIn base (batchEvents (payload (now (s .entry))) lons base (take (f .count) (mentionsAt (payload (now (s .entry))) lons c))))
+        (cs ++ controlsIn (batchEvents (payload (now (s .entry))) lons base
+        (take (f .count) (mentionsAt (payload (now (s .entry))) lons c))))
+        (js ++ numbersIn base (batchEvents (payload (now (s .entry))) lons base
+        (take (f .count) (mentionsAt (payload (now (s .entry))) lons c))))
         r (now (flat .exit)) (now (kept .exit))) ⌝ }
 {
     let mut keys = [0u32; 256];
@@ -323,7 +330,8 @@ fn gather_part(
         → Earlier (sceneOf (payload (now (s .entry)))) lons 0 cs
         → Holds true
         (cs ++ controlsIn (partEvents lons (sceneOf (payload (now (s .entry))))))
-        (js ++ numbersIn (baseOf lons (sceneOf (payload (now (s .entry))))) (partEvents lons (sceneOf (payload (now (s .entry))))))
+        (js ++ numbersIn (baseOf lons (sceneOf (payload (now (s .entry)))))
+        (partEvents lons (sceneOf (payload (now (s .entry))))))
         r (now (flat .exit)) (now (kept .exit))) ⌝ }
 {
     let mut all = g;

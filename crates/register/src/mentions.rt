@@ -16,7 +16,8 @@ use scene::is_named;
 use scene::next_feature;
 use scene::next_variable;
 
-// Where the next name is looked for, how many host features or variables come before it, and the name of the last variable.
+// Where the next name is looked for, how many host features or variables come before it, and the name of the last
+// variable.
 pub struct Cursor {
     pub q: usize,
     pub i: usize,

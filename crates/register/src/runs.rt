@@ -1,6 +1,7 @@
 // The `_lat` variable of a `_lon` variable, without a search of all of them for each.
 //
-// Names rise, and `<L>_lat` stands before `<L>_lon` with only names between them that begin with `<L>_l`. So it is looked for from the first variable that shares these bytes with the current one, up to that.
+// Names rise, and `<L>_lat` stands before `<L>_lon` with only names between them that begin with `<L>_l`. So it is looked
+// for from the first variable that shares these bytes with the current one, up to that.
 ghost use mathlib.Core.Path.{_≡_};
 ghost use mathlib.Core.List.{[], _++_};
 ghost use Prim.Native.Nat.{_+_, _≤_, _<_};
@@ -23,7 +24,8 @@ use stream::byte;
 // How many bytes two names begin with alike.
 pub fn common(s: &[u8], p: usize, n: usize, q: usize, m: usize) -> usize
     requires { ⌜ (p + n ≤ room (now s)) × (q + m ≤ room (now s)) ⌝ }
-    ensures { λ r. ⌜ (r ≡ commonOf (part (payload (now (s .entry))) p n) (part (payload (now (s .entry))) q m)) × (r ≤ n) ⌝ }
+    ensures { λ r. ⌜ (r ≡ commonOf (part (payload (now (s .entry))) p n) (part (payload (now (s .entry))) q m))
+        × (r ≤ n) ⌝ }
 {
     let mut i = 0usize;
     while i < n {
@@ -53,7 +55,8 @@ pub fn set_runs(runs: &mut [usize], c: usize, q: usize)
 // Whether the m bytes at q are the n bytes at p and `_lat`.
 fn is_lat(s: &[u8], q: usize, m: usize, p: usize, n: usize) -> bool
     requires { ⌜ (q + m ≤ room (now s)) × (p + n ≤ room (now s)) ⌝ }
-    ensures { λ r. ⌜ r ≡ same (part (payload (now (s .entry))) q m) (part (payload (now (s .entry))) p n ++ suffixLat) ⌝ }
+    ensures { λ r. ⌜ r
+        ≡ same (part (payload (now (s .entry))) q m) (part (payload (now (s .entry))) p n ++ suffixLat) ⌝ }
 {
     if m < 4 {
         return false;
@@ -66,8 +69,10 @@ fn is_lat(s: &[u8], q: usize, m: usize, p: usize, n: usize) -> bool
 
 // The value of `<L>_lat`, where `<L>_lon` stands at `at` and L has n bytes, among the variables from p on.
 pub fn lat_of(s: &[u8], p: usize, at: usize, n: usize) -> Value
-    requires { ⌜ (at + n + 4 ≤ room (now s)) × (part (payload (now s)) (at + n) 4 ≡ suffixLon) × Rising [] (variablesAt (payload (now s)) p) ⌝ }
-    ensures { λ r. ⌜ valueBy r ≡ variableOf (part (payload (now (s .entry))) at n ++ suffixLat) (variablesAt (payload (now (s .entry))) p) ⌝ }
+    requires { ⌜ (at + n + 4 ≤ room (now s)) × (part (payload (now s)) (at + n) 4 ≡ suffixLon)
+        × Rising [] (variablesAt (payload (now s)) p) ⌝ }
+    ensures { λ r. ⌜ valueBy r
+        ≡ variableOf (part (payload (now (s .entry))) at n ++ suffixLat) (variablesAt (payload (now (s .entry))) p) ⌝ }
 {
     let mut q = p;
     loop {

@@ -31,7 +31,8 @@ pub struct Warned {
 // One more warning.
 fn push(out: &mut [u32], w: Warned, kind: u32, index: u32) -> Warned
     requires { ⌜ w .used ≤ length (now out) ⌝ }
-    ensures { λ r. ⌜ record { out = now (out .exit); said = r } ≡ pushed (record { kind = kind; index = index }) (record { out = now (out .entry); said = w }) ⌝ }
+    ensures { λ r. ⌜ record { out = now (out .exit); said = r }
+        ≡ pushed (record { kind = kind; index = index }) (record { out = now (out .entry); said = w }) ⌝ }
 {
     let n = w.used;
     if !w.ok {
@@ -187,10 +188,12 @@ fn warn_lons(
 
 // Of all names. Where each has come to one of the n control points, no look is taken.
 fn warn_names(s: &[u8], v: Survey, kept: &[u32], out: &mut [u32], w: Warned, n: u32) -> Warned
-    requires { ⌜ (room (now s) < 33554432) × (laidOut (payload (now s)) ≡ true) × (w .used ≤ length (now out)) × Surveyed (payload (now s)) v
-        × (n ≡ length (controlsOf (sceneOf (payload (now s))))) × (n ≤ 64) × (length (now kept) ≡ 64) × Kept (sceneOf (payload (now s))) (now kept) ⌝ }
+    requires { ⌜ (room (now s) < 33554432) × (laidOut (payload (now s)) ≡ true) × (w .used ≤ length (now out))
+        × Surveyed (payload (now s)) v × (n ≡ length (controlsOf (sceneOf (payload (now s))))) × (n ≤ 64)
+        × (length (now kept) ≡ 64) × Kept (sceneOf (payload (now s))) (now kept) ⌝ }
     ensures { λ r. ⌜ record { out = now (out .exit); said = r }
-        ≡ allPushed (warningsIn (events (sceneOf (payload (now (s .entry)))))) (record { out = now (out .entry); said = w }) ⌝ }
+        ≡ allPushed (warningsIn (events (sceneOf (payload (now (s .entry))))))
+        (record { out = now (out .entry); said = w }) ⌝ }
     ensures { λ r. ⌜ r .used ≤ length (now (out .exit)) ⌝ }
 {
     let n = n as usize;
@@ -277,9 +280,11 @@ fn warn_ignored(d: Declared, out: &mut [u32], w: Warned, n: u32) -> Warned
 // All warnings of the registration of a stream that is laid out, with n control points, of the names that are kept.
 pub fn write_warnings(s: &[u8], v: Survey, kept: &[u32], out: &mut [u32], n: u32) -> Warned
     requires { ⌜ (room (now s) < 33554432) × (laidOut (payload (now s)) ≡ true) × Surveyed (payload (now s)) v
-        × (n ≡ length (controlsOf (sceneOf (payload (now s))))) × (n ≤ 64) × (length (now kept) ≡ 64) × Kept (sceneOf (payload (now s))) (now kept) ⌝ }
+        × (n ≡ length (controlsOf (sceneOf (payload (now s))))) × (n ≤ 64) × (length (now kept) ≡ 64)
+        × Kept (sceneOf (payload (now s))) (now kept) ⌝ }
     ensures { λ r. ⌜ record { out = now (out .exit); said = r }
-        ≡ allPushed (registerWarnings (sceneOf (payload (now (s .entry))))) (record { out = now (out .entry); said = record { ok = true; used = 0 } }) ⌝ }
+        ≡ allPushed (registerWarnings (sceneOf (payload (now (s .entry)))))
+        (record { out = now (out .entry); said = record { ok = true; used = 0 } }) ⌝ }
 {
     let none = Warned { ok: true, used: 0 };
     let d = v.declared;
