@@ -1,14 +1,16 @@
-// generate named | heavy | large
+// generate named | names | heavy | large
 // generate SEED COUNT
+// generate names SEED COUNT
 //
-// Prints cases as `oracle batch` reads them: the named ones; those that use up
-// the whole allowance, which take seconds each; those at the limit of blocks,
-// 32 MiB each; or one case for each seed from SEED on. The same arguments give
-// the same bytes.
+// Prints cases as `oracle batch` reads them: the named ones; those of many names
+// and labels; those that use up the whole allowance, which take seconds each;
+// those at the limit of blocks, 32 MiB each; or one case for each seed from SEED
+// on, any or of many names and labels. The same arguments give the same bytes.
 
 mod case;
 mod damage;
 mod named;
+mod names;
 mod random;
 #[path = "../splitmix.rs"]
 mod splitmix;
@@ -24,24 +26,26 @@ fn main() {
     let mut out = BufWriter::new(io::stdout().lock());
     match args[..] {
         ["named"] => print(&mut out, named::all()),
+        ["names"] => print(&mut out, named::names()),
         ["heavy"] => print(&mut out, named::heavy()),
         ["large"] => print(&mut out, named::large()),
-        [seed, count] => {
-            let (Ok(seed), Ok(count)) = (seed.parse::<u64>(), count.parse::<u64>()) else {
-                usage()
-            };
-            for s in seed..seed + count {
-                print(&mut out, vec![random::case(s)]);
-            }
-        }
+        [seed, count] => seeds(&mut out, seed, count, random::case),
+        ["names", seed, count] => seeds(&mut out, seed, count, names::case),
         _ => usage(),
     }
     out.flush().expect("the cases can be written");
 }
 
 fn usage() -> ! {
-    eprintln!("generate named|heavy|large, or generate SEED COUNT");
+    eprintln!("generate named|names|heavy|large, or generate [names] SEED COUNT");
     exit(2);
+}
+
+fn seeds(out: &mut impl Write, seed: &str, count: &str, case: fn(u64) -> Case) {
+    let (Ok(seed), Ok(count)) = (seed.parse::<u64>(), count.parse::<u64>()) else { usage() };
+    for s in seed..seed + count {
+        print(out, vec![case(s)]);
+    }
 }
 
 fn print(out: &mut impl Write, cases: Vec<Case>) {

@@ -85,12 +85,17 @@ pub fn positions_on_earth(set: &mut Set) {
     }
 }
 
-/// Control points on a slanted grid, so that they fit a similarity roughly.
+/// The canvas point and the position on the Earth of the k-th control point on
+/// a slanted grid, so that they fit a similarity roughly.
+pub fn spot(k: usize) -> (Point, [f64; 2]) {
+    let (i, j) = ((k % 8) as f64, (k / 8) as f64);
+    let at = [i * 1.5 - j * 0.1, j + 0.25 * i];
+    (at, [10.0 + 0.001 * i - 0.0002 * j, 45.0 + 0.0003 * i + 0.0007 * j])
+}
+
 pub fn grid(doc: Doc, from: usize, to: usize, by_feature: bool) -> Doc {
     (from..to).fold(doc, |doc, k| {
-        let (i, j) = ((k % 8) as f64, (k / 8) as f64);
-        let (name, at) = (format!("c{k:02}"), [i * 1.5 - j * 0.1, j + 0.25 * i]);
-        let (lon, lat) = (10.0 + 0.001 * i - 0.0002 * j, 45.0 + 0.0003 * i + 0.0007 * j);
+        let (name, (at, [lon, lat])) = (format!("c{k:02}"), spot(k));
         if by_feature {
             doc.control(&name, at, lon, lat)
         } else {

@@ -3,6 +3,7 @@
 
 mod bytes;
 mod earth;
+mod names;
 mod shapes;
 mod sizes;
 
@@ -10,6 +11,7 @@ use crate::case::Case;
 use crate::write::*;
 use std::collections::BTreeSet;
 
+pub use names::names;
 pub use sizes::{heavy, large};
 
 #[derive(Default)]
@@ -32,6 +34,12 @@ impl Set {
 
     fn sized(&mut self, name: impl Into<String>, doc: &Doc, change: impl FnOnce(&mut Case)) {
         self.cases.push(Case::doc(name, doc).with(change));
+    }
+
+    fn checked(self) -> Vec<Case> {
+        let names: BTreeSet<&str> = self.cases.iter().map(|c| c.name.as_str()).collect();
+        assert_eq!(names.len(), self.cases.len(), "a name is used twice");
+        self.cases
     }
 }
 
@@ -62,9 +70,7 @@ pub fn all() -> Vec<Case> {
     sizes::wide_and_spent(&mut set);
     sizes::full_slices(&mut set);
     sizes::borders(&mut set);
-    let names: BTreeSet<&str> = set.cases.iter().map(|c| c.name.as_str()).collect();
-    assert_eq!(names.len(), set.cases.len(), "a name is used twice");
-    set.cases
+    set.checked()
 }
 
 /// The next f64 above in magnitude.
