@@ -199,17 +199,3 @@ module _ (more : ℕ) (l t₀ : List ℕ) (n p m : ℕ) (small : p < 33554432) (
             (λ j h e. inl (record { at = j; within = h; is = e }))
             (i .at) (i .within) (i .is);
       }
-
-  pub insert-last : 0 < n → before (keyOf (nameOf more l (getD t₀ (n - 1) 0))) (keyOf name) ≡ true → Inserted more l t₀ (set t₀ n p) n (n + 1) name
-  insert-last have h =
-      insert-gap n
-      (record {
-        within = omega arith;
-        low = λ i k. elim (decLt i (n - 1)) [
-          | yes m ↦ before-trans (keyOf (nameOf more l (getD t₀ i 0))) (keyOf (nameOf more l (getD t₀ (n - 1) 0))) (keyOf name) (tab .rises i (n - 1) m (omega arith)) h
-          | no m ↦ let e : i ≡ n - 1 = omega arith in rw e h
-        ];
-        high = λ i k m. absurd (omega arith);
-      })
-      t₀
-      (opened-none t₀ n)

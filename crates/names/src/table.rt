@@ -86,17 +86,26 @@ fn order(s: &[u8], p: usize, q: usize, n: usize, w: u64, more: u64) -> u8
     order_bytes(s, p + 8, q + 8, n - 7)
 }
 
-// The n bytes behind p among the first `count` entries, by halves.
-pub fn find_name(s: &[u8], t: &[u32], count: usize, p: usize, n: usize, more: u64) -> Found
-    requires { ⌜ (p + 9 + n ≤ room (now s)) × (n + more ≤ 255) × Table more (payload (now s)) (now t) count ⌝ }
+// The n bytes behind p among the first `count` entries, by halves; the entry `first` is looked at first.
+fn find_near(
+    s: &[u8],
+    t: &[u32],
+    count: usize,
+    first: usize,
+    p: usize,
+    n: usize,
+    more: u64,
+) -> Found
+    requires { ⌜ (p + 9 + n ≤ room (now s)) × (n + more ≤ 255) × Table more (payload (now s)) (now t) count
+        × (0 < count → first < count) ⌝ }
     ensures { λ r. ⌜ Searched more (payload (now (s .entry))) (now (t .entry)) count
         (part (payload (now (s .entry))) (p + 1) n) (r .some) (r .at) ⌝ }
 {
     let w = word_of(s, p, n, more) >> spare_bits(n);
     let mut lo = 0usize;
     let mut hi = count;
+    let mut mid = first;
     while lo < hi {
-        let mid = lo + (hi - lo) / 2;
         let o = order(s, t[mid] as usize % SPAN, p, n, w, more);
         if o == 1 {
             return Found {
@@ -106,14 +115,25 @@ pub fn find_name(s: &[u8], t: &[u32], count: usize, p: usize, n: usize, more: u6
         }
         if o == 0 {
             lo = mid + 1;
+            mid = lo + (hi - lo) / 2;
         } else {
             hi = mid;
+            mid = lo + (hi - lo) / 2;
         }
     }
     Found {
         some: false,
         at: lo,
     }
+}
+
+// The n bytes behind p among the first `count` entries.
+pub fn find_name(s: &[u8], t: &[u32], count: usize, p: usize, n: usize, more: u64) -> Found
+    requires { ⌜ (p + 9 + n ≤ room (now s)) × (n + more ≤ 255) × Table more (payload (now s)) (now t) count ⌝ }
+    ensures { λ r. ⌜ Searched more (payload (now (s .entry))) (now (t .entry)) count
+        (part (payload (now (s .entry))) (p + 1) n) (r .some) (r .at) ⌝ }
+{
+    find_near(s, t, count, count / 2, p, n, more)
 }
 
 // The entries from `at` to n - 1 move up by one.
@@ -128,6 +148,13 @@ fn make_room(t: &mut [u32], at: usize, n: usize)
     }
 }
 
+// The last of so many, 0 of none.
+fn last_of(count: usize) -> usize
+    ensures { λ r. ⌜ (0 < count → r < count) ⌝ }
+{
+    if count > 0 { count - 1 } else { 0 }
+}
+
 // The name of n bytes whose length stands at p becomes one of the first `count` entries, unless it is one of them. How
 // many there are then. Most names come in their order: the last entry is looked at first.
 pub fn insert(s: &[u8], t: &mut [u32], count: usize, p: usize, n: usize, more: u64) -> usize
@@ -137,15 +164,7 @@ pub fn insert(s: &[u8], t: &mut [u32], count: usize, p: usize, n: usize, more: u
     ensures { λ r. ⌜ Inserted more (payload (now (s .entry))) (now (t .entry)) (now (t .exit)) count r
         (part (payload (now (s .entry))) (p + 1) n) ⌝ }
 {
-    if count > 0 {
-        let w = word_of(s, p, n, more) >> spare_bits(n);
-        let last = t[count - 1] as usize % SPAN;
-        if order(s, last, p, n, w, more) == 0 {
-            t[count] = p as u32;
-            return count + 1;
-        }
-    }
-    let f = find_name(s, t, count, p, n, more);
+    let f = find_near(s, t, count, last_of(count), p, n, more);
     if f.some {
         return count;
     }
