@@ -85,7 +85,8 @@ macro_rules! rust {
         fn $name(stream: &[u8]) -> Run {
             use $crate_name::Geometry;
             let start = Instant::now();
-            let parsed = $crate_name::stream::parse(stream).unwrap_or_else(|n| panic!("refused by {n}"));
+            let parsed =
+                $crate_name::stream::parse(stream).unwrap_or_else(|n| panic!("refused by {n}"));
             let scene = $crate_name::georeference_scene(&parsed.scene, &parsed.options);
             let seconds = start.elapsed().as_secs_f64();
             let Ok(scene) = black_box(scene) else { return (seconds, None) };
@@ -124,10 +125,7 @@ fn timed_stream(stream: &[u8], lent: &mut Lent, rounds: usize) -> Timed {
         all[2].push(library(stream).0);
         positions = ours.expect("accepted");
     }
-    Timed {
-        seconds: all.map(median),
-        positions,
-    }
+    Timed { seconds: all.map(median), positions }
 }
 
 /// NaN of none.
@@ -200,9 +198,7 @@ fn segments() -> Doc {
 
 /// A line of 5,000 points in steps below 100 m.
 fn short_segments() -> Doc {
-    let points: Vec<_> = (0..5000)
-        .map(|k| [k as f64 * 30.0 + 0.1, (k % 7) as f64 * 9.3])
-        .collect();
+    let points: Vec<_> = (0..5000).map(|k| [k as f64 * 30.0 + 0.1, (k % 7) as f64 * 9.3]).collect();
     items(4, |_| Item::new(LINE).points(&points))
 }
 
@@ -215,9 +211,7 @@ fn ellipses() -> Doc {
 }
 
 fn rounded_boxes() -> Doc {
-    items(200, |i| {
-        Item::new(write::BOX).at(i * 3.0, -i).size(90.0 + i, 80.0).rad(20.0)
-    })
+    items(200, |i| Item::new(write::BOX).at(i * 3.0, -i).size(90.0 + i, 80.0).rad(20.0))
 }
 
 fn sharp_boxes() -> Doc {
@@ -280,9 +274,10 @@ fn controls(n: usize) -> Doc {
 struct Names {
     title: &'static str,
     pairs: bool,
-    /// the names in their order, none where a pair lacks its `_lat`
+    /// the i-th of n names, and the i-th label
     name: fn(usize, usize) -> String,
     label: fn(usize, usize) -> String,
+    /// every other pair lacks its `_lat`
     half: bool,
     refused: bool,
 }
@@ -293,7 +288,14 @@ fn scattered(i: usize) -> usize {
 
 impl Names {
     const fn features(title: &'static str, name: fn(usize, usize) -> String) -> Names {
-        Names { title, pairs: false, name, label: |i, _| format!("L{i:07}"), half: false, refused: false }
+        Names {
+            title,
+            pairs: false,
+            name,
+            label: |i, _| format!("L{i:07}"),
+            half: false,
+            refused: false,
+        }
     }
 
     const fn pairs(title: &'static str, name: fn(usize, usize) -> String) -> Names {
@@ -354,7 +356,7 @@ const NAMES: [Names; 9] = [
     },
 ];
 
-/// Names beside as many labels. The Rust takes the product of both, so its largest are timed once or not at all.
+/// Names beside as many labels. The Rust takes the product of both: it is timed once above 2,000, and not at 64,000.
 fn names(lent: &mut Lent, rounds: usize) {
     for kind in NAMES {
         for n in [500, 2000, 8000, 16000, 64000] {
@@ -365,7 +367,7 @@ fn names(lent: &mut Lent, rounds: usize) {
                 let (seconds, ours) = module(&stream, lent);
                 assert_eq!(ours.is_none(), kind.refused, "{} {n}", kind.title);
                 all[0].push(seconds);
-                if n < 64000 || std::env::var_os("GEOPIC_BENCH_ALL").is_some() {
+                if n < 64000 {
                     all[1].push(standins(&stream).0);
                     all[2].push(library(&stream).0);
                 }
@@ -380,56 +382,93 @@ fn names(lent: &mut Lent, rounds: usize) {
 fn largest_names(lent: &mut Lent) {
     const PAYLOAD: usize = 65_536 * write::PAYLOAD;
     let digits = b"0123456789abcdefghijklmnopqrstuvwxyzABCDEFGHIJKLMNOPQRSTUVWXYZ-_";
-    let four = |i: usize| -> String {
-        (0..4).rev().map(|k| digits[i >> (6 * k) & 63] as char).collect()
-    };
+    let four =
+        |i: usize| -> String { (0..4).rev().map(|k| digits[i >> (6 * k) & 63] as char).collect() };
     let long = |i: usize| -> String { "z".repeat(27) + &four(i) };
     let feature = |name: &str| Doc::new().feature(name, 7.0, 45.0).records()[1].clone();
     let place = |name: &str| Doc::new().place(name, [1.0, 2.0]).records()[1].clone();
     let item = |name: &str| Doc::new().item(Item::new(LINE).label(name)).records()[1].clone();
     let geo = sheet().records();
-    let fill = |name: &dyn Fn(usize) -> String, label: &dyn Fn(usize) -> Vec<u8>, share: f64| -> Vec<u8> {
-        let mut payload = geo[0].clone();
-        let mut i = 0;
-        while (payload.len() as f64) < PAYLOAD as f64 * share - 400.0 {
-            payload.extend(feature(&name(i)));
-            i += 1;
-        }
-        payload.extend(geo[1..].concat());
-        let mut j = 0;
-        loop {
-            let record = label(j);
-            if payload.len() + record.len() >= PAYLOAD {
-                break;
+    let fill =
+        |name: &dyn Fn(usize) -> String, label: &dyn Fn(usize) -> Vec<u8>, share: f64| -> Vec<u8> {
+            let mut payload = geo[0].clone();
+            let mut i = 0;
+            while (payload.len() as f64) < PAYLOAD as f64 * share - 400.0 {
+                payload.extend(feature(&name(i)));
+                i += 1;
             }
-            payload.extend(record);
-            j += 1;
-        }
-        payload.push(0);
-        write::blocks(&payload)
-    };
+            payload.extend(geo[1..].concat());
+            let mut j = 0;
+            loop {
+                let record = label(j);
+                if payload.len() + record.len() >= PAYLOAD {
+                    break;
+                }
+                payload.extend(record);
+                j += 1;
+            }
+            payload.push(0);
+            write::blocks(&payload)
+        };
     let mut one = |title: &str, stream: Vec<u8>| {
         let (seconds, ours) = module(&stream, lent);
-        println!("{title:60}{seconds:8.3}  {}", if ours.is_some() { "accepted" } else { "refused" });
+        println!(
+            "{title:60}{seconds:8.3}  {}",
+            if ours.is_some() { "accepted" } else { "refused" }
+        );
     };
     let all = 1 << 24;
-    one("names and items in no order", fill(&|i| four(scattered(i)), &|j| item(&four(scattered(j + 800_000))), 0.5));
-    one("names descending", fill(&|i| four(all - 1 - i), &|j| item(&four(scattered(j + 800_000))), 0.5));
-    one("names and places in no order", fill(&|i| four(scattered(i)), &|j| place(&four(scattered(j + 800_000))), 0.5));
-    one("27 bytes alike", fill(&|i| long(scattered(i)), &|j| item(&long(scattered(j + 800_000))), 0.5));
-    one("7 bytes alike", fill(&|i| "zzz".to_string() + &four(i), &|j| item(&("zzz".to_string() + &four(j + 800_000))), 0.5));
+    one(
+        "names and items in no order",
+        fill(&|i| four(scattered(i)), &|j| item(&four(scattered(j + 800_000))), 0.5),
+    );
+    one(
+        "names descending",
+        fill(&|i| four(all - 1 - i), &|j| item(&four(scattered(j + 800_000))), 0.5),
+    );
+    one(
+        "names and places in no order",
+        fill(&|i| four(scattered(i)), &|j| place(&four(scattered(j + 800_000))), 0.5),
+    );
+    one(
+        "27 bytes alike",
+        fill(&|i| long(scattered(i)), &|j| item(&long(scattered(j + 800_000))), 0.5),
+    );
+    one(
+        "7 bytes alike",
+        fill(
+            &|i| "zzz".to_string() + &four(i),
+            &|j| item(&("zzz".to_string() + &four(j + 800_000))),
+            0.5,
+        ),
+    );
     for k in [8, 12, 16, 20, 24] {
         let name = |i: usize| -> String { "z".repeat(k) + &four(i) };
-        one(&format!("{k} bytes alike"), fill(&|i| name(scattered(i)), &|j| item(&name(scattered(j + 800_000))), 0.5));
+        one(
+            &format!("{k} bytes alike"),
+            fill(&|i| name(scattered(i)), &|j| item(&name(scattered(j + 800_000))), 0.5),
+        );
     }
-    one("an anchor in every batch",
-        fill(&|i| if i % 4000 == 0 { "A".into() } else { four(scattered(i)) },
-             &|j| if j == 0 { place("A") } else { item(&four(scattered(j + 800_000))) }, 0.5));
-    one("64 anchors in every batch, more names",
-        fill(&|i| if i % 125 == 0 { format!("A{}", i / 125 % 64) } else { four(scattered(i)) },
-             &|j| if j < 64 { place(&format!("A{j}")) } else { item(&four(scattered(j + 800_000))) }, 0.6));
-    one("200,000 names again and again, all resolve",
-        fill(&|i| four(scattered(i % 200_000)), &|j| place(&four(scattered(j % 200_000))), 0.5));
+    one(
+        "an anchor in every batch",
+        fill(
+            &|i| if i % 4000 == 0 { "A".into() } else { four(scattered(i)) },
+            &|j| if j == 0 { place("A") } else { item(&four(scattered(j + 800_000))) },
+            0.5,
+        ),
+    );
+    one(
+        "64 anchors in every batch, more names",
+        fill(
+            &|i| if i % 125 == 0 { format!("A{}", i / 125 % 64) } else { four(scattered(i)) },
+            &|j| if j < 64 { place(&format!("A{j}")) } else { item(&four(scattered(j + 800_000))) },
+            0.6,
+        ),
+    );
+    one(
+        "200,000 names again and again, all resolve",
+        fill(&|i| four(scattered(i % 200_000)), &|j| place(&four(scattered(j % 200_000))), 0.5),
+    );
     one("two names, one label", fill(&|i| ["a", "b"][i % 2].into(), &|_| item("c"), 0.5));
     one("all names", fill(&|i| four(scattered(i)), &|_| vec![0; PAYLOAD], 1.0));
     one("one label a million times", fill(&|_| "a".into(), &|_| place("a"), 0.00002));
@@ -437,7 +476,9 @@ fn largest_names(lent: &mut Lent) {
         let mut payload = geo[0].clone();
         let mut records = geo[1..].to_vec();
         for i in 0..count {
-            let doc = Doc::new().var(&format!("{}_lat", four(i)), 45.0).var(&format!("{}_lon", four(i)), 7.0);
+            let doc = Doc::new()
+                .var(&format!("{}_lat", four(i)), 45.0)
+                .var(&format!("{}_lon", four(i)), 7.0);
             records.extend(doc.records()[1..].to_vec());
         }
         records.sort_by(|a, b| a[2..2 + a[1] as usize].cmp(&b[2..2 + b[1] as usize]));
@@ -488,8 +529,7 @@ fn one(name: &str) {
     let all = BY_POSITION.iter().chain(&OF_ONE_SIZE);
     for (_, sheet) in all.filter(|(n, _)| n.starts_with(name)) {
         let stream = sheet().stream();
-        let times = std::env::var("GEOPIC_BENCH_TIMES").ok().and_then(|n| n.parse().ok()).unwrap_or(10);
-        for _ in 0..times {
+        for _ in 0..10 {
             black_box(module(&stream, lent));
         }
     }
@@ -497,26 +537,15 @@ fn one(name: &str) {
 
 fn main() {
     let args: Vec<String> = std::env::args().skip(1).collect();
-    if let [mode] = &args[..] && mode == "large" {
-        let lent = &mut Lent::with_work(2048);
-        return largest_names(lent);
-    }
-    if let [mode] = &args[..] && mode == "names" {
+    if let [mode] = &args[..]
+        && mode == "names"
+    {
         let lent = &mut Lent::with_work(2048);
         names(lent, 5);
         return largest_names(lent);
     }
-    if let [mode] = &args[..] && mode == "small" {
-        let lent = &mut Lent::with_work(2048);
-        growth("items", &[1, 4, 16, 64], dots, lent, 501);
-        growth("control points", &[1, 4, 16, 64], controls, lent, 501);
-        growth("host features", &[1000, 4000, 16000, 64000], features, lent, 21);
-        growth("variables", &[1000, 4000, 16000, 64000], variables, lent, 11);
-        growth("pairs of variables", &[1000, 4000, 16000], pairs, lent, 11);
-        return;
-    }
     if let [mode, name] = &args[..] {
-        assert_eq!(mode, "one", "sheets [ROUNDS] or sheets one NAME");
+        assert_eq!(mode, "one", "sheets [ROUNDS], sheets names or sheets one NAME");
         return one(name);
     }
     let rounds = args.first().and_then(|n| n.parse().ok()).unwrap_or(11);
