@@ -1,11 +1,13 @@
 // Eight bytes as one big-endian number, whose order is that of the bytes.
 ghost use mathlib.Core.Path.{_≡_};
-ghost use Prim.Native.Nat.{_+_, _*_, _≤_};
+ghost use mathlib.Core.List.{List};
+ghost use Prim.Native.Nat.{ℕ, _+_, _*_, _≤_};
 ghost use lib.ListN.{length};
 ghost use Rattle.stream.specs.Payload.{payload};
 ghost use Rattle.stream.specs.Contracts.Payload.{room};
+ghost use Rattle.stream.specs.Numbers.{u16At, u32At, u64At};
+ghost use Rattle.stream.specs.Laws.Numbers.{Bytes};
 ghost use Rattle.names.specs.Contracts.Words.{be16At, be32At, be64At};
-use stream::byte;
 
 // A number from its two halves.
 fn join16(high: u8, low: u8) -> u16
@@ -48,21 +50,30 @@ fn be8(s: &[u8], p: usize) -> u64
     join64(be4(s, p), be4(s, p + 4))
 }
 
-// Of the payload, a check between the bytes or not.
-fn apart2(s: &[u8], p: usize) -> u16
-    requires { ⌜ p + 2 ≤ room (now s) ⌝ }
-    ensures { λ r. ⌜ r ≡ be16At (payload (now (s .entry))) p ⌝ }
+// The number of the same bytes in the other order.
+fn swap2(x: u16) -> u16
+    ensures { λ r. ⌜ ((l : List ℕ) (p : ℕ) → Bytes l → x ≡ u16At l p → r ≡ be16At l p) ⌝ }
 {
-    join16(byte(s, 0, p), byte(s, 0, p + 1))
+    join16((x % 256) as u8, (x / 256) as u8)
 }
 
-fn apart4(s: &[u8], p: usize) -> u32
-    requires { ⌜ p + 4 ≤ room (now s) ⌝ }
-    ensures { λ r. ⌜ r ≡ be32At (payload (now (s .entry))) p ⌝ }
+fn swap4(x: u32) -> u32
+    ensures { λ r. ⌜ ((l : List ℕ) (p : ℕ) → Bytes l → x ≡ u32At l p → r ≡ be32At l p) ⌝ }
 {
-    join32(apart2(s, p), apart2(s, p + 2))
+    join32(swap2((x % 65536) as u16), swap2((x / 65536) as u16))
 }
 
+fn swap8(x: u64) -> u64
+    ensures { λ r. ⌜ ((l : List ℕ) (p : ℕ) → Bytes l → x ≡ u64At l p → r ≡ be64At l p) ⌝ }
+{
+    join64(
+        swap4((x % 4294967296) as u32),
+        swap4((x / 4294967296) as u32),
+    )
+}
+
+// Of the payload. Where a check stands between the bytes they are read as any other number and swapped; were they read
+// one by one, the compiler would do so where no check stands between them, too.
 pub fn word_at(s: &[u8], p: usize) -> u64
     requires { ⌜ p + 8 ≤ room (now s) ⌝ }
     ensures { λ r. ⌜ r ≡ be64At (payload (now (s .entry))) p ⌝ }
@@ -71,5 +82,5 @@ pub fn word_at(s: &[u8], p: usize) -> u64
     if run.some {
         return be8(s, run.at);
     }
-    join64(apart4(s, p), apart4(s, p + 4))
+    swap8(stream::long(s, 0, p))
 }
