@@ -44,7 +44,8 @@ fn draw_box(
     warnings: &mut [u32],
     st: State,
 ) -> State
-    requires { ⌜ Fits (sheetBy (length (now work)) (now positions) (now features) (now warnings) st) (st .budget) ⌝ }
+    requires { ⌜ Fits (sheetBy (length (now work)) (now positions) (now features) (now warnings) st)
+        (st .budget) ⌝ }
     ensures { λ r. ⌜ Draws (boxTrace cx p x y w h rad (st .budget))
         (now (work .entry)) (now (positions .entry)) (now (features .entry)) (now (warnings .entry)) st
         (now (work .exit)) (now (positions .exit)) (now (features .exit)) (now (warnings .exit)) r ⌝ }
@@ -78,7 +79,8 @@ fn draw_ellipse(
     warnings: &mut [u32],
     st: State,
 ) -> State
-    requires { ⌜ Fits (sheetBy (length (now work)) (now positions) (now features) (now warnings) st) (st .budget) ⌝ }
+    requires { ⌜ Fits (sheetBy (length (now work)) (now positions) (now features) (now warnings) st)
+        (st .budget) ⌝ }
     ensures { λ r. ⌜ Draws (ellipseTrace cx p x y rx ry (st .budget))
         (now (work .entry)) (now (positions .entry)) (now (features .entry)) (now (warnings .entry)) st
         (now (work .exit)) (now (positions .exit)) (now (features .exit)) (now (warnings .exit)) r ⌝ }
@@ -111,7 +113,8 @@ fn draw_points(
     warnings: &mut [u32],
     st: State,
 ) -> State
-    requires { ⌜ Fits (sheetBy (length (now work)) (now positions) (now features) (now warnings) st) (st .budget) ⌝ }
+    requires { ⌜ Fits (sheetBy (length (now work)) (now positions) (now features) (now warnings) st)
+        (st .budget) ⌝ }
     ensures { λ r. ⌜ Draws (pointsTrace cx p closed (pointsFrom (payload (now (s .entry))) next 0)
         (pointsFrom (payload (now (s .entry))) next 1) (st .budget))
         (now (work .entry)) (now (positions .entry)) (now (features .entry)) (now (warnings .entry)) st

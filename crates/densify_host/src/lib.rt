@@ -42,7 +42,8 @@ pub struct Grant {
 }
 
 fn drawing_of(d: Done) -> Drawing
-    ensures { λ r. ⌜ (r .ok ≡ d .ok) × (r .at ≡ d .at) × (r .left ≡ d .budget .left) × (r .hit ≡ d .budget .hit) ⌝ }
+    ensures { λ r. ⌜ (r .ok ≡ d .ok) × (r .at ≡ d .at) × (r .left ≡ d .budget .left)
+        × (r .hit ≡ d .budget .hit) ⌝ }
 {
     let b = d.budget;
     Drawing {

@@ -63,7 +63,8 @@ fn refuse(number: u32) -> Answer
 }
 
 fn clear_floats(out: &mut [f64]) -> usize
-    ensures { λ r. ⌜ (now (out .exit) ≡ clear f0 (length (now (out .entry)))) × (r ≡ length (now (out .entry))) ⌝ }
+    ensures { λ r. ⌜ (now (out .exit) ≡ clear f0 (length (now (out .entry))))
+        × (r ≡ length (now (out .entry))) ⌝ }
 {
     let n = out.len();
     let mut i = 0usize;
@@ -75,7 +76,8 @@ fn clear_floats(out: &mut [f64]) -> usize
 }
 
 fn clear_words(out: &mut [u32]) -> usize
-    ensures { λ r. ⌜ (now (out .exit) ≡ clear 0 (length (now (out .entry)))) × (r ≡ length (now (out .entry))) ⌝ }
+    ensures { λ r. ⌜ (now (out .exit) ≡ clear 0 (length (now (out .entry))))
+        × (r ≡ length (now (out .entry))) ⌝ }
 {
     let n = out.len();
     let mut i = 0usize;
@@ -147,7 +149,8 @@ fn draw(
 }
 
 fn accept(r: Registration, st: State) -> Answer
-    ensures { λ a. ⌜ ((w : ℕ) (p : List Float) (f v : List ℕ) → a ≡ acceptance r (sheetBy w p f v st) (st .budget)) ⌝ }
+    ensures { λ a. ⌜ ((w : ℕ) (p : List Float) (f v : List ℕ)
+        → a ≡ acceptance r (sheetBy w p f v st) (st .budget)) ⌝ }
 {
     let b = st.budget;
     let mut spent = 0u32;

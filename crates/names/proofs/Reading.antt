@@ -9,8 +9,6 @@ use native.Mathlib.Numerals.{add-one}
 use native.Mathlib.Omega.{arith}
 use lib.ListN.{length, getD, take, drop, length-take, length-drop, take-append-drop, drop-of-length-le, List·getD-eq-default}
 use lib.Seq.{drop-cons, getD-take, getD-drop, take-add, take-take, take-nil, drop-drop}
-use Rattle.stream.specs.Payload.{payload}
-use Rattle.stream.specs.Contracts.Payload.{rest, Straight}
 use Rattle.stream.specs.Laws.Numbers.{Bytes}
 use Rattle.records.specs.Layout.{before}
 use Rattle.records.specs.Records.{part}
@@ -20,30 +18,6 @@ use Rattle.names.specs.Contracts.Words.{be16At, be32At, be64At, wordOf, 
 use Rattle.names.specs.Contracts.Table.{nameAt, orderOf, Stands}
 use Rattle.names.proofs.Numbers.{beOf, Small, be-less, be-before, be-same, be-append, be-cut}
 use Rattle.names.proofs.Orders.{order-less, order-more, order-same, level-less, level-more, order-front}
-
--- ---- the same bytes, the same number
-module _ (a b : List ℕ) (x y : ℕ) (h : (k : ℕ) → k < 8 → getD a (x + k) 0 ≡ getD b (y + k) 0) where
-  by-index : (k i j : ℕ) → k < 8 → i ≡ x + k → j ≡ y + k → getD a i 0 ≡ getD b j 0
-  by-index k i j l e f = rw (e, f) (h k l)
-
-  number-same : be64At a x ≡ be64At b y
-  unfolding be64At be32At be16At
-  number-same =
-      omega (
-        arith,
-        by-index 0 x y (omega arith) (omega arith) (omega arith),
-        by-index 1 (x + 1) (y + 1) (omega arith) refl refl,
-        by-index 2 (x + 2) (y + 2) (omega arith) refl refl,
-        by-index 3 (x + 2 + 1) (y + 2 + 1) (omega arith) (omega arith) (omega arith),
-        by-index 4 (x + 4) (y + 4) (omega arith) refl refl,
-        by-index 5 (x + 4 + 1) (y + 4 + 1) (omega arith) (omega arith) (omega arith),
-        by-index 6 (x + 4 + 2) (y + 4 + 2) (omega arith) (omega arith) (omega arith),
-        by-index 7 (x + 4 + 2 + 1) (y + 4 + 2 + 1) (omega arith) (omega arith) (omega arith),
-      )
-
-pub number-straight : (s : List ℕ) (p at : ℕ) → Straight s 0 p 8 at → be64At s at ≡ be64At (payload s) p
-unfolding rest
-number-straight s p at h = number-same s (payload s) at p (h .same)
 
 -- a number without the spare bits
 pub front-is : (n : ℕ) {u v k : ℕ} → u ≡ v → k ≡ 8 * (7 - n) → u / 2 ^ k ≡ frontOf v n

@@ -13,8 +13,8 @@ use Rattle.records.specs.declared.search.Hit.{Hit}
 use Rattle.scene.specs.Scene.{Maybe, none, some}
 use Rattle.scene.specs.Labels.{same, pick, Best, bestPlace, bestItem, pointOf, pointOfLabel}
 use Rattle.scene.specs.Contracts.Answers.{placesAt, itemsAt}
-use Rattle.scene.proofs.Found.{Answer, One}
-use Rattle.scene.proofs.Folds.{Chosen, no-place, next-place, no-item, next-item}
+use Rattle.scene.specs.Laws.Found.{Answer, One}
+use Rattle.scene.specs.Laws.Folds.{Chosen, no-place, next-place, no-item, next-item}
 use Rattle.names.specs.Contracts.Table.{nameAt, nameOf, markOf, Table, Unmarked}
 use Rattle.names.specs.Contracts.Batch.{isSome, spotOf, Slots, slotsOf, slotAt, Kept, Stays, Met, placeStep, placesStep, itemStep, itemsStep, Noted}
 use Rattle.names.proofs.Meeting.{kept-same, met-none}

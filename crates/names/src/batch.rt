@@ -56,7 +56,8 @@ fn best_at(keys: &[u32], spots: &[f64], m: usize) -> Best
 }
 
 fn put_best(keys: &mut [u32], spots: &mut [f64], m: usize, b: Best)
-    requires { ⌜ (4 * m + 4 ≤ length (now keys)) × (2 * m + 2 ≤ length (now spots)) × (b .key .order < 4294967296) ⌝ }
+    requires { ⌜ (4 * m + 4 ≤ length (now keys)) × (2 * m + 2 ≤ length (now spots))
+        × (b .key .order < 4294967296) ⌝ }
     ensures { λ r. ⌜ Put (now (keys .entry)) (now (keys .exit)) (now (spots .entry)) (now (spots .exit)) m b ⌝ }
 {
     let key = b.key;
@@ -123,7 +124,8 @@ fn note_place(
 ) -> usize
     requires { ⌜ (q + 10 + getD (payload (now s)) (q + 1) 0 ≤ room (now s))
         × (getD (payload (now s)) (q + 1) 0 + more ≤ 255) × (i < 4294967296)
-        × Table more (payload (now s)) (now t) count × (length (now keys) ≡ 256) × (length (now spots) ≡ 128) ⌝ }
+        × Table more (payload (now s)) (now t) count × (length (now keys) ≡ 256)
+        × (length (now spots) ≡ 128) ⌝ }
     ensures { λ r. ⌜ Met more (payload (now (s .entry))) count
         (slotsOf (now (t .entry)) (now (keys .entry)) (now (spots .entry)) used)
         (slotsOf (now (t .exit)) (now (keys .exit)) (now (spots .exit)) r)
@@ -154,7 +156,8 @@ fn note_item(
 ) -> usize
     requires { ⌜ (q + 12 + getD (payload (now s)) (q + 3) 0 ≤ room (now s))
         × (getD (payload (now s)) (q + 3) 0 + more ≤ 255) × (i < 4294967296)
-        × Table more (payload (now s)) (now t) count × (length (now keys) ≡ 256) × (length (now spots) ≡ 128) ⌝ }
+        × Table more (payload (now s)) (now t) count × (length (now keys) ≡ 256)
+        × (length (now spots) ≡ 128) ⌝ }
     ensures { λ r. ⌜ Met more (payload (now (s .entry))) count
         (slotsOf (now (t .entry)) (now (keys .entry)) (now (spots .entry)) used)
         (slotsOf (now (t .exit)) (now (keys .exit)) (now (spots .exit)) r)

@@ -129,7 +129,8 @@ fn find_near(
 
 // The n bytes behind p among the first `count` entries.
 pub fn find_name(s: &[u8], t: &[u32], count: usize, p: usize, n: usize, more: u64) -> Found
-    requires { ⌜ (p + 9 + n ≤ room (now s)) × (n + more ≤ 255) × Table more (payload (now s)) (now t) count ⌝ }
+    requires { ⌜ (p + 9 + n ≤ room (now s)) × (n + more ≤ 255)
+        × Table more (payload (now s)) (now t) count ⌝ }
     ensures { λ r. ⌜ Searched more (payload (now (s .entry))) (now (t .entry)) count
         (part (payload (now (s .entry))) (p + 1) n) (r .some) (r .at) ⌝ }
 {

@@ -2,7 +2,6 @@
 ghost use mathlib.Core.Path.{_≡_};
 ghost use mathlib.Core.List.{List};
 ghost use Prim.Native.Nat.{ℕ, _+_, _*_, _≤_};
-ghost use lib.ListN.{length};
 ghost use Rattle.stream.specs.Payload.{payload};
 ghost use Rattle.stream.specs.Contracts.Payload.{room};
 ghost use Rattle.stream.specs.Numbers.{u16At, u32At, u64At};
@@ -28,28 +27,6 @@ fn join64(high: u32, low: u32) -> u64
     4294967296 * (high as u64) + low as u64
 }
 
-// Of bytes that stand side by side.
-fn be2(s: &[u8], p: usize) -> u16
-    requires { ⌜ p + 2 ≤ length (now s) ⌝ }
-    ensures { λ r. ⌜ r ≡ be16At (now (s .entry)) p ⌝ }
-{
-    join16(s[p], s[p + 1])
-}
-
-fn be4(s: &[u8], p: usize) -> u32
-    requires { ⌜ p + 4 ≤ length (now s) ⌝ }
-    ensures { λ r. ⌜ r ≡ be32At (now (s .entry)) p ⌝ }
-{
-    join32(be2(s, p), be2(s, p + 2))
-}
-
-fn be8(s: &[u8], p: usize) -> u64
-    requires { ⌜ p + 8 ≤ length (now s) ⌝ }
-    ensures { λ r. ⌜ r ≡ be64At (now (s .entry)) p ⌝ }
-{
-    join64(be4(s, p), be4(s, p + 4))
-}
-
 // The number of the same bytes in the other order.
 fn swap2(x: u16) -> u16
     ensures { λ r. ⌜ ((l : List ℕ) (p : ℕ) → Bytes l → x ≡ u16At l p → r ≡ be16At l p) ⌝ }
@@ -72,15 +49,10 @@ fn swap8(x: u64) -> u64
     )
 }
 
-// Of the payload. Where a check stands between the bytes they are read as any other number and swapped; were they read
-// one by one, the compiler would do so where no check stands between them, too.
+// The eight bytes at p. The number that they are in the stream's order is one load, and so is that of the other order.
 pub fn word_at(s: &[u8], p: usize) -> u64
     requires { ⌜ p + 8 ≤ room (now s) ⌝ }
     ensures { λ r. ⌜ r ≡ be64At (payload (now (s .entry))) p ⌝ }
 {
-    let run = stream::run_at(s, 0, p, 8);
-    if run.some {
-        return be8(s, run.at);
-    }
     swap8(stream::long(s, 0, p))
 }

@@ -2,8 +2,5 @@ pub mod Values
 pub mod Agreeing
 pub mod Keys
 pub mod Means
-pub mod Found
 pub mod Reading
-pub mod Items
 pub mod Starts
-pub mod Folds

@@ -22,7 +22,7 @@ use Rattle.scene.specs.declared.sections.Path.{Path}
 use Rattle.scene.specs.Scene.{numberAt, pointAt, pointsAt, featureAt, variableAt, placeAt, formAt, pathAt}
 use Rattle.scene.specs.Contracts.Answers.{Within, PathWithin, featuresAt, featuresBy, featureBy, variablesAt, placesAt, pointsFrom, pointsBy, pathsFrom, pathsBy}
 use Rattle.scene.specs.Laws.Shift.{part-drop, number-drop, point-drop, points-drop, cubics-drop}
-use Rattle.scene.proofs.Found.{nothing, One, Named, one-listed, one-first, points-end, cubics-end, polyline-ends}
+use Rattle.scene.specs.Laws.Found.{nothing, One, Named, one-listed, one-first, points-end, cubics-end, polyline-ends}
 
 -- ---- a record that begins with a name
 module _ {s : List ℕ} {p t more n : ℕ} {h : Hit} (f : Named s p t h more n) where

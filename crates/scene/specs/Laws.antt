@@ -6,3 +6,6 @@ pub mod Widths
 pub mod Answers
 pub mod Rising
 pub mod Samples
+pub mod Found
+pub mod Folds
+pub mod Items

@@ -86,7 +86,8 @@ fn first_start(s: &[u8], p: usize) -> Spot
 }
 
 fn mean_or_start(s: &[u8], p: usize) -> Spot
-    ensures { λ r. ⌜ spotBy r ≡ meanOrStart (pointsFrom (payload (now (s .entry))) p 0) (pathsFrom (payload (now (s .entry))) p 0) ⌝ }
+    ensures { λ r. ⌜ spotBy r ≡ meanOrStart (pointsFrom (payload (now (s .entry))) p 0)
+        (pathsFrom (payload (now (s .entry))) p 0) ⌝ }
 {
     let ps = points_of(s, p, 0);
     if !ps.some {
@@ -168,7 +169,8 @@ pub fn consider_place(s: &[u8], b: Best, q: usize, i: usize) -> Best
 // The best of the places from p on, the name having n bytes at `at`. Only those that carry it are read whole.
 fn best_place(s: &[u8], p: usize, at: usize, n: usize) -> Placed
     requires { ⌜ at + n ≤ room (now s) ⌝ }
-    ensures { λ r. ⌜ bestBy (r .best) ≡ bestPlace (part (payload (now (s .entry))) at n) 0 (placesAt (payload (now (s .entry))) p) none ⌝ }
+    ensures { λ r. ⌜ bestBy (r .best) ≡ bestPlace (part (payload (now (s .entry))) at n) 0
+        (placesAt (payload (now (s .entry))) p) none ⌝ }
     ensures { λ r. ⌜ itemsAt (payload (now (s .entry))) p ≡ itemsAt (payload (now (s .entry))) (r .end) ⌝ }
 {
     let mut b = Best {
@@ -199,7 +201,8 @@ fn best_place(s: &[u8], p: usize, at: usize, n: usize) -> Placed
 
 // An item of the label: its reference point, if it has one.
 fn consider_reference(s: &[u8], b: Best, it: Item, i: usize) -> Best
-    ensures { λ r. ⌜ bestBy r ≡ considerAt (bestBy b) (itemKey (itemBy (payload (now (s .entry))) it) i) (referencePoint (itemBy (payload (now (s .entry))) it)) ⌝ }
+    ensures { λ r. ⌜ bestBy r ≡ considerAt (bestBy b) (itemKey (itemBy (payload (now (s .entry))) it) i)
+        (referencePoint (itemBy (payload (now (s .entry))) it)) ⌝ }
 {
     let spot = reference_point(s, it);
     if !spot.some {
@@ -228,7 +231,8 @@ pub fn consider_item(s: &[u8], b: Best, q: usize, i: usize) -> Best
 // The best of these and of the items from p on.
 fn best_item(s: &[u8], p: usize, at: usize, n: usize, best: Best) -> Best
     requires { ⌜ at + n ≤ room (now s) ⌝ }
-    ensures { λ r. ⌜ bestBy r ≡ bestItem (part (payload (now (s .entry))) at n) 0 (itemsAt (payload (now (s .entry))) p) (bestBy best) ⌝ }
+    ensures { λ r. ⌜ bestBy r ≡ bestItem (part (payload (now (s .entry))) at n) 0
+        (itemsAt (payload (now (s .entry))) p) (bestBy best) ⌝ }
 {
     let mut b = best;
     let mut q = p;
@@ -249,7 +253,8 @@ fn best_item(s: &[u8], p: usize, at: usize, n: usize, best: Best) -> Best
 // The point that the label of n bytes at `at` names, among the places and items from p on.
 pub fn point_of_label(s: &[u8], p: usize, at: usize, n: usize) -> Spot
     requires { ⌜ at + n ≤ room (now s) ⌝ }
-    ensures { λ r. ⌜ spotBy r ≡ pointOfLabel (part (payload (now (s .entry))) at n) (placesAt (payload (now (s .entry))) p) (itemsAt (payload (now (s .entry))) p) ⌝ }
+    ensures { λ r. ⌜ spotBy r ≡ pointOfLabel (part (payload (now (s .entry))) at n)
+        (placesAt (payload (now (s .entry))) p) (itemsAt (payload (now (s .entry))) p) ⌝ }
 {
     let placed = best_place(s, p, at, n);
     let places = placed.best;

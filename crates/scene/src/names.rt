@@ -49,7 +49,8 @@ pub fn is_named(s: &[u8], p: usize, n: usize, name: &[u8]) -> bool
 // Whether an item whose label has n bytes at p, none where n is 0, carries the label of m bytes at q.
 pub fn is_labelled(s: &[u8], p: usize, n: usize, q: usize, m: usize) -> bool
     requires { ⌜ (p + n ≤ room (now s)) × (q + m ≤ room (now s)) ⌝ }
-    ensures { λ r. ⌜ r ≡ carries (labelBy (payload (now (s .entry))) p n) (part (payload (now (s .entry))) q m) ⌝ }
+    ensures { λ r. ⌜ r ≡ carries (labelBy (payload (now (s .entry))) p n)
+        (part (payload (now (s .entry))) q m) ⌝ }
 {
     if n == 0 {
         return false;
@@ -60,7 +61,8 @@ pub fn is_labelled(s: &[u8], p: usize, n: usize, q: usize, m: usize) -> bool
 // Whether the name that stands at q, its length first, is the n bytes at `at`.
 pub fn is_called(s: &[u8], q: usize, at: usize, n: usize) -> bool
     requires { ⌜ (q + 1 + getD (payload (now s)) q 0 ≤ room (now s)) × (at + n ≤ room (now s)) ⌝ }
-    ensures { λ r. ⌜ r ≡ same (part (payload (now (s .entry))) (q + 1) (getD (payload (now (s .entry))) q 0)) (part (payload (now (s .entry))) at n) ⌝ }
+    ensures { λ r. ⌜ r ≡ same (part (payload (now (s .entry))) (q + 1) (getD (payload (now (s .entry))) q 0))
+        (part (payload (now (s .entry))) at n) ⌝ }
 {
     same_name(s, q + 1, wide(byte(s, 0, q)), at, n)
 }
@@ -68,7 +70,8 @@ pub fn is_called(s: &[u8], q: usize, at: usize, n: usize) -> bool
 // The same of an item's label, none where its length is 0.
 pub fn bears(s: &[u8], q: usize, at: usize, n: usize) -> bool
     requires { ⌜ (q + 1 + getD (payload (now s)) q 0 ≤ room (now s)) × (at + n ≤ room (now s)) ⌝ }
-    ensures { λ r. ⌜ r ≡ carries (labelBy (payload (now (s .entry))) (q + 1) (getD (payload (now (s .entry))) q 0)) (part (payload (now (s .entry))) at n) ⌝ }
+    ensures { λ r. ⌜ r ≡ carries (labelBy (payload (now (s .entry))) (q + 1)
+        (getD (payload (now (s .entry))) q 0)) (part (payload (now (s .entry))) at n) ⌝ }
 {
     is_labelled(s, q + 1, wide(byte(s, 0, q)), at, n)
 }

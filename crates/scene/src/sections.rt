@@ -108,7 +108,8 @@ pub struct Path {
 
 // The name of the first host feature from p on, for callers that need no more of it; its two floats follow the name.
 pub fn next_name(s: &[u8], p: usize) -> FeatureName
-    ensures { λ r. ⌜ featuresAt (payload (now (s .entry))) p ≡ featuresBy (payload (now (s .entry))) (featureBy (payload (now (s .entry))) r) ⌝ }
+    ensures { λ r. ⌜ featuresAt (payload (now (s .entry))) p ≡ featuresBy (payload (now (s .entry)))
+        (featureBy (payload (now (s .entry))) r) ⌝ }
     ensures { λ r. ⌜ (r .some ≡ true → Within (room (now (s .entry))) p (r .at) (r .len + 16) (r .next)) ⌝ }
     ensures { λ r. ⌜ Later (payload (now (s .entry))) 3 p (r .next) ⌝ }
     ensures { λ r. ⌜ (r .some ≡ true → Headed (payload (now (s .entry))) (r .at) (r .len)) ⌝ }

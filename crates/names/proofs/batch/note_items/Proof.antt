@@ -9,8 +9,8 @@ use Rattle.stream.specs.Payload.{payload}
 use Rattle.stream.specs.Contracts.Payload.{room}
 use Rattle.records.specs.declared.search.Hit.{Hit}
 use Rattle.records.specs.Laws.Search.{ItemFound, standing-tells}
-use Rattle.scene.proofs.Found.{One, one-found}
-use Rattle.scene.proofs.Items.{label-ends}
+use Rattle.scene.specs.Laws.Found.{One, one-found}
+use Rattle.scene.specs.Laws.Items.{label-ends}
 use Rattle.names.specs.Contracts.Batch.{slotsOf, itemsStep}
 use Rattle.names.proofs.Walking.{Walk, walk-start, walk-on, walk-end, table-same, itemsFrom, items-all, items-none, items-one}
 use Rattle.names.proofs.batch.note_items.Statement.{statement}

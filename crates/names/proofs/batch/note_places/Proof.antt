@@ -8,7 +8,7 @@ use Rattle.stream.specs.Contracts.Payload.{room}
 use Rattle.records.specs.Laws.Search.{standing-tells}
 use Rattle.scene.specs.Scene.{itemAt}
 use Rattle.scene.specs.Contracts.Answers.{itemsAt}
-use Rattle.scene.proofs.Found.{answer, One, one-found, beyond, named}
+use Rattle.scene.specs.Laws.Found.{answer, One, one-found, beyond, named}
 use Rattle.names.specs.Contracts.Batch.{slotsOf, placesStep}
 use Rattle.names.proofs.Walking.{Walk, walk-start, walk-on, walk-end, table-same, placesFrom, places-all, places-none, places-one}
 use Rattle.names.proofs.batch.note_places.Statement.{statement}

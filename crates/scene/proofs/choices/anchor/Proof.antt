@@ -6,7 +6,7 @@ use Rattle.stream.specs.Contracts.Payload.{room}
 use Rattle.records.specs.Records.{choiceWidth}
 use Rattle.scene.specs.Scene.{sceneOf}
 use Rattle.scene.specs.Laws.Shift.{point-drop}
-use Rattle.scene.proofs.Found.{One, one-found, none-first, one-first, option-fits}
+use Rattle.scene.specs.Laws.Found.{One, one-found, none-first, one-first, option-fits}
 use Rattle.scene.proofs.choices.anchor.Statement.{statement}
 use Rattle.scene.proofs.choices.anchor.Tie as tie
 

@@ -6,7 +6,7 @@ use native.Mathlib.Omega.{arith}
 use Rattle.stream.specs.Contracts.Payload.{room}
 use Rattle.records.specs.Records.{choiceWidth}
 use Rattle.scene.specs.Laws.Shift.{number-drop}
-use Rattle.scene.proofs.Found.{One, one-found, none-first, one-first, option-fits}
+use Rattle.scene.specs.Laws.Found.{One, one-found, none-first, one-first, option-fits}
 use Rattle.scene.proofs.choices.choice.Statement.{statement}
 use Rattle.scene.proofs.choices.choice.Tie as tie
 

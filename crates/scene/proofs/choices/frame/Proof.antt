@@ -7,7 +7,7 @@ use Rattle.stream.specs.Contracts.Payload.{room, rest}
 use Rattle.stream.specs.Laws.Payload.{rest-length}
 use Rattle.records.specs.Records.{choiceWidth}
 use Rattle.scene.specs.Scene.{sceneOf, some}
-use Rattle.scene.proofs.Found.{One, one-found, none-first, one-first, option-fits}
+use Rattle.scene.specs.Laws.Found.{One, one-found, none-first, one-first, option-fits}
 use Rattle.scene.proofs.choices.frame.Statement.{statement}
 use Rattle.scene.proofs.choices.frame.Tie as tie
 

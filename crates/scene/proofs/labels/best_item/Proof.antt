@@ -9,9 +9,9 @@ use Rattle.stream.specs.Contracts.Payload.{room}
 use Rattle.records.specs.Records.{part}
 use Rattle.scene.specs.Labels.{bestItem}
 use Rattle.scene.specs.Contracts.Answers.{itemsAt, bestBy}
-use Rattle.scene.proofs.Found.{One, one-found}
-use Rattle.scene.proofs.Items.{label-ends}
-use Rattle.scene.proofs.Folds.{no-item, next-item}
+use Rattle.scene.specs.Laws.Found.{One, one-found}
+use Rattle.scene.specs.Laws.Items.{label-ends}
+use Rattle.scene.specs.Laws.Folds.{no-item, next-item}
 use Rattle.scene.proofs.labels.best_item.Statement.{statement}
 use Rattle.scene.proofs.labels.best_item.Tie as tie
 

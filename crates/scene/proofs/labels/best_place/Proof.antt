@@ -12,8 +12,8 @@ use Rattle.records.specs.Laws.Search.{standing-tells}
 use Rattle.scene.specs.Scene.{none, itemAt}
 use Rattle.scene.specs.Labels.{bestPlace}
 use Rattle.scene.specs.Contracts.Answers.{placesAt, itemsAt, bestBy}
-use Rattle.scene.proofs.Found.{answer, One, one-found, beyond, named}
-use Rattle.scene.proofs.Folds.{no-place, next-place}
+use Rattle.scene.specs.Laws.Found.{answer, One, one-found, beyond, named}
+use Rattle.scene.specs.Laws.Folds.{no-place, next-place}
 use Rattle.scene.proofs.labels.best_place.Statement.{statement}
 use Rattle.scene.proofs.labels.best_place.Tie as tie
 

@@ -1,6 +1,6 @@
 use borrow.Author.Needs.{needs}
 use Rattle.stream.specs.Payload.{payload}
-use Rattle.scene.proofs.Folds.{no-first-item, first-item}
+use Rattle.scene.specs.Laws.Folds.{no-first-item, first-item}
 use Rattle.scene.proofs.labels.consider_item.Statement.{statement}
 use Rattle.scene.proofs.labels.consider_item.Tie as tie
 

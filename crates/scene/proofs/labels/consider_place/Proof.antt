@@ -1,6 +1,6 @@
 use borrow.Author.Needs.{needs}
 use Rattle.stream.specs.Payload.{payload}
-use Rattle.scene.proofs.Folds.{no-first, first-place}
+use Rattle.scene.specs.Laws.Folds.{no-first, first-place}
 use Rattle.scene.proofs.labels.consider_place.Statement.{statement}
 use Rattle.scene.proofs.labels.consider_place.Tie as tie
 

@@ -1,6 +1,6 @@
 use borrow.Author.Needs.{needs}
 use Rattle.scene.specs.Contracts.Answers.{itemBy}
-use Rattle.scene.proofs.Folds.{no-point, with-point}
+use Rattle.scene.specs.Laws.Folds.{no-point, with-point}
 use Rattle.scene.proofs.labels.consider_reference.Statement.{statement}
 use Rattle.scene.proofs.labels.consider_reference.Tie as tie
 

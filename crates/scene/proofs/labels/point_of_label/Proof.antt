@@ -1,7 +1,7 @@
 use borrow.Author.Needs.{needs}
 use Rattle.stream.specs.Payload.{payload}
 use Rattle.scene.specs.Contracts.Answers.{itemsAt}
-use Rattle.scene.proofs.Folds.{best-point}
+use Rattle.scene.specs.Laws.Folds.{best-point}
 use Rattle.scene.proofs.labels.point_of_label.Statement.{statement}
 use Rattle.scene.proofs.labels.point_of_label.Tie as tie
 

@@ -7,7 +7,7 @@ use Rattle.stream.specs.Contracts.Payload.{room, rest}
 use Rattle.stream.specs.Laws.Payload.{rest-length}
 use Rattle.records.specs.Records.{valuesWidth}
 use Rattle.scene.specs.Laws.Widths.{at-within, w-within, h-within, r-within, rad-within}
-use Rattle.scene.proofs.Items.{item-ends, value-fits, value-is, item-is}
+use Rattle.scene.specs.Laws.Items.{item-ends, value-fits, value-is, item-is}
 use Rattle.scene.proofs.sections.item_at.Statement.{statement}
 use Rattle.scene.proofs.sections.item_at.Tie as tie
 

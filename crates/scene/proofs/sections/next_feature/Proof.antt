@@ -4,7 +4,7 @@ use Prim.Native.Nat.{_+_}
 use native.Mathlib.Omega.{arith}
 use Rattle.stream.specs.Contracts.Payload.{room}
 use Rattle.scene.specs.Contracts.Answers.{Within}
-use Rattle.scene.proofs.Found.{nothing}
+use Rattle.scene.specs.Laws.Found.{nothing}
 use Rattle.scene.proofs.Reading.{feature-none, feature-read}
 use Rattle.scene.proofs.sections.next_feature.Statement.{statement}
 use Rattle.scene.proofs.sections.next_feature.Tie as tie

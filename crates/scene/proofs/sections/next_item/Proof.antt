@@ -7,8 +7,8 @@ use Rattle.stream.specs.Payload.{payload}
 use Rattle.stream.specs.Contracts.Payload.{room, rest}
 use Rattle.stream.specs.Laws.Payload.{rest-length}
 use Rattle.scene.specs.Scene.{itemAt}
-use Rattle.scene.proofs.Found.{One, one-found, none-listed}
-use Rattle.scene.proofs.Items.{item-begins, label-ends, item-stands, item-found, no-item}
+use Rattle.scene.specs.Laws.Found.{One, one-found, none-listed}
+use Rattle.scene.specs.Laws.Items.{item-begins, label-ends, item-stands, item-found, no-item}
 use Rattle.scene.proofs.sections.next_item.Statement.{statement}
 use Rattle.scene.proofs.sections.next_item.Tie as tie
 

@@ -6,7 +6,7 @@ use Rattle.stream.specs.Contracts.Payload.{room, rest}
 use Rattle.stream.specs.Laws.Payload.{rest-length}
 use Rattle.records.specs.Laws.Search.{standing-tells}
 use Rattle.scene.specs.Scene.{featureAt}
-use Rattle.scene.proofs.Found.{nothing, answer, One, one-found, beyond, none-listed, name-begins, named, headed}
+use Rattle.scene.specs.Laws.Found.{nothing, answer, One, one-found, beyond, none-listed, name-begins, named, headed}
 use Rattle.scene.proofs.Reading.{feature-found}
 use Rattle.scene.proofs.sections.next_name.Statement.{statement}
 use Rattle.scene.proofs.sections.next_name.Tie as tie

@@ -6,7 +6,7 @@ use Rattle.stream.specs.Contracts.Payload.{room, rest}
 use Rattle.stream.specs.Laws.Payload.{rest-length}
 use Rattle.records.specs.Laws.Search.{standing-tells}
 use Rattle.scene.specs.Scene.{pathAt}
-use Rattle.scene.proofs.Found.{nothing, One, one-found, none-listed, path-begins, cubics-end}
+use Rattle.scene.specs.Laws.Found.{nothing, One, one-found, none-listed, path-begins, cubics-end}
 use Rattle.scene.proofs.Reading.{curve-found, polyline-found}
 use Rattle.scene.proofs.sections.next_path.Statement.{statement}
 use Rattle.scene.proofs.sections.next_path.Tie as tie

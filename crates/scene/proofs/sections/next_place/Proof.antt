@@ -6,7 +6,7 @@ use Rattle.stream.specs.Contracts.Payload.{room, rest}
 use Rattle.stream.specs.Laws.Payload.{rest-length}
 use Rattle.records.specs.Laws.Search.{standing-tells}
 use Rattle.scene.specs.Scene.{placeAt}
-use Rattle.scene.proofs.Found.{nothing, One, one-found, none-listed, name-begins, Named, named}
+use Rattle.scene.specs.Laws.Found.{nothing, One, one-found, none-listed, name-begins, Named, named}
 use Rattle.scene.proofs.Reading.{place-found}
 use Rattle.scene.proofs.sections.next_place.Statement.{statement}
 use Rattle.scene.proofs.sections.next_place.Tie as tie

@@ -5,7 +5,7 @@ use native.Mathlib.Omega.{arith}
 use Rattle.stream.specs.Contracts.Payload.{room, rest}
 use Rattle.stream.specs.Laws.Payload.{rest-length}
 use Rattle.records.specs.Laws.Search.{standing-tells}
-use Rattle.scene.proofs.Found.{nothing, One, one-found, none-first, points-begin}
+use Rattle.scene.specs.Laws.Found.{nothing, One, one-found, none-first, points-begin}
 use Rattle.scene.proofs.Reading.{points-found}
 use Rattle.scene.proofs.sections.points_of.Statement.{statement}
 use Rattle.scene.proofs.sections.points_of.Tie as tie

@@ -20,7 +20,7 @@ use Rattle.scene.specs.Scene.{Maybe, none, some, given, Point, NamedPlac
 use Rattle.scene.specs.Labels.{same, pick, Key, Best, consider, considerAt, itemKey, bestPlace, carries, referencePoint, bestItem, pointOf, pointOfLabel}
 use Rattle.scene.specs.Contracts.Answers.{considerPlace, considerItem, spotBy, placesAt, placesBy, labelBy, itemBy, itemsAt, itemsBy, bestBy}
 use Rattle.scene.specs.Laws.Shift.{part-drop}
-use Rattle.scene.proofs.Found.{Answer, One, none-listed, one-listed, found-again}
+use Rattle.scene.specs.Laws.Found.{Answer, One, none-listed, one-listed, found-again}
 
 -- ---- the best place, and the best item
 -- what a branch left, by its test

@@ -22,7 +22,7 @@ use Rattle.scene.specs.declared.sections.Item.{Item}
 use Rattle.scene.specs.Scene.{Maybe, given, numberAt, bit, pointAt, behind, itemWith, itemAt}
 use Rattle.scene.specs.Contracts.Answers.{Within, valueBy, spotBy, ItemStands, itemBy, itemsAt, itemsBy}
 use Rattle.scene.specs.Laws.Shift.{part-drop, number-drop, point-drop}
-use Rattle.scene.proofs.Found.{nothing, One, one-listed}
+use Rattle.scene.specs.Laws.Found.{nothing, One, one-listed}
 
 -- ---- where it lies
 module _ {s : List ℕ} {p : ℕ} {h : Hit} (o : One s p 6 0 h) where
