@@ -1,4 +1,4 @@
 -- What the functions' proofs share.
-pub mod Calls
+pub mod Again
 pub mod Lent
-pub mod Passing
+pub mod Marking

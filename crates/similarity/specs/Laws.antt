@@ -2,5 +2,6 @@
 pub mod Project
 pub mod Bearing
 pub mod Fitted
-pub mod Passes
+pub mod Fours
+pub mod Marks
 pub mod Projects

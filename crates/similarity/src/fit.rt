@@ -1,9 +1,10 @@
 // The fit of a similarity to control points, in two rounds.
 ghost use mathlib.Core.Path.{_≡_};
-ghost use Prim.Native.Nat.{_≤_};
+ghost use Prim.Native.Nat.{_+_, _*_, _≤_};
 ghost use lib.ListN.{length, take, drop};
-ghost use Rattle.similarity.specs.Fit.{markOf, noSums, added, dividedBy, noMoments, momented, degenerate, fitAt, solvedOf, fitOf};
-ghost use Rattle.similarity.specs.Contracts.Passes.{firstSums, anchorAt, stepOf, passed, aboutCentroids, aboutAnchor, fitOfPass};
+ghost use Rattle.similarity.specs.Fit.{markOf, noSums, added, meansOf, dividedBy, noMoments, momented, momentsOf};
+ghost use Rattle.similarity.specs.Fit.{degenerate, fitAt, solvedOf, roundOf, fitMarks, fitOf};
+ghost use Rattle.similarity.specs.Contracts.Marks.{markIn, marksIn, withMark, marked};
 use elementary::atan2;
 use elementary::hypot;
 use elementary::to_degrees;
@@ -154,18 +155,6 @@ fn solve(a: Metres, c: Mark, s: Moments) -> Fit
     fit_at(a, c, s.a / s.den, s.b / s.den)
 }
 
-// A pass over the control points: with `centred` false it sums them about the anchor a, with `centred` true it adds up the moments about the centroids in s.
-pub struct Pass {
-    pub centred: bool,
-    // whether there is an anchor yet; the first point's position is the first
-    pub anchored: bool,
-    // whether the round before, if any, found a fit
-    pub found: bool,
-    pub a: Metres,
-    pub s: Mark,
-    pub m: Moments,
-}
-
 fn no_sums() -> Mark
     ensures { λ r. ⌜ r ≡ noSums ⌝ }
 {
@@ -187,115 +176,109 @@ fn no_moments() -> Moments
     }
 }
 
-// The sums of the first round, before any point.
-fn first_sums() -> Pass
-    ensures { λ r. ⌜ r ≡ firstSums ⌝ }
+// The k-th of the marks in a slice, which are four numbers each.
+fn mark_at(marks: &[f64], k: usize) -> Mark
+    requires { ⌜ 4 * k + 4 ≤ length (now marks) ⌝ }
+    ensures { λ r. ⌜ r ≡ markIn (now (marks .entry)) k ⌝ }
 {
-    Pass {
-        centred: false,
-        anchored: false,
-        found: true,
-        a: Metres { x: 0.0, y: 0.0 },
-        s: no_sums(),
-        m: no_moments(),
+    Mark {
+        x: marks[4 * k],
+        y: marks[4 * k + 1],
+        e: marks[4 * k + 2],
+        n: marks[4 * k + 3],
     }
 }
 
-// The pass's anchor, or the point's own position where it has none yet.
-fn anchor_at(anchored: bool, a: Metres, m: Mark) -> Metres
-    ensures { λ r. ⌜ r ≡ anchorAt anchored a m ⌝ }
-{
-    if anchored {
-        return a;
-    }
-    Metres { x: m.e, y: m.n }
-}
-
-// One more point in the pass.
-fn step(p: Pass, c: Control) -> Pass
-    ensures { λ r. ⌜ r ≡ stepOf p c ⌝ }
+// The point's mark, as the k-th.
+fn put_mark(marks: &mut [f64], k: usize, c: Control)
+    requires { ⌜ 4 * k + 4 ≤ length (now marks) ⌝ }
+    ensures { λ _. ⌜ now (marks .exit) ≡ withMark (now (marks .entry)) k (markOf c) ⌝ }
 {
     let m = mark_of(c);
-    let mut next = p;
-    if p.centred {
-        let moments = add_moment(p.a, p.s, p.m, m);
-        next.m = moments;
-        return next;
-    }
-    let a = anchor_at(p.anchored, p.a, m);
-    let sums = add_mark(a, p.s, m);
-    next.anchored = true;
-    next.a = a;
-    next.s = sums;
-    next
+    marks[4 * k] = m.x;
+    marks[4 * k + 1] = m.y;
+    marks[4 * k + 2] = m.e;
+    marks[4 * k + 3] = m.n;
 }
 
-// The points from i on in the pass.
-pub fn pass_from(controls: &[Control], i: usize, p: Pass) -> Pass
-    requires { ⌜ length (now controls) ≤ 64 ⌝ }
-    ensures { λ r. ⌜ r ≡ passed (drop i (now (controls .entry))) p ⌝ }
+// The marks of the control points from i on: each is projected once.
+pub fn marks_from(controls: &[Control], i: usize, marks: &mut [f64])
+    requires { ⌜ (length (now controls) ≤ 64) × (4 * length (now controls) ≤ length (now marks)) ⌝ }
+    ensures { λ _. ⌜ now (marks .exit) ≡ marked (now (marks .entry)) i (drop i (now (controls .entry))) ⌝ }
 {
     if i < controls.len() {
         let c = controls[i];
-        let next = step(p, c);
-        return pass_from(controls, i + 1, next);
+        put_mark(marks, i, c);
+        marks_from(controls, i + 1, marks);
+        return;
     } else {
-        return p;
+        return;
     }
 }
 
-// The sums of n points become their centroids, and moments are next.
-fn about_centroids(p: Pass, n: usize) -> Pass
-    requires { ⌜ n ≤ 64 ⌝ }
-    ensures { λ r. ⌜ r ≡ aboutCentroids p n ⌝ }
+// The marks of the first n of an array of control points.
+fn marks_of(at: [Control; 64], n: usize, marks: &mut [f64])
+    requires { ⌜ (n ≤ 64) × (4 * n ≤ length (now marks)) ⌝ }
+    ensures { λ _. ⌜ now (marks .exit) ≡ marked (now (marks .entry)) 0 (take n at) ⌝ }
 {
-    let mut next = p;
-    next.centred = true;
-    next.s = divide(p.s, n as f64);
-    next.m = no_moments();
-    next
+    marks_from(&at[..n], 0, marks)
 }
 
-// The first round's moments give the second round's anchor, and sums are next.
-fn about_anchor(p: Pass) -> Pass
-    ensures { λ r. ⌜ r ≡ aboutAnchor p ⌝ }
+// The centroids of n marks, about the anchor a.
+fn means_of(a: Metres, marks: &[f64], n: usize) -> Mark
+    requires { ⌜ (n ≤ 64) × (4 * n ≤ length (now marks)) ⌝ }
+    ensures { λ r. ⌜ r ≡ meansOf a (marksIn (now (marks .entry)) n) ⌝ }
 {
-    let f = solve(p.a, p.s, p.m);
+    let mut s = no_sums();
+    let mut k = 0usize;
+    while k < n {
+        s = add_mark(a, s, mark_at(marks, k));
+        k += 1;
+    }
+    divide(s, n as f64)
+}
+
+// The moments of n marks, about the anchor a and the centroids c.
+fn moments_of(a: Metres, c: Mark, marks: &[f64], n: usize) -> Moments
+    requires { ⌜ 4 * n ≤ length (now marks) ⌝ }
+    ensures { λ r. ⌜ r ≡ momentsOf a c (marksIn (now (marks .entry)) n) noMoments ⌝ }
+{
+    let mut s = no_moments();
+    let mut k = 0usize;
+    while k < n {
+        s = add_moment(a, c, s, mark_at(marks, k));
+        k += 1;
+    }
+    s
+}
+
+// One round, about the anchor a.
+fn fit_about(a: Metres, marks: &[f64], n: usize) -> Fit
+    requires { ⌜ (n ≤ 64) × (4 * n ≤ length (now marks)) ⌝ }
+    ensures { λ r. ⌜ r ≡ roundOf a (marksIn (now (marks .entry)) n) ⌝ }
+{
+    let c = means_of(a, marks, n);
+    solve(a, c, moments_of(a, c, marks, n))
+}
+
+// Both rounds: the first is about the first point's position.
+fn fit_marks(marks: &[f64], n: usize) -> Fit
+    requires { ⌜ (n ≤ 64) × (4 * n ≤ length (now marks)) ⌝ }
+    ensures { λ r. ⌜ r ≡ fitMarks (marksIn (now (marks .entry)) n) ⌝ }
+{
+    if n == 0 {
+        return no_fit();
+    }
+    let m = mark_at(marks, 0);
+    let f = fit_about(Metres { x: m.e, y: m.n }, marks, n);
+    if !f.some {
+        return no_fit();
+    }
     let at = LonLat {
         lon: f.lon,
         lat: f.lat,
     };
-    Pass {
-        centred: false,
-        anchored: true,
-        found: f.some,
-        a: mercator_forward(at),
-        s: no_sums(),
-        m: no_moments(),
-    }
-}
-
-// What the second round's moments give, where the first found a fit.
-fn fit_of(p: Pass) -> Fit
-    ensures { λ r. ⌜ r ≡ fitOfPass p ⌝ }
-{
-    if !p.found {
-        return no_fit();
-    }
-    solve(p.a, p.s, p.m)
-}
-
-// The fit to control points, in two rounds of two passes.
-pub fn fit_controls(controls: &[Control]) -> Fit
-    requires { ⌜ length (now controls) ≤ 64 ⌝ }
-    ensures { λ r. ⌜ r ≡ fitOf (now (controls .entry)) ⌝ }
-{
-    let n = controls.len();
-    let sums = pass_from(controls, 0, first_sums());
-    let moments = pass_from(controls, 0, about_centroids(sums, n));
-    let sums = pass_from(controls, 0, about_anchor(moments));
-    let moments = pass_from(controls, 0, about_centroids(sums, n));
-    fit_of(moments)
+    fit_about(mercator_forward(at), marks, n)
 }
 
 // The fit to the first n of an array of control points.
@@ -303,5 +286,7 @@ pub fn fit_points(at: [Control; 64], n: usize) -> Fit
     requires { ⌜ n ≤ 64 ⌝ }
     ensures { λ r. ⌜ r ≡ fitOf (take n at) ⌝ }
 {
-    fit_controls(&at[..n])
+    let mut marks = [0.0f64; 256];
+    marks_of(at, n, &mut marks);
+    fit_marks(&marks, n)
 }

@@ -4,7 +4,6 @@ mod projection;
 
 pub use fit::Control;
 pub use fit::Fit;
-pub use fit::fit_controls;
 pub use fit::fit_points;
 pub use projection::Projection;
 pub use projection::Registration;
