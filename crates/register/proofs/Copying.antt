@@ -1,13 +1,14 @@
 -- Control points of a slice, copied one by one into an array.
 use mathlib.Core.Path.{_≡_, refl}
-use mathlib.Core.List.{List, [], _∷_}
-use Prim.Native.Nat.{ℕ, zero, suc, _+_, _≤_, _<_}
+use mathlib.Core.List.{List}
+use Prim.Native.Nat.{ℕ, _+_, _≤_, _<_}
 use native.Mathlib.Numerals.{add-one}
 use native.Mathlib.Omega.{arith}
-use lib.ListN.{length, take, set, length-append, length-set}
+use lib.ListN.{length, take, set, length-set}
 use lib.Seq.{take-suc-set}
 use lib.Ieee.{Float}
 use Rattle.similarity.specs.declared.fit.Control.{Control}
+use Rattle.similarity.specs.Contracts.Fours.{foursIn}
 use Rattle.register.specs.Contracts.Gathered.{controlIn, controlsBy}
 
 -- the first k of n are copied
@@ -17,11 +18,11 @@ pub record Copied (flat : List Float) (at : List Control) (n k : ℕ) : Type 0 w
   pub same : take k at ≡ controlsBy flat k
 
 pub copied : (flat : List Float) (at : List Control) (n : ℕ) → length at ≡ 64 → Copied flat at n 0
-unfolding controlsBy
+unfolding foursIn
 copied flat at n e = record { size = e; short = omega arith; same = refl }
 
 pub copied-one : {flat : List Float} {at : List Control} {n k : ℕ} → Copied flat at n k → k < n → n ≤ 64 → (c : Control) → c ≡ controlIn flat k → Copied flat (set at k c) n (k + 1)
-unfolding controlsBy
+unfolding foursIn
 copied-one {flat} {at} {n} {k} h more few c e =
     record {
       size = simp length-set (h .size);
@@ -33,8 +34,3 @@ pub all-copied : {flat : List Float} {at : List Control} {n k : ℕ} → Copied 
 all-copied {n = n} {k = k} h m =
     let e : k ≡ n = omega (arith, h .short) in
     rw e at (h .same)
-
-pub controls-length : (flat : List Float) (n : ℕ) → length (controlsBy flat n) ≡ n
-unfolding controlsBy
-controls-length flat zero = refl
-controls-length flat (suc n) = omega (arith, length-append (controlsBy flat n) (controlIn flat n ∷ []), controls-length flat n)

@@ -11,7 +11,7 @@ use Rattle.register.specs.declared.survey.Survey.{Survey}
 use Rattle.register.specs.Register.{Event, control, warn, isLon, onto, variableEvents, featureEvents, events, controlsIn, warningsIn, controlsOf}
 use Rattle.register.specs.Contracts.Survey.{lonsIn, Surveyed}
 
-lon-events : (sc : Scene) (i : ℕ) (vs : List NamedValue) → length (variableEvents sc i vs) ≡ lonsIn vs
+pub lon-events : (sc : Scene) (i : ℕ) (vs : List NamedValue) → length (variableEvents sc i vs) ≡ lonsIn vs
 unfolding lonsIn variableEvents
 lon-events sc i [] = refl
 lon-events sc i (v ∷ vs) = by (isLon (v .name)) _ _ (lon-events sc (suc i) vs)
@@ -20,7 +20,7 @@ lon-events sc i (v ∷ vs) = by (isLon (v .name)) _ _ (lon-events sc (suc i) vs)
     by true x xs h = ap suc h
     by false x xs h = h
 
-feature-events : (sc : Scene) (i : ℕ) (fs : List NamedFeature) → length (featureEvents sc i fs) ≡ length fs
+pub feature-events : (sc : Scene) (i : ℕ) (fs : List NamedFeature) → length (featureEvents sc i fs) ≡ length fs
 unfolding featureEvents
 feature-events sc i [] = refl
 feature-events sc i (f ∷ fs) = ap suc (feature-events sc (suc i) fs)

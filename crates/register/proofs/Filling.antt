@@ -7,7 +7,6 @@ use Prim.Native.Nat.{ℕ, zero, suc, _+_, _-_, _≤_, _<_}
 use native.Mathlib.Numerals.{add-one}
 use native.Mathlib.Omega.{arith}
 use lib.ListN.{length, take, drop, getD, length-drop}
-use lib.Seq.{drop-cons, take-suc}
 use lib.Ieee.{Float}
 use Rattle.stream.specs.Payload.{payload}
 use Rattle.stream.specs.Contracts.Payload.{room}
@@ -15,7 +14,6 @@ use Rattle.stream.specs.Laws.Payload.{payload-length}
 use Rattle.records.specs.Records.{part}
 use Rattle.records.specs.Laws.Tests.{or-cases}
 use Rattle.scene.specs.Scene.{none, some}
-use Rattle.scene.specs.Labels.{same}
 use Rattle.scene.specs.Laws.Answers.{not-given, is-given}
 use Rattle.scene.specs.Laws.Rising.{same-eq}
 use Rattle.names.specs.Contracts.Table.{Table, Stands, Unmarked, In, Inserted}
@@ -25,6 +23,7 @@ use Rattle.register.specs.declared.mentions.Mention as code-mention
 use Rattle.register.specs.Contracts.Mentions.{Mention, mentionsAt, mentionBy, moreOf, Heads, Follows, Asked}
 use Rattle.register.specs.Contracts.Gathered.{named, among, Added, Batch}
 use Rattle.register.proofs.Waiting.{same-self}
+use Rattle.register.proofs.Reading.{next-of}
 
 -- ---- one mention
 module _ {more : ℕ} {l t : List ℕ} {n : ℕ} {m : Mention} where
@@ -83,17 +82,10 @@ module _ {A : Type 0} (k : ℕ) (xs ys : List A) (m : A) (e : drop k xs ≡ m �
   next-within = omega (arith, length-drop k xs, ap length e)
 
   pub next-take : take (k + 1) xs ≡ take k xs ++ m ∷ []
-  next-take =
-      let h = next-within in
-      let d = drop-cons xs k m h in
-      let g : getD xs k m ≡ m = cc in
-      rw (add-one, take-suc xs k m, g) refl
+  next-take = rw add-one (next-of m ys xs k e .0)
 
   pub next-drop : drop (k + 1) xs ≡ ys
-  next-drop =
-      let h = next-within in
-      let d = drop-cons xs k m h in
-      rw add-one (cc)
+  next-drop = rw add-one (next-of m ys xs k e .1)
 
 pub among-snoc : (x : List ℕ) (ms : List Mention) (m : Mention) → among x (ms ++ m ∷ []) ≡ (among x ms || named x m (m .lat))
 unfolding among

@@ -1,13 +1,13 @@
 -- Entries lose their marks: that of a name, and those of the first host features.
-use mathlib.Core.Path.{_≡_, refl, sym, ap, _∙_}
+use mathlib.Core.Path.{_≡_, refl, sym, _∙_}
 use mathlib.Core.Bool.{Bool, true, false, cond, _||_, or-false, or-assoc, false≢true}
 use mathlib.Core.List.{List, [], _∷_, _++_}
 use Prim.Native.Nat.{ℕ, zero, suc, _+_, _-_, _%_, _≤_, _<_}
 use native.Mathlib.Nat.{add-zero}
 use native.Mathlib.Decide.{decLt, ℕ-discrete}
 use native.Mathlib.Omega.{arith}
-use lib.ListN.{length, take, drop, getD, set, length-append, length-drop, length-set}
-use lib.Seq.{take-all, getD-set-same, getD-set-other}
+use lib.ListN.{length, take, drop, getD, set, length-append, length-set}
+use lib.Seq.{getD-set-same, getD-set-other}
 use lib.Dec.{eqb}
 use lib.Ieee.{Float}
 use borrow.Author.Tests.{eq-eqb, eqb-false}
@@ -26,7 +26,7 @@ use Rattle.register.specs.Contracts.Mentions.{Mention, featureMentions, 
 use Rattle.register.specs.Contracts.Gathered.{Taken, Waits, nobody, featured, Forgotten, grownAll}
 use Rattle.register.proofs.Filling.{next-take, next-drop}
 use Rattle.register.proofs.Order.{before-differs}
-use Rattle.register.proofs.Reading.{controls-append, events-append}
+use Rattle.register.proofs.Reading.{controls-append, events-append, none-left}
 use Rattle.register.proofs.Waiting.{fewer-trans, waits-by, taken-fewer, taken-waits}
 
 -- ---- how many entries have a mark
@@ -132,7 +132,7 @@ module _ {more : ℕ} {l t : List ℕ} {n : ℕ} (h : Table more l t n) where
     taken-found e f = rw (e, f) taken-new
 
 -- ---- the first host features, one after another
-mentioned-snoc : (y : List ℕ) (fs : List NamedFeature) (f : NamedFeature) → mentioned y (fs ++ f ∷ []) ≡ (mentioned y fs || same (f .name) y)
+pub mentioned-snoc : (y : List ℕ) (fs : List NamedFeature) (f : NamedFeature) → mentioned y (fs ++ f ∷ []) ≡ (mentioned y fs || same (f .name) y)
 unfolding mentioned
 mentioned-snoc y [] f = or-false (same (f .name) y)
 mentioned-snoc y (g ∷ fs) f = rw (mentioned-snoc y fs f) (sym (or-assoc (same (g .name) y) (mentioned y fs) (same (f .name) y)))
@@ -147,7 +147,7 @@ mentions-snoc i (g ∷ fs) f =
     let e : suc i + length fs ≡ i + suc (length fs) = omega arith in
     rw (mentions-snoc (suc i) fs f, e) refl
 
-grown-features : (was : List ℕ → Bool) (i : ℕ) (fs : List NamedFeature) (y : List ℕ) → grownAll was (featureMentions i fs) y ≡ (was y || mentioned y fs)
+pub grown-features : (was : List ℕ → Bool) (i : ℕ) (fs : List NamedFeature) (y : List ℕ) → grownAll was (featureMentions i fs) y ≡ (was y || mentioned y fs)
 unfolding grownAll featureMentions mentioned
 grown-features was i [] y = sym (or-false (was y))
 grown-features was i (f ∷ fs) y = grown-features (λ y. was y || same (f .name) y) (suc i) fs y ∙ or-assoc (was y) (same (f .name) y) (mentioned y fs)
@@ -213,11 +213,6 @@ as-many e h =
       waits = λ spots w. waits-by (λ y. rw e refl) (h .waits spots w);
       counted = λ spots w. rw (← e) (h .counted spots w);
     }
-
-none-left : {A : Type 0} (xs : List A) (k i : ℕ) → drop k xs ≡ [] → k ≤ i → take k xs ≡ take i xs
-none-left xs k i e h =
-    let short : length xs ≤ k = omega (arith, length-drop k xs, ap length e) in
-    take-all k xs short ∙ sym (take-all i xs (omega arith))
 
 module _ {l : List ℕ} {more : ℕ} {t₀ t : List ℕ} {n i q k : ℕ} (h : Forgets l more t₀ t n i q k) where
   pub forgets-all : i ≤ k → Forgotten l more t₀ t n i

@@ -1,37 +1,39 @@
 -- A batch of names, from the walk over the labels on, and all batches of a part.
-use mathlib.Core.Path.{_≡_, refl, sym, ap, subst, _∙_}
+use mathlib.Core.Path.{_≡_, refl, sym, ap, _∙_}
 use mathlib.Core.Logic.{_⊎_, inl, inr}
-use mathlib.Core.Bool.{Bool, true, false, _||_, cond, false≢true}
-use mathlib.Core.List.{List, [], _∷_, _++_, append-assoc, append-nil}
-use Prim.Native.Nat.{ℕ, zero, suc, _+_, _-_, _%_, _≤_, _<_}
+use mathlib.Core.Bool.{Bool, true, false, false≢true}
+use mathlib.Core.List.{List, [], _++_, append-assoc, append-nil}
+use Prim.Native.Nat.{ℕ, zero, suc, _+_, _-_, _≤_, _<_}
 use native.Mathlib.Omega.{arith}
-use lib.ListN.{length, take, drop, getD, replicate, length-append, length-drop, take-append-drop}
-use lib.Seq.{take-length, take-add, take-all, drop-drop, length-take-le}
+use lib.ListN.{length, take, drop, getD, replicate, length-append, length-drop}
+use lib.Seq.{take-length, take-all, drop-drop, length-take-le}
 use lib.Dec.{eqb, ltb}
 use lib.Ieee.{Float}
 use borrow.Author.Tests.{ltb-true, ltb-false, eqb-true, eqb-false}
 use Rattle.stream.specs.Payload.{payload}
-use Rattle.scene.specs.Scene.{Maybe, none, some, Scene, sceneOf}
+use Rattle.scene.specs.Scene.{Scene, sceneOf}
 use Rattle.scene.specs.Labels.{pointOfLabel}
-use Rattle.scene.specs.Contracts.Answers.{Labels, Variables, placesAt, itemsAt, featuresAt, variablesAt}
+use Rattle.scene.specs.Contracts.Answers.{Labels, Variables, placesAt, itemsAt}
 use Rattle.scene.specs.Laws.Answers.{scene-lists, all-labels}
 use Rattle.scene.specs.Laws.Rising.{variables-rising}
 use Rattle.records.specs.Layout.{laidOut}
 use Rattle.similarity.specs.declared.fit.Control.{Control}
-use Rattle.names.specs.Contracts.Table.{nameOf, markOf, marked, Table, In}
+use Rattle.names.specs.Contracts.Table.{nameOf, markOf, marked, In}
 use Rattle.names.specs.Contracts.Batch as batch
+use Rattle.similarity.specs.Contracts.Fours.{foursIn}
 use Rattle.register.specs.declared.controls.Tally.{Tally}
 use Rattle.register.specs.declared.controls.Filled as code-filled
 use Rattle.register.specs.declared.mentions.Cursor.{Cursor}
-use Rattle.register.specs.Register.{isSome, Event, resolved, mentioned, allPlaced, featureEvents, variableEvents, events, controlsIn, controlsOf}
+use Rattle.register.specs.Register.{isSome, Event, resolved, allPlaced, featureEvents, variableEvents, events, controlsIn, controlsOf}
 use Rattle.register.specs.declared.survey.Survey.{Survey}
 use Rattle.register.specs.Contracts.Survey.{lonsIn, Surveyed}
-use Rattle.register.specs.Contracts.Mentions.{Mention, featureMentions, lonMentions, eventsOf, mentionsAt, moreOf, Follows}
-use Rattle.register.specs.Contracts.Gathered.{numbersIn, upTo65, controlsBy, Holds, Gathers, among, Filling, Batch, Waits, nobody, featured, Fewer, Forgotten, Ready, Read, againOf, grownAll, partEvents, baseOf, beforeOf, batchEvents, Earlier, firstCursor}
+use Rattle.register.specs.Contracts.Mentions.{Mention, featureMentions, eventsOf, mentionsAt, moreOf, Follows}
+use Rattle.register.specs.Contracts.Gathered.{numbersIn, Holds, Gathers, Filling, Batch, Waits, nobody, featured, Forgotten, Ready, Read, againOf, partEvents, baseOf, beforeOf, batchEvents, Earlier, firstCursor}
 use Rattle.register.proofs.Turning.{along}
 use Rattle.register.proofs.Waiting.{in-stays}
-use Rattle.register.proofs.Reading.{controls-append, numbers-append, events-length}
-use Rattle.register.proofs.Parting.{features-length, lons-length, all-features, all-variables, flatEvents, among-grown, none-come, partMentions, soFar, so-far-length, part-whole, part-batch, part-earlier}
+use Rattle.register.proofs.Reading.{controls-append, numbers-append}
+use Rattle.register.proofs.Counting.{feature-events}
+use Rattle.register.proofs.Parting.{features-length, lons-length, all-features, among-grown, none-come, partMentions, soFar, so-far-length, part-whole, part-batch, part-earlier}
 
 -- ---- after the walk over the labels
 module _ {more : ℕ} {l t t′ : List ℕ} {n : ℕ} {spots : List Float} {used p : ℕ} (d : batch.Noted more l t t′ n spots used p) (w : Labels l p) where
@@ -215,8 +217,8 @@ surveyed-features {l} o = rw (scene-lists l .0) (omega (arith, o .names, o .lons
 
 module _ {l : List ℕ} {v : Survey} (o : Surveyed l v) where
   pub part-total : (lons : Bool) → baseOf lons (sceneOf l) + length (partMentions lons (sceneOf l)) ≤ v .names
-  part-total true = omega (arith, ap length (scene-lists l .0), lons-length (sceneOf l) 0 (sceneOf l .variables), ap lonsIn (scene-lists l .1), o .names)
-  part-total false = omega (arith, ap length (scene-lists l .0), features-length (sceneOf l) 0 (sceneOf l .features), o .names)
+  part-total true = omega (arith, ap length (scene-lists l .0), lons-length (sceneOf l), ap lonsIn (scene-lists l .1), o .names)
+  part-total false = omega (arith, ap length (scene-lists l .0), features-length (sceneOf l), o .names)
 
   part-base : (lons : Bool) {base : ℕ} → base ≡ beforeOf lons (v .names - v .lons) 0 → base ≡ baseOf lons (sceneOf l) + 0
   part-base true e = omega (arith, e, surveyed-features o)
@@ -227,7 +229,7 @@ first-mentions l true vars e = rw (scene-lists l .1, e .all) refl
 first-mentions l false vars e = rw (scene-lists l .0) refl
 
 nothing-yet : (lons : Bool) (sc : Scene) (j : ℕ) → (controlsIn (soFar lons sc []) ≡ []) × (numbersIn j (soFar lons sc []) ≡ [])
-unfolding controlsIn numbersIn flatEvents eventsOf
+unfolding controlsIn numbersIn eventsOf
 nothing-yet true sc j = (refl, refl)
 nothing-yet false sc j = (refl, refl)
 
@@ -253,7 +255,7 @@ pub both-parts : (sc : Scene) {g : Tally} {flat : List Float} {kept : List ℕ}
     → Gathers sc g flat kept
 unfolding controlsOf events
 both-parts sc h =
-    let n : 0 + length (featureEvents sc 0 (sc .features)) ≡ length (sc .features) = omega (arith, ap length (all-features sc), events-length sc 2 nobody (featureMentions 0 (sc .features)), features-length sc 0 (sc .features)) in
+    let n : 0 + length (featureEvents sc 0 (sc .features)) ≡ length (sc .features) = omega (arith, feature-events sc 0 (sc .features)) in
     rw (controls-append (featureEvents sc 0 (sc .features)) (variableEvents sc 0 (sc .variables)), numbers-append 0 (featureEvents sc 0 (sc .features)) (variableEvents sc 0 (sc .variables)), n) h
 
 pub features-alone : (sc : Scene) {g : Tally} {flat : List Float} {kept : List ℕ} → variableEvents sc 0 (sc .variables) ≡ []
@@ -269,14 +271,5 @@ unfolding featureMentions eventsOf controlsIn
 none-before-all sc = omega arith
 
 pub none-held : {flat : List Float} {kept : List ℕ} → length flat ≡ 256 → length kept ≡ 64 → Holds true [] [] (record { n = 0; placed = true }) flat kept
-unfolding allPlaced controlsBy
+unfolding allPlaced foursIn
 none-held f k = record { count = refl; placed = refl; controls = λ _ _. refl; numbers = λ _ _. refl; as-many = refl; room-for = f; kept-room = k }
-
-length-nil : (es : List Event) → length es ≡ 0 → es ≡ []
-length-nil [] z = refl
-length-nil (x ∷ es) z = absurd (omega arith)
-
-pub no-lons : (l : List ℕ) {v : Survey} → Surveyed l v → v .lons ≡ 0 → variableEvents (sceneOf l) 0 (sceneOf l .variables) ≡ []
-no-lons l o e =
-    let ms = lonMentions (sceneOf l) 0 (sceneOf l .variables) in
-    length-nil _ (omega (arith, e, o .lons, lons-length (sceneOf l) 0 (sceneOf l .variables), ap lonsIn (scene-lists l .1), ap length (all-variables (sceneOf l) 0 (sceneOf l .variables)), so-far-length true (sceneOf l) ms))

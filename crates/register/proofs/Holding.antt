@@ -3,18 +3,20 @@ use mathlib.Core.Path.{_≡_, refl, sym, ap, _∙_}
 use mathlib.Core.Logic.{_⊎_, inl, inr}
 use mathlib.Core.Bool.{Bool, true, false, _&&_, and-true, and-assoc, false≢true}
 use mathlib.Core.List.{List, [], _∷_, _++_}
-use Prim.Native.Nat.{ℕ, zero, suc, _+_, _*_, _≤_, _<_}
+use Prim.Native.Nat.{ℕ, _+_, _≤_, _<_}
 use native.Mathlib.Numerals.{add-one}
 use native.Mathlib.Omega.{arith}
 use lib.Dec.{ltb}
-use lib.ListN.{length, getD, set, length-append, length-set}
-use lib.Seq.{getD-set-same, getD-set-other, take-suc-set}
-use lib.Ieee.{Float, nan}
+use lib.ListN.{length, set, length-append, length-set}
+use lib.Seq.{take-suc-set}
+use lib.Ieee.{Float}
 use borrow.Author.Tests.{lt-ltb, le-ltb, ltb-true, ltb-false}
 use Rattle.similarity.specs.declared.fit.Control.{Control}
+use Rattle.similarity.specs.Contracts.Fours.{withFour}
+use Rattle.similarity.specs.Laws.Fours.{four-length, four-more}
 use Rattle.register.specs.declared.controls.Tally.{Tally}
 use Rattle.register.specs.Register.{placed, allPlaced}
-use Rattle.register.specs.Contracts.Gathered.{upTo65, controlsBy, Holds}
+use Rattle.register.specs.Contracts.Gathered.{upTo65, controlBy, Holds}
 
 pub both : (a b : Bool) {r : Bool} → ((a ≡ true) × (r ≡ b)) ⊎ ((a ≡ false) × (r ≡ false)) → r ≡ (a && b)
 both true b (inl h) = h .1
@@ -44,67 +46,6 @@ counts n = by (ltb 64 n) refl
     by : (b : Bool) → ltb 64 n ≡ b → ((n ≤ 64) × (upTo65 n ≡ n)) ⊎ ((64 < n) × (upTo65 n ≡ 65))
     by true e = inr (ltb-true 64 n e, many n (ltb-true 64 n e))
     by false e = inl (ltb-false 64 n e, few n (ltb-false 64 n e))
-
--- ---- slices that agree
-controls-by : (flat flat′ : List Float) (n : ℕ) → ((i : ℕ) → i < 4 * n → getD flat′ i nan ≡ getD flat i nan) → controlsBy flat′ n ≡ controlsBy flat n
-unfolding controlsBy
-controls-by flat flat′ zero e = refl
-controls-by flat flat′ (suc n) e =
-    let a : getD flat′ (4 * n) nan ≡ getD flat (4 * n) nan = e (4 * n) (omega arith) in
-    let b : getD flat′ (4 * n + 1) nan ≡ getD flat (4 * n + 1) nan = e (4 * n + 1) (omega arith) in
-    let c : getD flat′ (4 * n + 2) nan ≡ getD flat (4 * n + 2) nan = e (4 * n + 2) (omega arith) in
-    let d : getD flat′ (4 * n + 3) nan ≡ getD flat (4 * n + 3) nan = e (4 * n + 3) (omega arith) in
-    rw (controls-by flat flat′ n (λ i h. e i (omega arith)), a, b, c, d) refl
-
--- four stores
-module _ (flat : List Float) (n : ℕ) (c : Control) where
-  abbrev one-stored : List Float
-  one-stored = set flat (4 * n) (c .x)
-
-  abbrev two-stored : List Float
-  two-stored = set one-stored (4 * n + 1) (c .y)
-
-  abbrev three-stored : List Float
-  three-stored = set two-stored (4 * n + 2) (c .lon)
-
-  abbrev pub stored : List Float
-  stored = set three-stored (4 * n + 3) (c .lat)
-
-  stored-length : length stored ≡ length flat
-  stored-length = simp length-set
-
-  module _ (h : 4 * n + 3 < length flat) where
-    stored-below : (i : ℕ) → i < 4 * n → getD stored i nan ≡ getD flat i nan
-    stored-below i k =
-        getD-set-other three-stored (4 * n + 3) i (c .lat) nan (λ e. omega arith)
-        ∙ getD-set-other two-stored (4 * n + 2) i (c .lon) nan (λ e. omega arith)
-        ∙ getD-set-other one-stored (4 * n + 1) i (c .y) nan (λ e. omega arith)
-        ∙ getD-set-other flat (4 * n) i (c .x) nan (λ e. omega arith)
-
-    stored-x : getD stored (4 * n) nan ≡ c .x
-    stored-x =
-        getD-set-other three-stored (4 * n + 3) (4 * n) (c .lat) nan (λ e. omega arith)
-        ∙ getD-set-other two-stored (4 * n + 2) (4 * n) (c .lon) nan (λ e. omega arith)
-        ∙ getD-set-other one-stored (4 * n + 1) (4 * n) (c .y) nan (λ e. omega arith)
-        ∙ getD-set-same flat (4 * n) (c .x) nan (omega arith)
-
-    stored-y : getD stored (4 * n + 1) nan ≡ c .y
-    stored-y =
-        getD-set-other three-stored (4 * n + 3) (4 * n + 1) (c .lat) nan (λ e. omega arith)
-        ∙ getD-set-other two-stored (4 * n + 2) (4 * n + 1) (c .lon) nan (λ e. omega arith)
-        ∙ getD-set-same one-stored (4 * n + 1) (c .y) nan (simp length-set (omega arith))
-
-    stored-lon : getD stored (4 * n + 2) nan ≡ c .lon
-    stored-lon =
-        getD-set-other three-stored (4 * n + 3) (4 * n + 2) (c .lat) nan (λ e. omega arith)
-        ∙ getD-set-same two-stored (4 * n + 2) (c .lon) nan (simp length-set (omega arith))
-
-    stored-lat : getD stored (4 * n + 3) nan ≡ c .lat
-    stored-lat = getD-set-same three-stored (4 * n + 3) (c .lat) nan (simp length-set (omega arith))
-
-    pub stored-controls : controlsBy stored (suc n) ≡ controlsBy flat n ++ c ∷ []
-    unfolding controlsBy
-    stored-controls = rw (controls-by flat stored n stored-below, stored-x, stored-y, stored-lon, stored-lat) refl
 
 -- ---- one more is put
 module _ {b : Bool} {cs : List Control} {js : List ℕ} {g : Tally} {flat : List Float} {kept : List ℕ} (h : Holds b cs js g flat kept) (c : Control) (j : ℕ)
@@ -138,15 +79,15 @@ module _ {b : Bool} {cs : List Control} {js : List ℕ} {g : Tally} {flat : List
           by (inl p) = omega (arith, h .count ∙ p .1, one-more .0)
           by (inr p) = omega (arith, one-more .0)
 
-  pub put-more : g .n < 64 → Holds b (cs ++ c ∷ []) (js ++ j ∷ []) (record { n = g .n + 1; placed = ok }) (stored flat (g .n) c) (set kept (g .n) j)
+  pub put-more : g .n < 64 → Holds b (cs ++ c ∷ []) (js ++ j ∷ []) (record { n = g .n + 1; placed = ok }) (withFour flat (g .n) (c .x) (c .y) (c .lon) (c .lat)) (set kept (g .n) j)
   put-more k =
       record {
         count = rw next (sym (few (g .n + 1) (omega arith)));
         placed = placed-now;
-        controls = λ t d. rw (next, add-one (g .n)) (stored-controls flat (g .n) c (omega (arith, h .room-for)) ∙ rw (is, h .controls t (omega (arith, is))) refl);
+        controls = λ t d. rw (next, add-one (g .n)) (four-more flat (g .n) (c .x) (c .y) (c .lon) (c .lat) (omega (arith, h .room-for)) controlBy ∙ rw (is, h .controls t (omega (arith, is))) refl);
         numbers = λ t d. rw (next, add-one (g .n)) (take-suc-set kept (g .n) j (omega (arith, h .kept-room)) ∙ rw (is, h .numbers t (omega (arith, is))) refl);
         as-many = one-more .1;
-        room-for = stored-length flat (g .n) c ∙ h .room-for;
+        room-for = four-length flat (g .n) (c .x) (c .y) (c .lon) (c .lat) ∙ h .room-for;
         kept-room = length-set kept (g .n) j ∙ h .kept-room;
       }
     where

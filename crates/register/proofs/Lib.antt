@@ -12,10 +12,10 @@ pub mod Holding
 pub mod Reading
 pub mod Filling
 pub mod Forgetting
+pub mod Counting
 pub mod Parting
 pub mod Gathering
 pub mod Copying
-pub mod Counting
 pub mod Keeping
 pub mod Pushing
 pub mod Telling

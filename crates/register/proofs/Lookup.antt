@@ -9,7 +9,6 @@ use lib.ListN.{length, take, getD, replicate, length-append, length-take, length
 use lib.Seq.{getD-take, getD-append-add, length-take-le}
 use lib.Dec.{leb}
 use borrow.Author.Tests.{leb-true, leb-false}
-use Rattle.records.specs.Layout.{before}
 use Rattle.scene.specs.Scene.{NamedValue}
 use Rattle.scene.specs.Labels.{variableOf}
 use Rattle.scene.specs.Laws.Rising.{Rising, before-trans, before-some, lookup-on}

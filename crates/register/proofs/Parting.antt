@@ -1,9 +1,8 @@
 -- The events of a part of the names, batch after batch.
 use mathlib.Core.Path.{_≡_, refl, sym, ap, _∙_}
-use mathlib.Core.Logic.{_⊎_, inl, inr}
-use mathlib.Core.Bool.{Bool, true, false, _||_, cond, false≢true, or-assoc, or-false}
-use mathlib.Core.List.{List, [], _∷_, _++_, append-assoc, append-nil}
-use Prim.Native.Nat.{ℕ, zero, suc, _+_, _-_, _≤_, _<_}
+use mathlib.Core.Bool.{Bool, true, false, _||_, cond, false≢true, or-false}
+use mathlib.Core.List.{List, [], _∷_, _++_, map, append-assoc}
+use Prim.Native.Nat.{ℕ, zero, suc, _+_, _-_, _≤_}
 use native.Mathlib.Omega.{arith}
 use lib.ListN.{length, take, drop, length-append, take-append-drop}
 use lib.Seq.{take-add, take-length, take-nil, take-append-seam}
@@ -14,7 +13,7 @@ use Rattle.scene.specs.Scene.{Maybe, none, some, Point, Scene, NamedFeature, Na
 use Rattle.scene.specs.Labels.{same}
 use Rattle.scene.specs.Contracts.Answers.{featuresAt, variablesAt}
 use Rattle.scene.specs.Laws.Rising.{Rising, before-trans, before-itself, same-eq}
-use Rattle.register.specs.Register.{isSome, Event, control, warn, Warning, resolved, mentioned, eventOf, suffixLon, suffixLat, var, stem, ending, isLon, featureEvent, featureEvents, lonEvent, onto, variableEvents, controlsIn, events, controlsOf}
+use Rattle.register.specs.Register.{isSome, Event, resolved, mentioned, eventOf, suffixLon, suffixLat, var, stem, isLon, featureEvent, featureEvents, lonEvent, onto, variableEvents, controlsIn}
 use Rattle.register.specs.Contracts.Mentions.{Mention, featureMentions, lonMention, lonMentions, eventWith, grownBy, eventsOf, mentionsAt, Follows}
 use Rattle.register.specs.declared.mentions.Cursor.{Cursor}
 use Rattle.similarity.specs.declared.fit.Control.{Control}
@@ -22,7 +21,9 @@ use Rattle.register.specs.Contracts.Survey.{lonsIn}
 use Rattle.register.proofs.Lons.{lon-ends}
 use Rattle.register.proofs.Waiting.{same-self}
 use Rattle.register.proofs.Reading.{events-length, events-append}
-use Rattle.register.specs.Contracts.Gathered.{numbersIn, named, among, nobody, featured, againOf, grownAll, partEvents, beforeOf, baseOf, batchEvents, Earlier}
+use Rattle.register.proofs.Forgetting.{mentioned-snoc, grown-features}
+use Rattle.register.proofs.Counting.{feature-events, lon-events}
+use Rattle.register.specs.Contracts.Gathered.{numbersIn, named, among, nobody, featured, grownAll, partEvents, baseOf, batchEvents, Earlier}
 
 -- ---- names that were before, by equal functions
 grown-cong : (was was′ : List ℕ → Bool) (x : List ℕ) (lat : Maybe Float) → ((y : List ℕ) → was y ≡ was′ y) → (y : List ℕ) → grownBy was x lat y ≡ grownBy was′ x lat y
@@ -83,24 +84,13 @@ module _ (sc : Scene) (again : ℕ) where
 
 -- ---- host features
 module _ (sc : Scene) where
-  mentioned-more : (y : List ℕ) (fs : List NamedFeature) (f : NamedFeature) → mentioned y (fs ++ f ∷ []) ≡ (mentioned y fs || same (f .name) y)
-  unfolding mentioned
-  mentioned-more y [] f = or-false (same (f .name) y)
-  mentioned-more y (g ∷ fs) f = rw (mentioned-more y fs f) (sym (or-assoc (same (g .name) y) (mentioned y fs) (same (f .name) y)))
-
-  -- all of them, the names before which are `was`
-  features-grow : (was : List ℕ → Bool) (i : ℕ) (fs : List NamedFeature) (y : List ℕ) → grownAll was (featureMentions i fs) y ≡ (was y || mentioned y fs)
-  unfolding grownAll featureMentions mentioned
-  features-grow was i [] y = sym (or-false (was y))
-  features-grow was i (f ∷ fs) y = features-grow _ (suc i) fs y ∙ or-assoc (was y) (same (f .name) y) (mentioned y fs)
-
   features-are : (was : List ℕ → Bool) (i : ℕ) (us fs : List NamedFeature) → sc .features ≡ us ++ fs → i ≡ length us → ((y : List ℕ) → was y ≡ mentioned y us)
       → featureEvents sc i fs ≡ eventsOf sc 2 was (featureMentions i fs)
   unfolding featureEvents featureEvent eventsOf featureMentions
   features-are was i us [] e k w = refl
   features-are was i us (f ∷ fs) e k w =
       let z : take i (sc .features) ≡ us = rw (e, k) (take-append-seam us (f ∷ fs)) in
-      let t = features-are (grownBy was (f .name) (some (f .lat))) (suc i) (us ++ f ∷ []) fs (rw e (sym (append-assoc us (f ∷ []) fs))) (omega (arith, length-append us (f ∷ []))) (λ y. rw (w y) (sym (mentioned-more y us f))) in
+      let t = features-are (grownBy was (f .name) (some (f .lat))) (suc i) (us ++ f ∷ []) fs (rw e (sym (append-assoc us (f ∷ []) fs))) (omega (arith, length-append us (f ∷ []))) (λ y. rw (w y) (sym (mentioned-snoc y us f))) in
       rw (z, w (f .name)) (ap (λ (x : List Event). eventOf (resolved sc (f .name)) (mentioned (f .name) us) (f .lon) (f .lat) (record { kind = 2; index = i }) (record { kind = 2; index = i }) ∷ x) t)
 
   pub all-features : featureEvents sc 0 (sc .features) ≡ eventsOf sc 2 nobody (featureMentions 0 (sc .features))
@@ -113,10 +103,8 @@ module _ (sc : Scene) where
   mentions-take (suc a) i [] = refl
   mentions-take (suc a) i (f ∷ fs) = ap (λ (x : List Mention). record { name = f .name; lon = f .lon; lat = some (f .lat); index = i } ∷ x) (mentions-take a (suc i) fs)
 
-  pub features-length : (i : ℕ) (fs : List NamedFeature) → length (featureMentions i fs) ≡ length fs
-  unfolding featureMentions
-  features-length i [] = refl
-  features-length i (f ∷ fs) = ap suc (features-length (suc i) fs)
+  pub features-length : length (featureMentions 0 (sc .features)) ≡ length (sc .features)
+  features-length = sym (events-length sc 2 nobody (featureMentions 0 (sc .features))) ∙ ap length (sym all-features) ∙ feature-events sc 0 (sc .features)
 
   -- a batch of k more
   features-batch : (a k : ℕ) → let ms = featureMentions 0 (sc .features) in
@@ -124,33 +112,38 @@ module _ (sc : Scene) where
   features-batch a k =
       let ms = featureMentions 0 (sc .features) in
       ap (eventsOf sc 2 nobody) (take-add a k ms) ∙ events-append sc 2 nobody (take a ms) (take k (drop a ms))
-      ∙ ap (λ (x : List Event). eventsOf sc 2 nobody (take a ms) ++ x) (events-cong sc 2 (grownAll nobody (take a ms)) (featured sc a) (take k (drop a ms)) (λ y. rw (mentions-take a 0 (sc .features)) (features-grow nobody 0 (take a (sc .features)) y)))
+      ∙ ap (λ (x : List Event). eventsOf sc 2 nobody (take a ms) ++ x) (events-cong sc 2 (grownAll nobody (take a ms)) (featured sc a) (take k (drop a ms)) (λ y. rw (mentions-take a 0 (sc .features)) (grown-features nobody 0 (take a (sc .features)) y)))
 
 -- ---- `_lon` variables
 -- with no regard to each other
-unfoldable pub flatEvents : Scene → List Mention → List Event
-flatEvents sc [] = []
-flatEvents sc (m ∷ ms) = eventWith sc 3 (mentioned (m .name) (sc .features)) m (m .lat) ∷ flatEvents sc ms
+abbrev pub eventAt : Scene → Mention → Event
+eventAt sc m = lonEvent sc (m .index) (m .name) (m .lon) (m .lat)
+
+abbrev pub eventsAt : Scene → List Mention → List Event
+eventsAt sc ms = map (eventAt sc) ms
 
 module _ (sc : Scene) where
-  lon-is : (i : ℕ) (v : NamedValue) (lat : Maybe Float) → lonEvent sc i (stem (v .name)) (v .value) lat ≡ eventWith sc 3 (mentioned (stem (v .name)) (sc .features)) (lonMention sc i v) lat
+  event-is : (m : Mention) (lat : Maybe Float) → lonEvent sc (m .index) (m .name) (m .lon) lat ≡ eventWith sc 3 (mentioned (m .name) (sc .features)) m lat
   unfolding lonEvent
-  lon-is i v none = refl
-  lon-is i v (some lat) = refl
+  event-is m none = refl
+  event-is m (some lat) = refl
 
-  pub all-variables : (i : ℕ) (vs : List NamedValue) → variableEvents sc i vs ≡ flatEvents sc (lonMentions sc i vs)
-  unfolding variableEvents lonMentions flatEvents
-  all-variables i [] = refl
-  all-variables i (v ∷ vs) = by (isLon (v .name)) refl (all-variables (suc i) vs)
+  pub mention-events : (i : ℕ) (vs : List NamedValue) → variableEvents sc i vs ≡ eventsAt sc (lonMentions sc i vs)
+  unfolding variableEvents lonMentions
+  mention-events i [] = refl
+  mention-events i (v ∷ vs) = rw (mention-events (suc i) vs) (by (isLon (v .name)) (lonMention sc i v) (lonMentions sc (suc i) vs))
     where
-      by : (b : Bool) → isLon (v .name) ≡ b → variableEvents sc (suc i) vs ≡ flatEvents sc (lonMentions sc (suc i) vs) → variableEvents sc i (v ∷ vs) ≡ flatEvents sc (lonMentions sc i (v ∷ vs))
-      by true e g = rw (e, lon-is i v (var sc (stem (v .name) ++ suffixLat))) (ap (λ (x : List Event). eventWith sc 3 (mentioned (stem (v .name)) (sc .features)) (lonMention sc i v) (var sc (stem (v .name) ++ suffixLat)) ∷ x) g)
-      by false e g = rw e g
+      by : (b : Bool) (m : Mention) (ms : List Mention) → onto b (eventAt sc m) (eventsAt sc ms) ≡ eventsAt sc (cond b (m ∷ ms) ms)
+      by true m ms = refl
+      by false m ms = refl
 
-  flat-append : (ms ns : List Mention) → flatEvents sc (ms ++ ns) ≡ flatEvents sc ms ++ flatEvents sc ns
-  unfolding flatEvents
-  flat-append [] ns = refl
-  flat-append (m ∷ ms) ns = ap (λ (x : List Event). eventWith sc 3 (mentioned (m .name) (sc .features)) m (m .lat) ∷ x) (flat-append ms ns)
+  at-append : (ms ns : List Mention) → eventsAt sc (ms ++ ns) ≡ eventsAt sc ms ++ eventsAt sc ns
+  at-append [] ns = refl
+  at-append (m ∷ ms) ns = ap (λ (x : List Event). eventAt sc m ∷ x) (at-append ms ns)
+
+  at-length : (ms : List Mention) → length (eventsAt sc ms) ≡ length ms
+  at-length [] = refl
+  at-length (m ∷ ms) = ap suc (at-length ms)
 
   -- no name of a `_lon` variable stands twice
   lon-name : (name : List ℕ) → isLon name ≡ true → stem name ++ suffixLon ≡ name
@@ -168,8 +161,8 @@ module _ (sc : Scene) where
   -- so it is all one whether those before count
   lons-apart : (was : List ℕ → Bool) (u : List ℕ) (i k : ℕ) (vs : List NamedValue) → Rising u vs
       → ((name : List ℕ) → isLon name ≡ true → before u name ≡ true → was (stem name) ≡ mentioned (stem name) (sc .features))
-      → flatEvents sc (take k (lonMentions sc i vs)) ≡ eventsOf sc 3 was (take k (lonMentions sc i vs))
-  unfolding flatEvents eventsOf lonMentions
+      → eventsAt sc (take k (lonMentions sc i vs)) ≡ eventsOf sc 3 was (take k (lonMentions sc i vs))
+  unfolding eventsOf lonMentions
   lons-apart was u i k [] r w = rw take-nil refl
   lons-apart was u i k (v ∷ vs) r w = by (isLon (v .name)) refl k (λ was k. lons-apart was (v .name) (suc i) k vs (r .1))
     where
@@ -182,30 +175,24 @@ module _ (sc : Scene) where
 
       by : (b : Bool) → isLon (v .name) ≡ b → (k : ℕ)
           → ((was : List ℕ → Bool) (k : ℕ) → ((name : List ℕ) → isLon name ≡ true → before (v .name) name ≡ true → was (stem name) ≡ mentioned (stem name) (sc .features))
-          → flatEvents sc (take k (lonMentions sc (suc i) vs)) ≡ eventsOf sc 3 was (take k (lonMentions sc (suc i) vs)))
-          → flatEvents sc (take k (lonMentions sc i (v ∷ vs))) ≡ eventsOf sc 3 was (take k (lonMentions sc i (v ∷ vs)))
+          → eventsAt sc (take k (lonMentions sc (suc i) vs)) ≡ eventsOf sc 3 was (take k (lonMentions sc (suc i) vs)))
+          → eventsAt sc (take k (lonMentions sc i (v ∷ vs))) ≡ eventsOf sc 3 was (take k (lonMentions sc i (v ∷ vs)))
       by false e k g = rw e (g was k later)
       by true e zero g = refl
       by true e (suc k) g =
-          rw (e, w (v .name) e (r .0))
+          rw (e, w (v .name) e (r .0), event-is (lonMention sc i v) (var sc (stem (v .name) ++ suffixLat)))
           (ap (λ (x : List Event). eventWith sc 3 (mentioned (stem (v .name)) (sc .features)) (lonMention sc i v) (var sc (stem (v .name) ++ suffixLat)) ∷ x)
           (g _ k (grown-same e (var sc (stem (v .name) ++ suffixLat)))))
 
-  pub lons-length : (i : ℕ) (vs : List NamedValue) → length (lonMentions sc i vs) ≡ lonsIn vs
-  unfolding lonMentions lonsIn
-  lons-length i [] = refl
-  lons-length i (v ∷ vs) = by (isLon (v .name)) refl (lons-length (suc i) vs)
-    where
-      by : (b : Bool) → isLon (v .name) ≡ b → length (lonMentions sc (suc i) vs) ≡ lonsIn vs → length (lonMentions sc i (v ∷ vs)) ≡ lonsIn (v ∷ vs)
-      by true e g = rw e (ap suc g)
-      by false e g = rw e g
+  pub lons-length : length (lonMentions sc 0 (sc .variables)) ≡ lonsIn (sc .variables)
+  lons-length = sym (at-length (lonMentions sc 0 (sc .variables))) ∙ ap length (sym (mention-events 0 (sc .variables))) ∙ lon-events sc 0 (sc .variables)
 
   -- a batch of k more, behind the first a of them
   pub lons-batch : (a k : ℕ) (u : List ℕ) (i : ℕ) (vs : List NamedValue) (ms : List Mention) → drop a ms ≡ lonMentions sc i vs → Rising u vs
-      → flatEvents sc (take (a + k) ms) ≡ flatEvents sc (take a ms) ++ eventsOf sc 3 (featured sc (length (sc .features))) (take k (drop a ms))
+      → eventsAt sc (take (a + k) ms) ≡ eventsAt sc (take a ms) ++ eventsOf sc 3 (featured sc (length (sc .features))) (take k (drop a ms))
   lons-batch a k u i vs ms e r =
-      ap (flatEvents sc) (take-add a k ms) ∙ flat-append (take a ms) (take k (drop a ms))
-      ∙ ap (λ (x : List Event). flatEvents sc (take a ms) ++ x) (rw e (lons-apart (featured sc (length (sc .features))) u i k vs r (λ name l m. rw take-length refl)))
+      ap (eventsAt sc) (take-add a k ms) ∙ at-append (take a ms) (take k (drop a ms))
+      ∙ ap (λ (x : List Event). eventsAt sc (take a ms) ++ x) (rw e (lons-apart (featured sc (length (sc .features))) u i k vs r (λ name l m. rw take-length refl)))
 
 -- ---- a part of the names
 abbrev pub partMentions : Bool → Scene → List Mention
@@ -214,20 +201,15 @@ partMentions false sc = featureMentions 0 (sc .features)
 
 -- what its first mentions come to
 abbrev pub soFar : Bool → Scene → List Mention → List Event
-soFar true sc ms = flatEvents sc ms
+soFar true sc ms = eventsAt sc ms
 soFar false sc ms = eventsOf sc 2 nobody ms
 
-flat-length : (sc : Scene) (ms : List Mention) → length (flatEvents sc ms) ≡ length ms
-unfolding flatEvents
-flat-length sc [] = refl
-flat-length sc (m ∷ ms) = ap suc (flat-length sc ms)
-
 pub so-far-length : (lons : Bool) (sc : Scene) (ms : List Mention) → length (soFar lons sc ms) ≡ length ms
-so-far-length true sc ms = flat-length sc ms
+so-far-length true sc ms = at-length sc ms
 so-far-length false sc ms = events-length sc 2 nobody ms
 
 pub part-whole : (lons : Bool) (sc : Scene) → soFar lons sc (partMentions lons sc) ≡ partEvents lons sc
-part-whole true sc = sym (all-variables sc 0 (sc .variables))
+part-whole true sc = sym (mention-events sc 0 (sc .variables))
 part-whole false sc = sym (all-features sc)
 
 none-before : (a : ℕ) → a ≡ 0 + a
@@ -240,7 +222,7 @@ pub part-batch : (lons : Bool) (s : List ℕ) (c : Cursor) (runs : List ℕ) (a 
 part-batch true s c runs a k f e =
     let sc = sceneOf (payload s) in
     lons-batch sc a k _ (c .i) (variablesAt (payload s) (c .q)) (lonMentions sc 0 (sc .variables)) (sym e) (f .along refl .passed .rising)
-    ∙ ap (λ (x : List Mention). flatEvents sc (take a (lonMentions sc 0 (sc .variables))) ++ eventsOf sc 3 (featured sc (length (sc .features))) (take k x)) (sym e)
+    ∙ ap (λ (x : List Mention). eventsAt sc (take a (lonMentions sc 0 (sc .variables))) ++ eventsOf sc 3 (featured sc (length (sc .features))) (take k x)) (sym e)
 part-batch false s c runs a k f e =
     let sc = sceneOf (payload s) in
     features-batch sc a k ∙ ap (λ (x : List Mention). eventsOf sc 2 nobody (take a (featureMentions 0 (sc .features))) ++ eventsOf sc 2 (featured sc a) (take k x)) (sym e)
@@ -248,7 +230,7 @@ part-batch false s c runs a k f e =
 
 -- the host features before it are done
 pub part-earlier : (lons : Bool) (sc : Scene) (a : ℕ) (cs : List Control) → Earlier sc lons 0 cs → Earlier sc lons (baseOf lons sc + a) (cs ++ controlsIn (soFar lons sc (take a (partMentions lons sc))))
-part-earlier true sc a cs h = omega (arith, h, length-append cs (controlsIn (flatEvents sc (take a (lonMentions sc 0 (sc .variables))))))
+part-earlier true sc a cs h = omega (arith, h, length-append cs (controlsIn (eventsAt sc (take a (lonMentions sc 0 (sc .variables))))))
 part-earlier false sc a cs h =
     let z = ap (λ (x : List Mention). length (controlsIn (eventsOf sc 2 nobody x))) (mentions-take sc a 0 (sc .features)) in
     let o = ap (λ (b : ℕ). length (controlsIn (eventsOf sc 2 nobody (featureMentions 0 (take b (sc .features)))))) (none-before a) in

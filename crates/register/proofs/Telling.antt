@@ -1,7 +1,7 @@
 -- The loops over features and variables that write warnings: what is done, and one turn.
 use mathlib.Core.Path.{_≡_, refl, ap, sym, _∙_}
-use mathlib.Core.Bool.{Bool, true, false, not, cond, and-false, false≢true}
-use mathlib.Core.List.{List, [], _∷_, _++_, map}
+use mathlib.Core.Bool.{Bool, true, false, not, and-false, false≢true}
+use mathlib.Core.List.{List, [], _∷_, _++_}
 use Prim.Native.Nat.{ℕ, suc, _+_, _-_, _≤_, _<_}
 use native.Mathlib.Numerals.{add-one}
 use native.Mathlib.Omega.{arith}
@@ -12,17 +12,18 @@ use Rattle.stream.specs.Payload.{payload}
 use Rattle.stream.specs.Contracts.Payload.{room}
 use Rattle.records.specs.Records.{part}
 use Rattle.scene.specs.declared.sections.FeatureName.{FeatureName}
-use Rattle.scene.specs.Scene.{Scene, NamedFeature, NamedValue, numberAt, sceneOf}
+use Rattle.scene.specs.Scene.{Scene, NamedFeature, numberAt, sceneOf}
 use Rattle.scene.specs.Contracts.Answers.{featuresAt, featuresBy, featureBy, valueBy, variablesAt, Variables, Within, Headed}
 use Rattle.scene.specs.Laws.Answers.{scene-lists}
 use Rattle.scene.specs.Laws.Rising.{Rising}
 use Rattle.register.specs.declared.mentions.Cursor.{Cursor}
 use Rattle.register.specs.declared.mentions.Mention as code-mention
-use Rattle.register.specs.Register.{Event, control, warn, isSome, resolved, isLon, onto, mentioned, featureEvent, featureEvents, lonEvent, variableEvents, events, warningsIn, controlsOf, viewWarnings, halfWarnings, ignoredWith, registerWarnings}
+use Rattle.register.specs.Register.{Event, control, warn, isSome, resolved, mentioned, featureEvent, featureEvents, variableEvents, events, warningsIn, controlsOf, viewWarnings, halfWarnings, ignoredWith, registerWarnings}
 use Rattle.register.specs.Contracts.Gathered.{numbersIn, Kept}
-use Rattle.register.specs.Contracts.Mentions.{Mention, lonMention, lonMentions, mentionsAt, mentionBy, Follows, Asked}
+use Rattle.register.specs.Contracts.Mentions.{Mention, lonMentions, mentionsAt, mentionBy, Follows, Asked}
 use Rattle.register.specs.Contracts.Warned.{Sheet, pushed, allPushed, firstIs, called, Heading, Behind, kindBy}
 use Rattle.register.proofs.Turning.{along}
+use Rattle.register.proofs.Parting.{eventAt, eventsAt, mention-events}
 use Rattle.register.proofs.Keeping.{isControl, kept-is, kept-fits, kept-control, kept-warn, taken-more, feature-warns, heading-same, heading-more, lon-warns}
 use Rattle.register.proofs.Pushing.{Fits, push-fits, one-kept, pushed-append, warnings-append}
 
@@ -129,23 +130,11 @@ module _ {s kept : List ℕ} {n : ℕ} {heads : List ℕ} {h : ℕ} {t₀ t : Sh
         })
 
 -- ---- variables, by their mentions
-abbrev pub eventAt : Scene → Mention → Event
-eventAt sc m = lonEvent sc (m .index) (m .name) (m .lon) (m .lat)
-
-mention-events : (sc : Scene) (i : ℕ) (vs : List NamedValue) → variableEvents sc i vs ≡ map (eventAt sc) (lonMentions sc i vs)
-unfolding variableEvents lonMentions
-mention-events sc i [] = refl
-mention-events sc i (v ∷ vs) = rw (mention-events sc (suc i) vs) (by (isLon (v .name)) (lonMention sc i v) (lonMentions sc (suc i) vs))
-  where
-    by : (b : Bool) (m : Mention) (ms : List Mention) → onto b (eventAt sc m) (map (eventAt sc) ms) ≡ map (eventAt sc) (cond b (m ∷ ms) ms)
-    by true m ms = refl
-    by false m ms = refl
-
 -- those before the cursor c are done, behind f host features; j is the number of the next
 pub record Telling (s kept : List ℕ) (n : ℕ) (t₀ t : Sheet) (runs : List ℕ) (c : Cursor) (k f j : ℕ) : Type 0 where
   pub follows : Follows s true c runs
-  pub all : allPushed (warningsIn (variableEvents (sceneOf (payload s)) 0 (sceneOf (payload s) .variables))) t₀ ≡ allPushed (warningsIn (map (eventAt (sceneOf (payload s))) (mentionsAt (payload s) true c))) t
-  pub left : drop k (take n kept) ≡ numbersIn j (map (eventAt (sceneOf (payload s))) (mentionsAt (payload s) true c))
+  pub all : allPushed (warningsIn (variableEvents (sceneOf (payload s)) 0 (sceneOf (payload s) .variables))) t₀ ≡ allPushed (warningsIn (eventsAt (sceneOf (payload s)) (mentionsAt (payload s) true c))) t
+  pub left : drop k (take n kept) ≡ numbersIn j (eventsAt (sceneOf (payload s)) (mentionsAt (payload s) true c))
   pub fits : Fits t
   pub as-long : length (t .out) ≡ length (t₀ .out)
   pub short : j ≤ f + c .q
@@ -162,7 +151,7 @@ telling s kept n t {q} k e r g =
       short = omega arith;
     }
   where
-    from : variableEvents (sceneOf (payload s)) 0 (sceneOf (payload s) .variables) ≡ map (eventAt (sceneOf (payload s))) (lonMentions (sceneOf (payload s)) 0 (variablesAt (payload s) q))
+    from : variableEvents (sceneOf (payload s)) 0 (sceneOf (payload s) .variables) ≡ eventsAt (sceneOf (payload s)) (lonMentions (sceneOf (payload s)) 0 (variablesAt (payload s) q))
     from = ap (variableEvents (sceneOf (payload s)) 0) (scene-lists (payload s) .1 ∙ e .all) ∙ (mention-events (sceneOf (payload s)) 0 (variablesAt (payload s) q))
 
 module _ {s kept : List ℕ} {n : ℕ} {t₀ t : Sheet} {runs runs′ : List ℕ} {c : Cursor} {k f j : ℕ} (d : Telling s kept n t₀ t runs c k f j) (m : code-mention.Mention) (a : Asked s true c m runs′) where
@@ -177,10 +166,10 @@ module _ {s kept : List ℕ} {n : ℕ} {t₀ t : Sheet} {runs runs′ : List ℕ
     next : mentionsAt (payload s) true c ≡ mentionBy (payload s) m ∷ mentionsAt (payload s) true (m .next)
     next = a .lists ∙ rw (not-false (m .some) o) refl
 
-    lons-left : drop k (take n kept) ≡ numbersIn j (eventAt lons (mentionBy (payload s) m) ∷ map (eventAt lons) (mentionsAt (payload s) true (m .next)))
+    lons-left : drop k (take n kept) ≡ numbersIn j (eventAt lons (mentionBy (payload s) m) ∷ eventsAt lons (mentionsAt (payload s) true (m .next)))
     lons-left = rw next at (d .left)
 
-    lons-all : allPushed (warningsIn (variableEvents lons 0 (lons .variables))) t₀ ≡ allPushed (warningsIn (eventAt lons (mentionBy (payload s) m) ∷ map (eventAt lons) (mentionsAt (payload s) true (m .next)))) t
+    lons-all : allPushed (warningsIn (variableEvents lons 0 (lons .variables))) t₀ ≡ allPushed (warningsIn (eventAt lons (mentionBy (payload s) m) ∷ eventsAt lons (mentionsAt (payload s) true (m .next)))) t
     lons-all = rw next at (d .all)
 
     lon-event : isControl (eventAt lons (mentionBy (payload s) m)) ≡ b

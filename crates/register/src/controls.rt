@@ -128,7 +128,8 @@ fn fill(s: &[u8], lons: bool, t: &mut [u32], c: Cursor, runs: &mut [usize]) -> F
 
 // The name of n bytes behind p is known from now on: its entry, if there is one, loses its mark. The mark that it had.
 fn take_mark(s: &[u8], t: &mut [u32], count: usize, p: usize, n: usize, more: u64) -> usize
-    requires { ⌜ (p + 9 + n ≤ room (now s)) × (n + more ≤ 255) × Table more (payload (now s)) (now t) count ⌝ }
+    requires { ⌜ (p + 9 + n ≤ room (now s)) × (n + more ≤ 255)
+        × Table more (payload (now s)) (now t) count ⌝ }
     ensures { λ r. ⌜ Taken more (payload (now (s .entry))) (now (t .entry)) (now (t .exit)) count
         (part (payload (now (s .entry))) (p + 1) n) r ⌝ }
 {
@@ -192,12 +193,14 @@ fn read_one(
     kept: &mut [u32],
     g: Tally,
 ) -> Tally
-    requires { ⌜ (j < 4294967296) × (length (now spots) ≡ 128) × (length (now flat) ≡ 256) × (length (now kept) ≡ 64)
+    requires { ⌜ (j < 4294967296) × (length (now spots) ≡ 128) × (length (now flat) ≡ 256)
+        × (length (now kept) ≡ 64)
         × Table (moreOf lons) (payload (now s)) (now t) n × Heads (now s) (moreOf lons) m ⌝ }
     ensures { λ r. ⌜ ((h : Ready (payload (now (s .entry))) lons (mentionBy (payload (now (s .entry))) m ∷ [])
         (now (t .entry)) n (now (spots .entry)) g (now (flat .entry)) (now (kept .entry)))
         → Read (payload (now (s .entry))) lons (mentionBy (payload (now (s .entry))) m ∷ [])
-        (now (t .entry)) (now (t .exit)) n (now (spots .entry)) j (h .was) (h .b) (h .cs) (h .js) r (now (flat .exit)) (now (kept .exit))) ⌝ }
+        (now (t .entry)) (now (t .exit)) n (now (spots .entry)) j (h .was) (h .b) (h .cs) (h .js) r (now (flat .exit))
+        (now (kept .exit))) ⌝ }
     ensures { λ r. ⌜ Table (moreOf lons) (payload (now (s .entry))) (now (t .exit)) n ⌝ }
 {
     let lat = m.lat;
@@ -227,9 +230,11 @@ fn read(
     g: Tally,
 ) -> Tally
     requires { ⌜ (base + count < 4294967296) × (length (now spots) ≡ 128) × (length (now flat) ≡ 256)
-        × (length (now kept) ≡ 64) × Follows (now s) lons c (now runs) × Table (moreOf lons) (payload (now s)) (now t) n ⌝ }
+        × (length (now kept) ≡ 64) × Follows (now s) lons c (now runs)
+        × Table (moreOf lons) (payload (now s)) (now t) n ⌝ }
     ensures { λ r. ⌜ ((h : Ready (payload (now (s .entry))) lons
-        (take count (mentionsAt (payload (now (s .entry))) lons c)) (now (t .entry)) n (now (spots .entry)) g (now (flat .entry)) (now (kept .entry)))
+        (take count (mentionsAt (payload (now (s .entry))) lons c)) (now (t .entry)) n (now (spots .entry)) g
+        (now (flat .entry)) (now (kept .entry)))
         → Read (payload (now (s .entry))) lons (take count (mentionsAt (payload (now (s .entry))) lons c))
         (now (t .entry)) (now (t .exit)) n (now (spots .entry)) base (h .was) (h .b) (h .cs) (h .js) r
         (now (flat .exit)) (now (kept .exit))) ⌝ }
@@ -293,7 +298,8 @@ fn gather_batch(
     requires { ⌜ (room (now s) < 33554432) × Surveyed (payload (now s)) v × (base + f .count ≤ v .names)
         × Follows (now s) lons c (now runs) × Filling (now s) lons c f (now t)
         × (length (now flat) ≡ 256) × (length (now kept) ≡ 64) ⌝ }
-    ensures { λ r. ⌜ ((cs : List Control) (js : List ℕ) → Holds true cs js g (now (flat .entry)) (now (kept .entry))
+    ensures { λ r. ⌜ ((cs : List Control) (js : List ℕ)
+        → Holds true cs js g (now (flat .entry)) (now (kept .entry))
         → Earlier (sceneOf (payload (now (s .entry)))) lons base cs
         → Holds true
         (cs ++ controlsIn (batchEvents (payload (now (s .entry))) lons base
@@ -326,7 +332,8 @@ fn gather_part(
 ) -> Tally
     requires { ⌜ (room (now s) < 33554432) × (laidOut (payload (now s)) ≡ true) × Surveyed (payload (now s)) v
         × (1 ≤ length (now t)) × (length (now flat) ≡ 256) × (length (now kept) ≡ 64) ⌝ }
-    ensures { λ r. ⌜ ((cs : List Control) (js : List ℕ) → Holds true cs js g (now (flat .entry)) (now (kept .entry))
+    ensures { λ r. ⌜ ((cs : List Control) (js : List ℕ)
+        → Holds true cs js g (now (flat .entry)) (now (kept .entry))
         → Earlier (sceneOf (payload (now (s .entry)))) lons 0 cs
         → Holds true
         (cs ++ controlsIn (partEvents lons (sceneOf (payload (now (s .entry))))))

@@ -79,7 +79,8 @@ fn anchor_of(option: Spot, lon: Value, lat: Value) -> Spot
 }
 
 fn is_half(option: Spot, lon: Value, lat: Value) -> bool
-    ensures { λ r. ⌜ r ≡ not (isSome (spotBy option)) && onlyOne (isSome (valueBy lon)) (isSome (valueBy lat)) ⌝ }
+    ensures { λ r. ⌜ r ≡ not (isSome (spotBy option)) && onlyOne (isSome (valueBy lon))
+        (isSome (valueBy lat)) ⌝ }
 {
     if option.some {
         return false;

@@ -68,7 +68,8 @@ fn check_scale(r: Registration) -> Outcome
 // 12 to 14: by what is declared, about an anchor, with an origin.
 fn declare(d: Declared, anchor: Spot, origin: Spot, n: u32) -> Outcome
     ensures { λ o. ⌜ ((sc : Scene) → Declares sc d → o
-        ≡ declaredOutcome sc (record { x = anchor .x; y = anchor .y }) (record { x = origin .x; y = origin .y }) n) ⌝ }
+        ≡ declaredOutcome sc (record { x = anchor .x; y = anchor .y })
+        (record { x = origin .x; y = origin .y }) n) ⌝ }
 {
     let scale = d.scale;
     let value = if scale.some { scale.value } else { 100.0 };

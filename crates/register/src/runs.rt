@@ -72,7 +72,8 @@ pub fn lat_of(s: &[u8], p: usize, at: usize, n: usize) -> Value
     requires { ⌜ (at + n + 4 ≤ room (now s)) × (part (payload (now s)) (at + n) 4 ≡ suffixLon)
         × Rising [] (variablesAt (payload (now s)) p) ⌝ }
     ensures { λ r. ⌜ valueBy r
-        ≡ variableOf (part (payload (now (s .entry))) at n ++ suffixLat) (variablesAt (payload (now (s .entry))) p) ⌝ }
+        ≡ variableOf (part (payload (now (s .entry))) at n ++ suffixLat)
+        (variablesAt (payload (now (s .entry))) p) ⌝ }
 {
     let mut q = p;
     loop {

@@ -76,7 +76,8 @@ fn warn_features(
     out: &mut [u32],
     w: Warned,
 ) -> Featured
-    requires { ⌜ (room (now s) < 33554432) × (w .used ≤ length (now out)) × (n ≤ 64) × (length (now kept) ≡ 64)
+    requires { ⌜ (room (now s) < 33554432) × (w .used ≤ length (now out)) × (n ≤ 64)
+        × (length (now kept) ≡ 64)
         × (length (now heads) ≡ 64) × (take n (now kept) ≡ numbersIn 0 (events (sceneOf (payload (now s))))) ⌝ }
     ensures { λ r. ⌜ record { out = now (out .exit); said = r .warned }
         ≡ allPushed (warningsIn (featureEvents (sceneOf (payload (now (s .entry)))) 0

@@ -26,7 +26,8 @@ pub extern "C" fn register_stream(s: &[u8]) -> Outcome
 // The warnings of an accepted registration; none of any other stream.
 #[no_mangle]
 pub extern "C" fn register_warnings(s: &[u8], out: &mut [u32]) -> Warned
-    ensures { λ r. ⌜ record { out = now (out .exit); said = r } ≡ warnedOf (now (s .entry)) (now (out .entry)) ⌝ }
+    ensures { λ r. ⌜ record { out = now (out .exit); said = r }
+        ≡ warnedOf (now (s .entry)) (now (out .entry)) ⌝ }
 {
     let none = Warned { ok: true, used: 0 };
     if records::refusal(s) != 0 {

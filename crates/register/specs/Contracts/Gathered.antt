@@ -3,15 +3,16 @@ use mathlib.Core.Path.{_≡_}
 use mathlib.Core.Logic.{_⊎_}
 use mathlib.Core.Bool.{Bool, true, false, cond, _||_}
 use mathlib.Core.List.{List, [], _∷_, _++_}
-use Prim.Native.Nat.{ℕ, zero, suc, _+_, _*_, _%_, _≤_, _<_}
+use Prim.Native.Nat.{ℕ, suc, _+_, _%_, _≤_, _<_}
 use lib.ListN.{length, take, drop, getD}
 use lib.Dec.{eqb, ltb}
-use lib.Ieee.{Float, nan}
+use lib.Ieee.{Float}
 use Rattle.stream.specs.Payload.{payload}
 use Rattle.stream.specs.Contracts.Payload.{room}
 use Rattle.scene.specs.Scene.{Maybe, none, some, Point, Scene, sceneOf}
 use Rattle.scene.specs.Labels.{same}
 use Rattle.similarity.specs.declared.fit.Control.{Control}
+use Rattle.similarity.specs.Contracts.Fours.{fourIn, foursIn}
 use Rattle.names.specs.Contracts.Table.{nameOf, markOf, marked, Table, Unmarked, In}
 use Rattle.names.specs.Contracts.Batch.{spotOf}
 use Rattle.register.specs.declared.controls.Tally.{Tally}
@@ -30,12 +31,14 @@ abbrev pub upTo65 : ℕ → ℕ
 upTo65 n = cond (ltb 64 n) 65 n
 
 -- the k-th control point of a slice, four numbers each, and the first n
-abbrev pub controlIn : List Float → ℕ → Control
-controlIn flat k = record { x = getD flat (4 * k) nan; y = getD flat (4 * k + 1) nan; lon = getD flat (4 * k + 2) nan; lat = getD flat (4 * k + 3) nan }
+abbrev pub controlBy : Float → Float → Float → Float → Control
+controlBy x y lon lat = record { x = x; y = y; lon = lon; lat = lat }
 
-unfoldable pub controlsBy : List Float → ℕ → List Control
-controlsBy flat zero = []
-controlsBy flat (suc n) = controlsBy flat n ++ controlIn flat n ∷ []
+abbrev pub controlIn : List Float → ℕ → Control
+controlIn = fourIn controlBy
+
+abbrev pub controlsBy : List Float → ℕ → List Control
+controlsBy = foursIn controlBy
 
 -- cs are gathered, of the names js; where b is false, only how many there are is known, and whether all are placed
 pub record Holds (b : Bool) (cs : List Control) (js : List ℕ) (g : Tally) (flat : List Float) (kept : List ℕ) : Type 0 where

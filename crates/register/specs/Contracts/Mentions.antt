@@ -3,7 +3,7 @@ use mathlib.Core.Path.{_≡_}
 use Prim.Native.Nat.{ℕ, suc, _+_, _-_, _≤_, _<_}
 use mathlib.Core.Bool.{Bool, true, false, _||_, cond}
 use mathlib.Core.List.{List, [], _∷_, _++_}
-use lib.ListN.{length, take, getD}
+use lib.ListN.{getD}
 use lib.Ieee.{Float}
 use Rattle.stream.specs.Payload.{payload}
 use Rattle.stream.specs.Contracts.Payload.{room}
@@ -13,7 +13,7 @@ use Rattle.scene.specs.Labels.{same}
 use Rattle.scene.specs.Contracts.Answers.{valueBy, featuresAt, variablesAt}
 use Rattle.register.specs.declared.mentions.Cursor.{Cursor}
 use Rattle.register.specs.declared.mentions.Mention as code-mention
-use Rattle.register.specs.Register.{Event, control, warn, Warning, resolved, mentioned, eventOf, suffixLat, var, stem, isLon, controlsIn}
+use Rattle.register.specs.Register.{Event, warn, resolved, eventOf, suffixLat, var, stem, isLon}
 use Rattle.register.specs.Contracts.Runs.{Along}
 
 -- a name, and where it is said to be; `_lat` may not be set

@@ -1,9 +1,9 @@
 -- As many numbers are kept as there are control points.
-use mathlib.Core.Path.{_≡_, refl, sym, ap, _∙_}
+use mathlib.Core.Path.{_≡_, refl, ap}
 use mathlib.Core.List.{List, [], _∷_}
 use Prim.Native.Nat.{ℕ, suc, _≤_}
 use native.Mathlib.Omega.{arith}
-use lib.ListN.{length, take, length-take}
+use lib.ListN.{length, length-take}
 use Rattle.scene.specs.Scene.{Scene}
 use Rattle.register.specs.Register.{Event, control, warn, events, controlsIn, controlsOf}
 use Rattle.register.specs.Contracts.Gathered.{numbersIn, Kept}

@@ -16,6 +16,7 @@ use Rattle.scene.specs.Scene.{Maybe, none, some, Point, Scene}
 use Rattle.scene.specs.declared.numbers.Spot.{Spot}
 use Rattle.scene.specs.Contracts.Answers.{spotBy}
 use Rattle.similarity.specs.declared.fit.Control.{Control}
+use Rattle.similarity.specs.Contracts.Fours.{foursIn}
 use Rattle.similarity.specs.declared.projection.Registration.{Registration}
 use Rattle.similarity.specs.Fit.{fitOf}
 use Rattle.register.specs.declared.controls.Tally.{Tally}
@@ -45,11 +46,11 @@ module _ {cs : List Control} {js : List ℕ} {g : Tally} {flat : List Float} {ke
       rw e at (h .controls refl (omega arith))
 
   pub none-kept : g .n ≡ 0 → cs ≡ []
-  unfolding controlsBy
+  unfolding foursIn
   none-kept e = sym (all-kept (omega arith)) ∙ rw e
 
   pub one-kept : {c : Control} → c ≡ controlIn flat 0 → g .n ≡ 1 → cs ≡ c ∷ []
-  unfolding controlsBy
+  unfolding foursIn
   one-kept k e = sym (all-kept (omega arith)) ∙ rw (e, k)
 
   pub keeps : g .n ≤ 64 → take (length cs) kept ≡ js

@@ -2,7 +2,8 @@ use borrow.Author.Needs.{needs}
 use mathlib.Core.List.{[]}
 use Rattle.stream.specs.Payload.{payload}
 use Rattle.scene.specs.Scene.{sceneOf}
-use Rattle.register.proofs.Gathering.{both-parts, features-alone, features-first, none-before-all, none-held, no-lons}
+use Rattle.register.proofs.Gathering.{both-parts, features-alone, features-first, none-before-all, none-held}
+use Rattle.register.proofs.Counting.{only-features}
 use Rattle.register.proofs.controls.gather_names.Statement.{statement}
 use Rattle.register.proofs.controls.gather_names.Tie as tie
 use Rattle.register.proofs.controls.gather_names.Reads as reads
@@ -31,7 +32,7 @@ returns c =
     let pre = c .before .before .before .before .before .before .before .before .before .before .before .before .before .before .before .before .pre in
     let sc = sceneOf (payload (c .before .before .before .before .before .before .before .before .before .before .before .before .before .before .before .before .args .s .now)) in
     let h = c .before .before .before .before .before .before .before .before .gather-part .ensures [] [] (none-held (pre .4) (pre .5)) (none-before-all sc) in
-    features-alone sc (no-lons _ (pre .2) (c .if1 .taken)) h
+    features-alone sc (only-features (pre .2) (c .if1 .taken)) h
 
 -- src/controls.rt:354:5
 gather-part-requires-2 : tie.Need-gather-part-requires-2

@@ -7,9 +7,10 @@ use Prim.Native.Nat.{_-_}
 use native.Mathlib.Omega.{arith}
 use lib.ListN.{take}
 use lib.Dec.{eqb}
-use Rattle.register.specs.Contracts.Gathered.{controlsBy}
+use Rattle.similarity.specs.Laws.Fours.{fours-length}
+use Rattle.register.specs.Contracts.Gathered.{controlBy, controlsBy}
 use Rattle.register.specs.Contracts.Outcome.{fittedOutcome}
-use Rattle.register.proofs.Copying.{Copied, copied, copied-one, all-copied, controls-length}
+use Rattle.register.proofs.Copying.{Copied, copied, copied-one, all-copied}
 use Rattle.register.proofs.outcome.fit_controls.Statement.{statement}
 use Rattle.register.proofs.outcome.fit_controls.Tie as tie
 
@@ -74,7 +75,7 @@ returns-2 c =
     let args = f .before .before .before .before .before .args in
     let n = args .n in
     let m : j .if2 .method ≡ cond (eqb n 2) 1 2 = ⊎-elim (λ w. rw (eq-eqb n 2 (w .0 .taken)) (w .1)) (λ w. rw (ne-eqb n 2 (w .0 .left)) (w .1)) (j .if2 .came) in
-    rw (controls-length (args .flat .now) n, ← all f, ← f .fit-points .ensures, not-false (f .fit-points .result .some) (j .before .if1 .left), ← m) (c .check-scale .ensures)
+    rw (fours-length controlBy (args .flat .now) n, ← all f, ← f .fit-points .ensures, not-false (f .fit-points .result .some) (j .before .if1 .left), ← m) (c .check-scale .ensures)
 
 pub fit-controls-spec : {M : Type 1} → statement M
 fit-controls-spec =
