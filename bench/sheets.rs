@@ -230,15 +230,10 @@ fn cubics() -> Doc {
 
 /// A stream of the largest size, filled with one item.
 fn largest(item: &Item) -> Vec<u8> {
-    const PAYLOAD: usize = 65_536 * write::PAYLOAD;
-    let mut payload = sheet().records().concat();
+    let payload = sheet().records().concat();
     let all = sheet().item(item.clone()).records().concat();
-    let one = &all[payload.len()..];
-    while payload.len() + one.len() < PAYLOAD {
-        payload.extend(one);
-    }
-    payload.push(0);
-    write::blocks(&payload)
+    let one = all[payload.len()..].to_vec();
+    filled(payload, &|_| one.clone())
 }
 
 fn dots(n: usize) -> Doc {
@@ -378,13 +373,27 @@ fn names(lent: &mut Lent, rounds: usize) {
     }
 }
 
+/// The payload of the largest stream.
+const LARGEST: usize = 65_536 * write::PAYLOAD;
+
+/// A stream of that size: these records, and labels up to its end.
+fn filled(mut payload: Vec<u8>, label: &dyn Fn(usize) -> Vec<u8>) -> Vec<u8> {
+    for j in 0.. {
+        let record = label(j);
+        if payload.len() + record.len() >= LARGEST {
+            break;
+        }
+        payload.extend(record);
+    }
+    payload.push(0);
+    write::blocks(&payload)
+}
+
 /// Streams of the largest size, by the module alone.
 fn largest_names(lent: &mut Lent) {
-    const PAYLOAD: usize = 65_536 * write::PAYLOAD;
     let digits = b"0123456789abcdefghijklmnopqrstuvwxyzABCDEFGHIJKLMNOPQRSTUVWXYZ-_";
     let four =
         |i: usize| -> String { (0..4).rev().map(|k| digits[i >> (6 * k) & 63] as char).collect() };
-    let long = |i: usize| -> String { "z".repeat(27) + &four(i) };
     let feature = |name: &str| Doc::new().feature(name, 7.0, 45.0).records()[1].clone();
     let place = |name: &str| Doc::new().place(name, [1.0, 2.0]).records()[1].clone();
     let item = |name: &str| Doc::new().item(Item::new(LINE).label(name)).records()[1].clone();
@@ -393,22 +402,12 @@ fn largest_names(lent: &mut Lent) {
         |name: &dyn Fn(usize) -> String, label: &dyn Fn(usize) -> Vec<u8>, share: f64| -> Vec<u8> {
             let mut payload = geo[0].clone();
             let mut i = 0;
-            while (payload.len() as f64) < PAYLOAD as f64 * share - 400.0 {
+            while (payload.len() as f64) < LARGEST as f64 * share - 400.0 {
                 payload.extend(feature(&name(i)));
                 i += 1;
             }
             payload.extend(geo[1..].concat());
-            let mut j = 0;
-            loop {
-                let record = label(j);
-                if payload.len() + record.len() >= PAYLOAD {
-                    break;
-                }
-                payload.extend(record);
-                j += 1;
-            }
-            payload.push(0);
-            write::blocks(&payload)
+            filled(payload, label)
         };
     let mut one = |title: &str, stream: Vec<u8>| {
         let (seconds, ours) = module(&stream, lent);
@@ -430,19 +429,7 @@ fn largest_names(lent: &mut Lent) {
         "names and places in no order",
         fill(&|i| four(scattered(i)), &|j| place(&four(scattered(j + 800_000))), 0.5),
     );
-    one(
-        "27 bytes alike",
-        fill(&|i| long(scattered(i)), &|j| item(&long(scattered(j + 800_000))), 0.5),
-    );
-    one(
-        "7 bytes alike",
-        fill(
-            &|i| "zzz".to_string() + &four(i),
-            &|j| item(&("zzz".to_string() + &four(j + 800_000))),
-            0.5,
-        ),
-    );
-    for k in [8, 12, 16, 20, 24] {
+    for k in [3, 8, 12, 16, 20, 24, 27] {
         let name = |i: usize| -> String { "z".repeat(k) + &four(i) };
         one(
             &format!("{k} bytes alike"),
@@ -470,7 +457,7 @@ fn largest_names(lent: &mut Lent) {
         fill(&|i| four(scattered(i % 200_000)), &|j| place(&four(scattered(j % 200_000))), 0.5),
     );
     one("two names, one label", fill(&|i| ["a", "b"][i % 2].into(), &|_| item("c"), 0.5));
-    one("all names", fill(&|i| four(scattered(i)), &|_| vec![0; PAYLOAD], 1.0));
+    one("all names", fill(&|i| four(scattered(i)), &|_| vec![0; LARGEST], 1.0));
     one("one label a million times", fill(&|_| "a".into(), &|_| place("a"), 0.00002));
     let pairs = |count: usize| {
         let mut payload = geo[0].clone();
@@ -483,17 +470,7 @@ fn largest_names(lent: &mut Lent) {
         }
         records.sort_by(|a, b| a[2..2 + a[1] as usize].cmp(&b[2..2 + b[1] as usize]));
         payload.extend(records.concat());
-        let mut j = 0;
-        loop {
-            let record = item(&four(scattered(j + 800_000)));
-            if payload.len() + record.len() >= PAYLOAD {
-                break;
-            }
-            payload.extend(record);
-            j += 1;
-        }
-        payload.push(0);
-        write::blocks(&payload)
+        filled(payload, &|j| item(&four(scattered(j + 800_000))))
     };
     one("pairs and items", pairs(430_000));
 }
@@ -573,7 +550,7 @@ fn main() {
     growth("host features", &[1000, 4000, 16000, 64000], features, lent, few);
     growth("variables", &[1000, 4000, 16000, 64000], variables, lent, few);
     growth("pairs of variables", &[1000, 4000, 16000], pairs, lent, few);
-    growth("control points", &[1, 4, 16, 64], controls, lent, rounds);
+    growth("control points", &[1, 2, 4, 8, 16, 32, 64], controls, lent, rounds);
 
     title("microseconds a sheet, so many names and as many labels");
     names(lent, few);
