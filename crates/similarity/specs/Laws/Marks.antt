@@ -82,7 +82,7 @@ module _ (w : List Float) (n : ℕ) {m : Mark} {f : Fit} (some : 1 ≤ n) (first
   fit-twice e d h = h ∙ sym (at-last ∙ rw (e, d) refl)
 
 -- ---- the marks of control points
-pub with-length : (w : List Float) (k : ℕ) (m : Mark) → length (withMark w k m) ≡ length w
+with-length : (w : List Float) (k : ℕ) (m : Mark) → length (withMark w k m) ≡ length w
 unfolding withMark
 with-length w k m = four-length w k (m .x) (m .y) (m .e) (m .n)
 
