@@ -436,20 +436,23 @@ fn largest_names(lent: &mut Lent) {
             fill(&|i| name(scattered(i)), &|j| item(&name(scattered(j + 800_000))), 0.5),
         );
     }
+    for k in [0, 16, 27] {
+        let name = |i: usize| -> String { "z".repeat(k) + &four(i) };
+        one(
+            &format!("an anchor in every batch, {k} bytes alike, three quarters names"),
+            fill(
+                &|i| if i % 4000 == 0 { "A".into() } else { name(scattered(i)) },
+                &|j| if j == 0 { place("A") } else { item(&name(scattered(j + 1_400_000))) },
+                0.75,
+            ),
+        );
+    }
     one(
-        "an anchor in every batch",
-        fill(
-            &|i| if i % 4000 == 0 { "A".into() } else { four(scattered(i)) },
-            &|j| if j == 0 { place("A") } else { item(&four(scattered(j + 800_000))) },
-            0.5,
-        ),
-    );
-    one(
-        "64 anchors in every batch, more names",
+        "64 anchors in every batch, three quarters names",
         fill(
             &|i| if i % 125 == 0 { format!("A{}", i / 125 % 64) } else { four(scattered(i)) },
-            &|j| if j < 64 { place(&format!("A{j}")) } else { item(&four(scattered(j + 800_000))) },
-            0.6,
+            &|j| if j < 64 { place(&format!("A{j}")) } else { item(&four(scattered(j + 1_400_000))) },
+            0.75,
         ),
     );
     one(

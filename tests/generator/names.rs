@@ -7,7 +7,7 @@ use crate::random::Random;
 use crate::write::*;
 
 /// Most different names of a batch, where a stream has more than `FEW`.
-pub const BATCH: usize = 8_192;
+pub const BATCH: usize = 11_264;
 pub const FEW: usize = 64;
 /// Most control points.
 pub const MOST: usize = 64;

@@ -11,8 +11,10 @@ ghost use Rattle.stream.specs.Contracts.Payload.{room};
 ghost use Rattle.records.specs.Records.{part};
 ghost use Rattle.names.specs.Contracts.Words.{wordOf, frontOf};
 ghost use Rattle.names.specs.Contracts.Table.{nameAt, markOf, orderOf, Stands, Table, Searched, Opened, Inserted};
+use crate::words::swap8;
 use crate::words::word_at;
 use stream::byte;
+use stream::long;
 
 // A payload has fewer bytes than this: what an entry is beyond it, is a mark.
 const SPAN: usize = 33554432;
@@ -57,12 +59,13 @@ fn spare_bits(n: usize) -> u64
     8 * (7 - n as u64)
 }
 
-// The length of a name of n bytes and its first bytes, as a number: the name stands behind p.
+// The length of a name of n bytes and its first bytes, as a number: the name stands behind p. It is not read by `word_at`,
+// which is called at one place, in the search, and so is put in line there.
 fn word_of(s: &[u8], p: usize, n: usize, more: u64) -> u64
     requires { ⌜ (p + 8 ≤ room (now s)) × (n + more ≤ 255) ⌝ }
     ensures { λ r. ⌜ r ≡ wordOf (payload (now (s .entry))) p (n + more) ⌝ }
 {
-    word_at(s, p) % FIRST + (n as u64 + more) * FIRST
+    swap8(long(s, 0, p)) % FIRST + (n as u64 + more) * FIRST
 }
 
 // The order of the name whose length stands at p and the n bytes behind q, of which w are the first without the spare

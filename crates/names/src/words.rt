@@ -7,6 +7,7 @@ ghost use Rattle.stream.specs.Contracts.Payload.{room};
 ghost use Rattle.stream.specs.Numbers.{u16At, u32At, u64At};
 ghost use Rattle.stream.specs.Laws.Numbers.{Bytes};
 ghost use Rattle.names.specs.Contracts.Words.{be16At, be32At, be64At};
+use stream::long;
 
 // A number from its two halves.
 fn join16(high: u8, low: u8) -> u16
@@ -40,7 +41,7 @@ fn swap4(x: u32) -> u32
     join32(swap2((x % 65536) as u16), swap2((x / 65536) as u16))
 }
 
-fn swap8(x: u64) -> u64
+pub fn swap8(x: u64) -> u64
     ensures { λ r. ⌜ ((l : List ℕ) (p : ℕ) → Bytes l → x ≡ u64At l p → r ≡ be64At l p) ⌝ }
 {
     join64(
@@ -54,5 +55,5 @@ pub fn word_at(s: &[u8], p: usize) -> u64
     requires { ⌜ p + 8 ≤ room (now s) ⌝ }
     ensures { λ r. ⌜ r ≡ be64At (payload (now (s .entry))) p ⌝ }
 {
-    swap8(stream::long(s, 0, p))
+    swap8(long(s, 0, p))
 }

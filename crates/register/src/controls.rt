@@ -381,6 +381,6 @@ pub fn gather(s: &[u8], v: Survey, flat: &mut [f64], kept: &mut [u32]) -> Tally
         let mut few = [0u32; 64];
         return gather_names(s, v, &mut few, flat, kept);
     }
-    let mut many = [0u32; 8192];
+    let mut many = [0u32; 11264];
     gather_names(s, v, &mut many, flat, kept)
 }

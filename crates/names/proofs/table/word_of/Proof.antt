@@ -1,10 +1,17 @@
 use borrow.Author.Needs.{needs}
+use native.Mathlib.Omega.{arith}
+use Rattle.stream.specs.Payload.{payload}
+use Rattle.stream.specs.Contracts.Payload.{rest}
+use Rattle.stream.specs.Laws.Payload.{rest-length, bytes-payload}
 use Rattle.names.specs.Contracts.Words.{wordOf}
 use Rattle.names.proofs.table.word_of.Statement.{statement}
 use Rattle.names.proofs.table.word_of.Tie as tie
 
-word-at-requires : tie.Need-word-at-requires
-word-at-requires c κs = search needs
+long-requires : tie.Need-long-requires
+long-requires c κs = (omega arith, omega (arith, rest-length (c .before .args .s .now) 0))
+
+swap8-requires : tie.Need-swap8-requires
+swap8-requires c κs = search needs
 
 add-result : tie.Need-add-result
 add-result c = search needs
@@ -16,8 +23,10 @@ add-result-2 : tie.Need-add-result-2
 add-result-2 c = search needs
 
 returns : tie.Need-returns
-unfolding wordOf
-returns c = search needs
+unfolding rest wordOf
+returns c =
+    let a = c .before .before .before .args in
+    rw (c .swap8 .ensures (payload (a .s .now)) (a .p) (bytes-payload (a .s .now) (λ j. omega (arith, c .before .before .shared-slice-known .given j))) (c .before .long .ensures))
 
 pub word-of-spec : {M : Type 1} → statement M
-word-of-spec = tie.close (tie.spec word-at-requires add-result mul-result add-result-2 returns)
+word-of-spec = tie.close (tie.spec long-requires swap8-requires add-result mul-result add-result-2 returns)
