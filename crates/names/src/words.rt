@@ -50,7 +50,7 @@ pub fn swap8(x: u64) -> u64
     )
 }
 
-// The eight bytes at p. The number that they are in the stream's order is one load, and so is that of the other order.
+// The eight bytes at p: the stream's number, which is one load, with its bytes in the other order, which is one swap.
 pub fn word_at(s: &[u8], p: usize) -> u64
     requires { ⌜ p + 8 ≤ room (now s) ⌝ }
     ensures { λ r. ⌜ r ≡ be64At (payload (now (s .entry))) p ⌝ }

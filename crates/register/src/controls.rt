@@ -371,7 +371,8 @@ fn gather_names(s: &[u8], v: Survey, t: &mut [u32], flat: &mut [f64], kept: &mut
     gather_part(s, v, true, t, flat, kept, g)
 }
 
-// All control points, in their order, four numbers each, and the numbers of their names.
+// All control points, in their order, four numbers each, and the numbers of their names. The lengths of the two tables
+// are how many names a batch has at most.
 pub fn gather(s: &[u8], v: Survey, flat: &mut [f64], kept: &mut [u32]) -> Tally
     requires { ⌜ (room (now s) < 33554432) × (laidOut (payload (now s)) ≡ true) × Surveyed (payload (now s)) v
         × (length (now flat) ≡ 256) × (length (now kept) ≡ 64) ⌝ }

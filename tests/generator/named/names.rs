@@ -208,6 +208,18 @@ fn equal_keys(set: &mut Set, by: By) {
 
 const LETTERS: &str = "abcdefghijklmnopqrstuvwxyz01234";
 
+/// These names, of which those have a place whose bit of `chosen` is 1.
+fn chosen_of<S: AsRef<str>>(doc: Doc, by: By, names: &[S], chosen: u32) -> Doc {
+    names.iter().enumerate().fold(doc, |d, (k, n)| {
+        let d = mention(d, by, n.as_ref(), spot(k).1);
+        if chosen >> k & 1 == 1 {
+            d.place(n.as_ref(), spot(k).0)
+        } else {
+            d
+        }
+    })
+}
+
 /// Names that begin alike, and names that differ in the last byte only; alone,
 /// and among more than `FEW`.
 fn alike(set: &mut Set, by: By) {
@@ -218,27 +230,13 @@ fn alike(set: &mut Set, by: By) {
         let among = if many { "-among-many" } else { "" };
         // Each alone, then every place but one.
         for chosen in (1..16).filter(|c: &u32| matches!(c.count_ones(), 1 | 3 | 4)) {
-            let doc = lengths.iter().enumerate().fold(crowded(many), |d, (k, n)| {
-                let d = mention(d, by, n, spot(k).1);
-                if chosen >> k & 1 == 1 {
-                    d.place(n, spot(k).0)
-                } else {
-                    d
-                }
-            });
+            let doc = chosen_of(crowded(many), by, &lengths, chosen);
             set.doc(format!("{by}s-that-begin-alike-{chosen}{among}"), &doc);
         }
         for length in [1, 6, 7, 8, 9, 15, 16, longest] {
             let ends = ['!', 'm', '~'].map(|end| format!("{}{end}", &LETTERS[..length - 1]));
             for chosen in [1, 2, 4, 5, 7] {
-                let doc = ends.iter().enumerate().fold(crowded(many), |d, (k, n)| {
-                    let d = mention(d, by, n, spot(k).1);
-                    if chosen >> k & 1 == 1 {
-                        d.place(n, spot(k).0)
-                    } else {
-                        d
-                    }
-                });
+                let doc = chosen_of(crowded(many), by, &ends, chosen);
                 set.doc(format!("{by}s-of-{length}-that-end-apart-{chosen}{among}"), &doc);
             }
         }
