@@ -1,2 +1,0 @@
--- What the comparison asks.
-pub mod Contracts

@@ -1,2 +1,0 @@
--- The comparison's questions.
-pub mod Contracts

@@ -1,0 +1,4 @@
+-- Words in which contracts of the parts are said. What a host is promised is not said in them.
+pub mod Answer
+pub mod Drawings
+pub mod Guarded
