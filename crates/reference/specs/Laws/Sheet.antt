@@ -11,8 +11,8 @@ use Rattle.similarity.specs.Projection.{billion}
 use Rattle.stream.specs.Blocks.{wordSum}
 use Rattle.register.specs.Register as register
 use Rattle.geopic.specs.Geopic.{Lent, refusal, answerOf, lentAfter}
-use Rattle.rows.specs.Laws.Everything.{everything}
-use Rattle.rows.specs.Laws.Scenes.{f0, f1, f2, variable, item}
+use Rattle.reference.specs.Laws.Everything.{everything}
+use Rattle.reference.specs.Laws.Scenes.{f0, f1, f2, variable, item}
 
 -- ---- one block with a right check: a payload of at most 508 bytes
 abbrev word : ℕ → List ℕ

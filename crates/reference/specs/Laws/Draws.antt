@@ -7,8 +7,8 @@ use Rattle.scene.specs.Scene as scene
 use Rattle.densify.specs.Densify as densify
 use Rattle.convert.specs.Convert as convert
 use Rattle.geopic.specs.Geopic as geopic
-use Rattle.rows.specs.Laws.Everything.{everything}
-use Rattle.rows.specs.Laws.Scenes.{every-producer, running-out, all, from-2000000, from-60, from-40, from-20, from-5, from-0}
+use Rattle.reference.specs.Laws.Everything.{everything}
+use Rattle.reference.specs.Laws.Scenes.{every-producer, running-out, all, from-2000000, from-60, from-40, from-20, from-5, from-0}
 
 -- each draw as `all` writes it
 abbrev told : List densify.Drawn → List ℕ

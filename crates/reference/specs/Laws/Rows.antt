@@ -15,7 +15,7 @@ use Rattle.register.specs.Contracts.Outcome.{registerRefusal}
 use Rattle.budget.specs.declared.Budget.{Budget}
 use Rattle.budget.specs.Budget.{takeOf}
 use Rattle.densify.specs.Densify.{Block, partsOf, boxRingOf, flattenCubicOf, densifyPolylineOf}
-use Rattle.rows.specs.Laws.Everything.{everything}
+use Rattle.reference.specs.Laws.Everything.{everything}
 
 -- ---- the kinds of row; a float is its pattern
 pub data Row : Type 0 where
