@@ -36,7 +36,7 @@ struct LonLat {
     lat: f64,
 }
 
-extern "C" {
+unsafe extern "C" {
     fn register_stream(s: *const u8, n: usize) -> Outcome;
     fn register_warnings(s: *const u8, n: usize, out: *mut u32, len: usize) -> Warned;
     fn register_project(r: Registration, x: f64, y: f64) -> LonLat;

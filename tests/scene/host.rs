@@ -84,7 +84,7 @@ pub struct Points {
     pub count: u16,
 }
 
-extern "C" {
+unsafe extern "C" {
     fn scene_refusal(s: *const u8, n: usize) -> u32;
     fn scene_rescale(s: *const u8, n: usize) -> f64;
     fn scene_flatten(s: *const u8, n: usize) -> f64;
