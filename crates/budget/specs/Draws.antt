@@ -34,15 +34,15 @@ shortFloors left (d ∷ ds) =
     cond (ltb left (d .floor)) (d .floor) 0 + shortFloors (left - g) ds
 
 -- each grant is at most its want, and at least the smaller of want and floor
-abbrev pub Fair : ℕ → List Draw → Type 0
-Fair left [] = Unit {0}
-Fair left (d ∷ ds) =
+abbrev pub GrantsInRange : ℕ → List Draw → Type 0
+GrantsInRange left [] = Unit {0}
+GrantsInRange left (d ∷ ds) =
     (grantOf left (d .want) (d .floor) ≤ d .want)
     × (min (d .want) (d .floor) ≤ grantOf left (d .want) (d .floor))
-    × Fair (left - grantOf left (d .want) (d .floor)) ds
+    × GrantsInRange (left - grantOf left (d .want) (d .floor)) ds
 
 -- the claim on a whole list of draws from an allowance
 pub record Claim (allowance : ℕ) (ds : List Draw) : Type 0 where
-  pub fair : Fair allowance ds
+  pub inRange : GrantsInRange allowance ds
   pub exact : granted allowance ds + leftAfter allowance ds ≡ allowance + overrun allowance ds
   pub bounded : granted allowance ds ≤ allowance + shortFloors allowance ds

@@ -28,20 +28,20 @@ fn greater(a: usize, b: usize) -> usize
 }
 
 // The difference, 0 where it would be negative.
-fn less(a: usize, b: usize) -> usize
+fn saturating_sub(a: usize, b: usize) -> usize
     ensures { λ r. ⌜ r ≡ a - b ⌝ }
 {
     if b < a { a - b } else { 0 }
 }
 
 // Up to `wanted` vertices, never fewer than the smaller of `wanted` and `floor`.
-pub fn draw(b: Budget, wanted: usize, floor: usize) -> Taken
+pub fn take(b: Budget, wanted: usize, floor: usize) -> Taken
     ensures { λ r. ⌜ r ≡ takeOf b wanted floor ⌝ }
 {
     let left = b.left;
     let n = lesser(wanted, greater(left, floor));
     let after = Budget {
-        left: less(left, n),
+        left: saturating_sub(left, n),
         hit: b.hit || n < wanted,
     };
     Taken {

@@ -9,8 +9,8 @@ use Rattle.elementary.specs.Constants as K
 use Rattle.scene.specs.Scene.{Maybe, none, some, Point, DrawnPath, DrawnItem}
 use Rattle.register.specs.Register.{Warning, orValue}
 use Rattle.budget.specs.declared.Budget.{Budget}
-use Rattle.densify.specs.Densify.{Drawn, Made, closeRingOf, pathPointsOf, densifyPolylineOf, ellipseRingOf, boxRingOf}
-use Rattle.densify.specs.Positions.{placedBy}
+use Rattle.densify.specs.Densify.{GrantedDraw, Made, closeRingOf, pathPointsOf, densifyPolylineOf, ellipseRingOf, boxRingOf}
+use Rattle.densify.specs.Positions.{projectPoint}
 use Rattle.geojson.specs.declared.Feature.{Feature}
 use Rattle.convert.specs.declared.shapes.Shape.{Shape}
 use Rattle.convert.specs.declared.shapes.Shape.the-variants.{Box, Ellipse, Circle, Dot, Points, Paths, Missing, Nothing}
@@ -19,7 +19,7 @@ use Rattle.convert.specs.declared.state.Props.{Props}
 
 -- ---- what happens: a call of `take`, points of work that a shape needs, a feature with its positions, a warning
 pub data Event : Type 0 where
-  drew : Drawn → Event
+  drew : GrantedDraw → Event
   need : ℕ → Event
   feature : Feature → List Point → Event
   warned : Warning → Event
@@ -29,14 +29,14 @@ pub record Trace : Type 0 where
   pub events : List Event
   pub after : Budget
 
-abbrev pub quiet : Budget → Trace
-quiet b = record { events = []; after = b }
+abbrev pub noEvents : Budget → Trace
+noEvents b = record { events = []; after = b }
 
-abbrev pub single : Event → Budget → Trace
-single e b = record { events = e ∷ []; after = b }
+abbrev pub oneEvent : Event → Budget → Trace
+oneEvent e b = record { events = e ∷ []; after = b }
 
-abbrev pub thenTrace : Trace → (Budget → Trace) → Trace
-thenTrace t f = let u = f (t .after) in record { events = t .events ++ u .events; after = u .after }
+abbrev pub andThenTrace : Trace → (Budget → Trace) → Trace
+andThenTrace t f = let u = f (t .after) in record { events = t .events ++ u .events; after = u .after }
 
 abbrev pub pickTrace : Bool → Trace → Trace → Trace
 pickTrace true t u = t
@@ -47,7 +47,7 @@ abbrev pub drawsTrace : Made → Trace
 drawsTrace m = record { events = map drew (m .draws); after = m .after }
 
 abbrev pub missing : ℕ → Budget → Trace
-missing item b = single (warned (record { kind = 5; index = item })) b
+missing item b = oneEvent (warned (record { kind = 5; index = item })) b
 
 -- ---- geo_line and geo_ring
 -- the last position is the first, bit for bit
@@ -56,13 +56,13 @@ endWith p [] = []
 endWith p (q ∷ []) = p ∷ []
 endWith p (q ∷ r ∷ rs) = q ∷ endWith p (r ∷ rs)
 
-abbrev pub sealed : List Point → List Point
-sealed [] = []
-sealed (p ∷ ps) = p ∷ endWith p ps
+abbrev pub firstRepeated : List Point → List Point
+firstRepeated [] = []
+firstRepeated (p ∷ ps) = p ∷ endWith p ps
 
 -- those of a line (1) or a ring (2)
 abbrev pub positionsOf : ℕ → List Point → List Point
-positionsOf geometry ps = cond (eqb geometry 2) (sealed ps) ps
+positionsOf geometry ps = cond (eqb geometry 2) (firstRepeated ps) ps
 
 unfoldable pub featureOf : Props → ℕ → ℕ → List Point → Event
 featureOf p geometry role ps =
@@ -72,28 +72,28 @@ featureOf p geometry role ps =
 unfoldable pub strokeOf : Ctx → Props → ℕ → ℕ → List Point → Budget → Trace
 strokeOf cx p geometry role ps b =
     let m = densifyPolylineOf (cx .step) (cx .projection .registration .scale) ps b in
-    thenTrace (drawsTrace m) (λ r. single (featureOf p geometry role (positionsOf geometry (map (placedBy (cx .projection)) (m .points)))) r)
+    andThenTrace (drawsTrace m) (λ r. oneEvent (featureOf p geometry role (positionsOf geometry (map (projectPoint (cx .projection)) (m .points)))) r)
 
 -- document 01: fewer positions than a line or a ring has are not written; the draws stand, and a warning takes the place
-unfoldable pub unwrittenOf : Ctx → ℕ → List Point → Budget → Trace
-unwrittenOf cx item ps b =
-    thenTrace (drawsTrace (densifyPolylineOf (cx .step) (cx .projection .registration .scale) ps b)) (λ r. missing item r)
+unfoldable pub drawWithoutWriting : Ctx → ℕ → List Point → Budget → Trace
+drawWithoutWriting cx item ps b =
+    andThenTrace (drawsTrace (densifyPolylineOf (cx .step) (cx .projection .registration .scale) ps b)) (λ r. missing item r)
 
 unfoldable pub pointOf : Ctx → Props → Point → Budget → Trace
-pointOf cx p at b = single (featureOf p 0 0 (placedBy (cx .projection) at ∷ [])) b
+pointOf cx p at b = oneEvent (featureOf p 0 0 (projectPoint (cx .projection) at ∷ [])) b
 
 -- ---- polyline_or_polygon
 -- a separate fill: of the closed outline where there is one, else of the closed points
 unfoldable pub fillOf : Ctx → Props → Maybe (List Point) → List Point → Budget → Trace
 fillOf cx p outline ring b =
-    pickTrace (p .fill && leb 4 (length (orValue outline ring))) (strokeOf cx p 2 1 (orValue outline ring) b) (quiet b)
+    pickTrace (p .fill && leb 4 (length (orValue outline ring))) (strokeOf cx p 2 1 (orValue outline ring) b) (noEvents b)
 
 -- with its points ps, which are `ring` where they are closed, and its closed outline
 unfoldable pub shapeTrace : Ctx → Props → Bool → List Point → List Point → Maybe (List Point) → Budget → Trace
 shapeTrace cx p closed ps ring outline b =
-    pickTrace (ltb (length ps) 2) (quiet b)
+    pickTrace (ltb (length ps) 2) (noEvents b)
     (pickTrace (closed && leb 4 (length ring)) (strokeOf cx p 2 0 ring b)
-    (thenTrace (fillOf cx p outline ring b) (λ r. pickTrace closed (unwrittenOf cx (p .item) ps r) (strokeOf cx p 1 0 ps r))))
+    (andThenTrace (fillOf cx p outline ring b) (λ r. pickTrace closed (drawWithoutWriting cx (p .item) ps r) (strokeOf cx p 1 0 ps r))))
 
 abbrev pub closedOutline : Maybe (List Point) → Maybe (List Point)
 closedOutline none = none
@@ -107,42 +107,42 @@ unfoldable pub polylineOrPolygonOf : Ctx → Props → Bool → List Point → M
 polylineOrPolygonOf cx p closed ps outline b =
     let ring = closeRingOf ps in
     let closing = closedOutline outline in
-    thenTrace (single (need (workOf closed ps ring closing)) b) (λ r. shapeTrace cx p closed ps ring closing r)
+    andThenTrace (oneEvent (need (workOf closed ps ring closing)) b) (λ r. shapeTrace cx p closed ps ring closing r)
 
 -- ---- shapes
 -- the ring of a box, a circle or an ellipse
 unfoldable pub ringTrace : Ctx → Props → Made → Trace
 ringTrace cx p m =
-    thenTrace (drawsTrace m) (λ r. thenTrace (single (need (length (m .points) + 1)) r) (λ q. strokeOf cx p 2 0 (m .points) q))
+    andThenTrace (drawsTrace m) (λ r. andThenTrace (oneEvent (need (length (m .points) + 1)) r) (λ q. strokeOf cx p 2 0 (m .points) q))
 
-abbrev pub headOf : List DrawnPath → Maybe DrawnPath
-headOf [] = none
-headOf (p ∷ ps) = some p
+abbrev pub firstPath : List DrawnPath → Maybe DrawnPath
+firstPath [] = none
+firstPath (p ∷ ps) = some p
 
-abbrev pub tailOf : List DrawnPath → List DrawnPath
-tailOf [] = []
-tailOf (p ∷ ps) = ps
+abbrev pub laterPaths : List DrawnPath → List DrawnPath
+laterPaths [] = []
+laterPaths (p ∷ ps) = ps
 
 -- an outline is flattened whether it is used or not
 unfoldable pub outlineOf : Ctx → Props → Bool → List Point → Maybe DrawnPath → Budget → Trace
 outlineOf cx p closed ps none b = polylineOrPolygonOf cx p closed ps none b
 outlineOf cx p closed ps (some o) b =
     let m = pathPointsOf (cx .flatten) o b in
-    thenTrace (drawsTrace m) (λ r. polylineOrPolygonOf cx p closed ps (some (m .points)) r)
+    andThenTrace (drawsTrace m) (λ r. polylineOrPolygonOf cx p closed ps (some (m .points)) r)
 
 unfoldable pub pathOf : Ctx → Props → DrawnPath → Maybe DrawnPath → Budget → Trace
 pathOf cx p path outline b =
     let m = pathPointsOf (cx .flatten) path b in
-    thenTrace (drawsTrace m) (λ r. outlineOf cx p (path .closed) (m .points) outline r)
+    andThenTrace (drawsTrace m) (λ r. outlineOf cx p (path .closed) (m .points) outline r)
 
 abbrev pub withPart : Props → ℕ → Props
 withPart p n = record { item = p .item; placement = p .placement; part = n; fill = p .fill }
 
 -- the paths from the i-th on, each with the outline of its index; many says that the item has more than one
 unfoldable pub pathsOf : Ctx → Props → Bool → ℕ → List DrawnPath → List DrawnPath → Budget → Trace
-pathsOf cx p many i [] outlines b = quiet b
+pathsOf cx p many i [] outlines b = noEvents b
 pathsOf cx p many i (q ∷ qs) outlines b =
-    thenTrace (pathOf cx (withPart p (cond many (suc i) 0)) q (headOf outlines) b) (λ r. pathsOf cx p many (suc i) qs (tailOf outlines) r)
+    andThenTrace (pathOf cx (withPart p (cond many (suc i) 0)) q (firstPath outlines) b) (λ r. pathsOf cx p many (suc i) qs (laterPaths outlines) r)
 
 -- ---- an item
 -- the kinds, by their position in KINDS: 0 box, 1 circle, 2 ellipse, 3 arc, 4 line, 5 arrow, 6 spline, 7 text, 8 dot, 9 brace, 10 block
@@ -226,25 +226,25 @@ drawnOf cx p it (Dot x y) b = pointOf cx p (at x y) b
 drawnOf cx p it Points b = pointsTrace cx p (it .closed) (it .points) (it .fillPoints) b
 drawnOf cx p it Paths b = pathsTrace cx p (it .paths) (it .fillPaths) b
 drawnOf cx p it Missing b = missing (p .item) b
-drawnOf cx p it Nothing b = quiet b
+drawnOf cx p it Nothing b = noEvents b
 
 unfoldable pub itemOf : (ℕ → Bool) → Ctx → ℕ → DrawnItem → Budget → Trace
 itemOf rule cx i it b = drawnOf cx (propsOf rule i it) it (shapeOf it) b
 
 -- the items, the first of them the i-th
 unfoldable pub itemsOf : (ℕ → Bool) → Ctx → ℕ → List DrawnItem → Budget → Trace
-itemsOf rule cx i [] b = quiet b
-itemsOf rule cx i (it ∷ its) b = thenTrace (itemOf rule cx i it b) (λ r. itemsOf rule cx (suc i) its r)
+itemsOf rule cx i [] b = noEvents b
+itemsOf rule cx i (it ∷ its) b = andThenTrace (itemOf rule cx i it b) (λ r. itemsOf rule cx (suc i) its r)
 
 -- ---- convert
 unfoldable pub spentOf : Budget → Trace
-spentOf b = pickTrace (b .hit) (single (warned (record { kind = 6; index = 0 })) b) (quiet b)
+spentOf b = pickTrace (b .hit) (oneEvent (warned (record { kind = 6; index = 0 })) b) (noEvents b)
 
 unfoldable pub convertOf : (ℕ → Bool) → Ctx → List DrawnItem → Budget → Trace
-convertOf rule cx its b = thenTrace (itemsOf rule cx 0 its b) (λ r. spentOf r)
+convertOf rule cx its b = andThenTrace (itemsOf rule cx 0 its b) (λ r. spentOf r)
 
 -- ---- the draws, read off the one list
-unfoldable pub drawsIn : List Event → List Drawn
+unfoldable pub drawsIn : List Event → List GrantedDraw
 drawsIn [] = []
 drawsIn (drew d ∷ es) = d ∷ drawsIn es
 drawsIn (need n ∷ es) = drawsIn es

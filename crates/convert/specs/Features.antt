@@ -16,8 +16,8 @@ use Rattle.geojson.specs.Rfc7946.{Geometry}
 use Rattle.convert.specs.Convert.{Event, drew, need, feature, warned}
 
 -- ---- a feature line with its positions
-abbrev pub PlacedFeature : Type 0
-PlacedFeature = Feature × List Point
+abbrev pub ReadFeature : Type 0
+ReadFeature = Feature × List Point
 
 -- longitude from -180 to 180 and latitude from -90 to 90, ends included
 pub record OnGlobe (p : Point) : Type 0 where
@@ -31,22 +31,22 @@ AllOnGlobe [] = Unit {0}
 AllOnGlobe (p ∷ ps) = OnGlobe p × AllOnGlobe ps
 
 -- the positions are what RFC 7946 says of the geometry, the line counts them, and they lie on the globe
-pub record WellFormed (l : PlacedFeature) : Type 0 where
+pub record WellFormed (l : ReadFeature) : Type 0 where
   pub geometry : Geometry (l .0 .geometry) (l .1)
   pub counted : l .0 .count ≡ length (l .1)
   pub globe : AllOnGlobe (l .1)
 
-abbrev pub AllWellFormed : List PlacedFeature → Type 0
+abbrev pub AllWellFormed : List ReadFeature → Type 0
 AllWellFormed [] = Unit {0}
 AllWellFormed (l ∷ ls) = WellFormed l × AllWellFormed ls
 
 -- the positions of all of them, one after the other
-unfoldable pub positionsIn : List PlacedFeature → List Point
+unfoldable pub positionsIn : List ReadFeature → List Point
 positionsIn [] = []
 positionsIn (l ∷ ls) = l .1 ++ positionsIn ls
 
 -- ---- read off the one list of events
-unfoldable pub featuresIn : List Event → List PlacedFeature
+unfoldable pub featuresIn : List Event → List ReadFeature
 featuresIn [] = []
 featuresIn (drew d ∷ es) = featuresIn es
 featuresIn (need n ∷ es) = featuresIn es
@@ -74,7 +74,7 @@ lineAt w i =
     }
 
 -- n feature lines, the first at i of their slice; each has as many positions as it counts, directly behind those of the lines before it, the first from p on
-unfoldable pub featuresAt : List ℕ → List Float → ℕ → ℕ → ℕ → List PlacedFeature
+unfoldable pub featuresAt : List ℕ → List Float → ℕ → ℕ → ℕ → List ReadFeature
 featuresAt w q i p zero = []
 featuresAt w q i p (suc n) = let f = lineAt w i in (f, pointsOf q p (f .count)) ∷ featuresAt w q (i + 6) (p + 2 * f .count) n
 

@@ -1,8 +1,8 @@
 -- The laws of these definitions that callers use.
-pub mod Playing
+pub mod Applying
 pub mod Events
 pub mod Positions
-pub mod Laying
+pub mod Loading
 pub mod Polygons
 pub mod Items
 pub mod Loops

@@ -10,11 +10,11 @@ use Rattle.scene.specs.Scene.{Point}
 use Rattle.register.specs.Register.{Warning}
 use Rattle.densify.specs.Positions.{flats, put}
 use Rattle.geojson.specs.declared.Feature.{Feature}
-use Rattle.geojson.specs.Lines.{putWords, wordsOf}
+use Rattle.geojson.specs.Features.{putWords, wordsOf}
 use Rattle.convert.specs.Convert.{Event, drew, need, feature, warned}
 
 -- How many floats work has; the slices, and how much of each is used, in floats and words. `number` is 0 while everything has had room.
-pub record Sheet : Type 0 where
+pub record Output : Type 0 where
   pub work : ℕ
   pub positions : List Float
   pub features : List ℕ
@@ -24,12 +24,12 @@ pub record Sheet : Type 0 where
   pub usedWarnings : ℕ
   pub number : ℕ
 
-abbrev pub pickSheet : Bool → Sheet → Sheet → Sheet
-pickSheet true a b = a
-pickSheet false a b = b
+abbrev pub pickOutput : Bool → Output → Output → Output
+pickOutput true a b = a
+pickOutput false a b = b
 
-abbrev pub lacking : ℕ → Sheet → Sheet
-lacking n t =
+abbrev pub outOfRoom : ℕ → Output → Output
+outOfRoom n t =
     record {
       work = t .work;
       positions = t .positions;
@@ -42,7 +42,7 @@ lacking n t =
     }
 
 -- a feature's positions, then its line
-abbrev pub withFeature : Feature → List Point → Sheet → Sheet
+abbrev pub withFeature : Feature → List Point → Output → Output
 withFeature f ps t =
     record {
       work = t .work;
@@ -55,7 +55,7 @@ withFeature f ps t =
       number = t .number;
     }
 
-abbrev pub withWarning : Warning → Sheet → Sheet
+abbrev pub withWarning : Warning → Output → Output
 withWarning w t =
     record {
       work = t .work;
@@ -68,20 +68,20 @@ withWarning w t =
       number = t .number;
     }
 
-unfoldable pub played : Event → Sheet → Sheet
-played (drew d) t = t
-played (need n) t = pickSheet (leb (2 * n) (t .work)) t (lacking 15 t)
-played (feature f ps) t =
-    pickSheet (leb (t .usedPositions + length (flats ps)) (length (t .positions)))
-    (pickSheet (leb (t .usedFeatures + 6) (length (t .features))) (withFeature f ps t) (lacking 17 t))
-    (lacking 16 t)
-played (warned w) t = pickSheet (leb (t .usedWarnings + 2) (length (t .warnings))) (withWarning w t) (lacking 18 t)
+unfoldable pub apply : Event → Output → Output
+apply (drew d) t = t
+apply (need n) t = pickOutput (leb (2 * n) (t .work)) t (outOfRoom 15 t)
+apply (feature f ps) t =
+    pickOutput (leb (t .usedPositions + length (flats ps)) (length (t .positions)))
+    (pickOutput (leb (t .usedFeatures + 6) (length (t .features))) (withFeature f ps t) (outOfRoom 17 t))
+    (outOfRoom 16 t)
+apply (warned w) t = pickOutput (leb (t .usedWarnings + 2) (length (t .warnings))) (withWarning w t) (outOfRoom 18 t)
 
 -- one after the other, up to the first that lacks room
-unfoldable pub playAll : List Event → Sheet → Sheet
-playAll [] t = t
-playAll (e ∷ es) t = playAll es (pickSheet (eqb (t .number) 0) (played e t) t)
+unfoldable pub applyAll : List Event → Output → Output
+applyAll [] t = t
+applyAll (e ∷ es) t = applyAll es (pickOutput (eqb (t .number) 0) (apply e t) t)
 
 -- ---- conditions 15 to 18, by the number of the sheet that everything was written onto
-unfoldable pub ofSpace : Sheet → List Condition
+unfoldable pub ofSpace : Output → List Condition
 ofSpace t = (15, eqb (t .number) 15) ∷ (16, eqb (t .number) 16) ∷ (17, eqb (t .number) 17) ∷ (18, eqb (t .number) 18) ∷ []

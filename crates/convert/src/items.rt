@@ -7,12 +7,12 @@ ghost use lib.Ieee.{Float};
 ghost use lib.ListN.{length};
 ghost use Rattle.stream.specs.Payload.{payload};
 ghost use Rattle.stream.specs.Contracts.Payload.{room};
-ghost use Rattle.scene.specs.Contracts.Answers.{Labels, PathWithin, pointsFrom, pathsFrom, pathsBy, itemsAt, itemBy};
+ghost use Rattle.scene.specs.Contracts.Answers.{LabelsFrom, PathWithin, pointsFrom, pathsFrom, pathsBy, itemsAt, itemBy};
 ghost use Rattle.convert.specs.Convert.{pointsTrace, pathsOf, pathsTrace, withPart, onScreen, itemOf, itemsOf, convertOf};
-ghost use Rattle.convert.specs.Contracts.Space.{sheetBy, Fits, Draws, boxTrace, ellipseTrace};
-use crate::laying::lay_path;
-use crate::laying::lay_points;
-use crate::positions::spot;
+ghost use Rattle.convert.specs.Contracts.Space.{outputBy, Fits, Draws, boxTrace, ellipseTrace};
+use crate::workspace::load_path;
+use crate::workspace::load_points;
+use crate::positions::point_feature;
 use crate::shapes::Shape;
 use crate::shapes::props_of;
 use crate::shapes::shape_of;
@@ -44,7 +44,7 @@ fn draw_box(
     warnings: &mut [u32],
     st: State,
 ) -> State
-    requires { ⌜ Fits (sheetBy (length (now work)) (now positions) (now features) (now warnings) st)
+    requires { ⌜ Fits (outputBy (length (now work)) (now positions) (now features) (now warnings) st)
         (st .budget) ⌝ }
     ensures { λ r. ⌜ Draws (boxTrace cx p x y w h rad (st .budget))
         (now (work .entry)) (now (positions .entry)) (now (features .entry)) (now (warnings .entry)) st
@@ -79,7 +79,7 @@ fn draw_ellipse(
     warnings: &mut [u32],
     st: State,
 ) -> State
-    requires { ⌜ Fits (sheetBy (length (now work)) (now positions) (now features) (now warnings) st)
+    requires { ⌜ Fits (outputBy (length (now work)) (now positions) (now features) (now warnings) st)
         (st .budget) ⌝ }
     ensures { λ r. ⌜ Draws (ellipseTrace cx p x y rx ry (st .budget))
         (now (work .entry)) (now (positions .entry)) (now (features .entry)) (now (warnings .entry)) st
@@ -113,7 +113,7 @@ fn draw_points(
     warnings: &mut [u32],
     st: State,
 ) -> State
-    requires { ⌜ Fits (sheetBy (length (now work)) (now positions) (now features) (now warnings) st)
+    requires { ⌜ Fits (outputBy (length (now work)) (now positions) (now features) (now warnings) st)
         (st .budget) ⌝ }
     ensures { λ r. ⌜ Draws (pointsTrace cx p closed (pointsFrom (payload (now (s .entry))) next 0)
         (pointsFrom (payload (now (s .entry))) next 1) (st .budget))
@@ -125,7 +125,7 @@ fn draw_points(
         return warn(warnings, st, 5, p.item);
     }
     let outline = points_of(s, next, 1);
-    let l = lay_points(s, closed, points, outline, st.budget, work);
+    let l = load_points(s, closed, points, outline, st.budget, work);
     polyline_or_polygon(cx, p, closed, l, work, positions, features, warnings, st)
 }
 
@@ -180,7 +180,7 @@ fn draw_each(
     st: State,
 ) -> State
     requires { ⌜ (room (now s) < 4294967295)
-        × Fits (sheetBy (length (now work)) (now positions) (now features) (now warnings) st) (st .budget) ⌝ }
+        × Fits (outputBy (length (now work)) (now positions) (now features) (now warnings) st) (st .budget) ⌝ }
     ensures { λ r. ⌜ Draws (pathsOf cx p many 0 (pathsFrom (payload (now (s .entry))) next 0)
         (pathsFrom (payload (now (s .entry))) next 1) (st .budget))
         (now (work .entry)) (now (positions .entry)) (now (features .entry)) (now (warnings .entry)) st
@@ -200,7 +200,7 @@ fn draw_each(
             return state;
         }
         let outline = next_outline(s, o, more);
-        let l = lay_path(s, path, outline, cx.flatten, state.budget, work);
+        let l = load_path(s, path, outline, cx.flatten, state.budget, work);
         let props = part_of(p, many, i);
         state = polyline_or_polygon(
             cx,
@@ -232,7 +232,7 @@ fn draw_paths(
     st: State,
 ) -> State
     requires { ⌜ (room (now s) < 4294967295)
-        × Fits (sheetBy (length (now work)) (now positions) (now features) (now warnings) st) (st .budget) ⌝ }
+        × Fits (outputBy (length (now work)) (now positions) (now features) (now warnings) st) (st .budget) ⌝ }
     ensures { λ r. ⌜ Draws (pathsTrace cx p (pathsFrom (payload (now (s .entry))) next 0)
         (pathsFrom (payload (now (s .entry))) next 1) (st .budget))
         (now (work .entry)) (now (positions .entry)) (now (features .entry)) (now (warnings .entry)) st
@@ -269,7 +269,7 @@ fn draw_item(
     st: State,
 ) -> State
     requires { ⌜ (room (now s) < 4294967295)
-        × Fits (sheetBy (length (now work)) (now positions) (now features) (now warnings) st) (st .budget) ⌝ }
+        × Fits (outputBy (length (now work)) (now positions) (now features) (now warnings) st) (st .budget) ⌝ }
     ensures { λ r. ⌜ Draws (itemOf onScreen cx i (itemBy (payload (now (s .entry))) it) (st .budget))
         (now (work .entry)) (now (positions .entry)) (now (features .entry)) (now (warnings .entry)) st
         (now (work .exit)) (now (positions .exit)) (now (features .exit)) (now (warnings .exit)) r ⌝ }
@@ -316,7 +316,7 @@ fn draw_item(
             warnings,
             st,
         ),
-        Shape::Dot(x, y) => spot(cx, p, x, y, positions, features, st),
+        Shape::Dot(x, y) => point_feature(cx, p, x, y, positions, features, st),
         Shape::Points => draw_points(
             s,
             cx,
@@ -346,8 +346,8 @@ fn draw_items(
     st: State,
 ) -> State
     requires { ⌜ (room (now s) < 4294967295)
-        × Fits (sheetBy (length (now work)) (now positions) (now features) (now warnings) st) (st .budget)
-        × Labels (payload (now s)) from ⌝ }
+        × Fits (outputBy (length (now work)) (now positions) (now features) (now warnings) st) (st .budget)
+        × LabelsFrom (payload (now s)) from ⌝ }
     ensures { λ r. ⌜ Draws (itemsOf onScreen cx 0 (itemsAt (payload (now (s .entry))) 0) (st .budget))
         (now (work .entry)) (now (positions .entry)) (now (features .entry)) (now (warnings .entry)) st
         (now (work .exit)) (now (positions .exit)) (now (features .exit)) (now (warnings .exit)) r ⌝ }
@@ -391,8 +391,8 @@ pub fn convert(
     st: State,
 ) -> State
     requires { ⌜ (room (now s) < 4294967295)
-        × Fits (sheetBy (length (now work)) (now positions) (now features) (now warnings) st) (st .budget)
-        × Labels (payload (now s)) from ⌝ }
+        × Fits (outputBy (length (now work)) (now positions) (now features) (now warnings) st) (st .budget)
+        × LabelsFrom (payload (now s)) from ⌝ }
     ensures { λ r. ⌜ Draws (convertOf onScreen cx (itemsAt (payload (now (s .entry))) 0) (st .budget))
         (now (work .entry)) (now (positions .entry)) (now (features .entry)) (now (warnings .entry)) st
         (now (work .exit)) (now (positions .exit)) (now (features .exit)) (now (warnings .exit)) r ⌝ }

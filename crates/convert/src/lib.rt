@@ -1,6 +1,6 @@
 // Items to features, after the source's convert.rs.
 mod items;
-mod laying;
+mod workspace;
 mod positions;
 mod shapes;
 mod state;

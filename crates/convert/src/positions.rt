@@ -6,12 +6,12 @@ ghost use lib.Ieee.{Float};
 ghost use lib.ListN.{length};
 ghost use Rattle.scene.specs.Scene.{Point};
 ghost use Rattle.densify.specs.Contracts.Written.{pointsIn};
-ghost use Rattle.convert.specs.Convert.{strokeOf, unwrittenOf, pointOf};
-ghost use Rattle.convert.specs.Contracts.Space.{sheetBy, most, longest, sealedIn, Finished, Fits, Played};
+ghost use Rattle.convert.specs.Convert.{strokeOf, drawWithoutWriting, pointOf};
+ghost use Rattle.convert.specs.Contracts.Space.{outputBy, most, longest, firstRepeatedIn, Finished, Fits, Applied};
 use crate::state::Ctx;
 use crate::state::Props;
 use crate::state::State;
-use crate::state::lack;
+use crate::state::out_of_room;
 use crate::state::warn;
 use crate::state::with_budget;
 use budget::Budget;
@@ -19,13 +19,13 @@ use densify::densify_polyline;
 use densify::put_point;
 use densify::spend_polyline;
 use geojson::Feature;
-use geojson::write_line;
+use geojson::write_feature;
 use similarity::geo;
 
 // The last position of those from `from` to `to` becomes the first, bit for bit.
-fn seal(out: &mut [f64], from: usize, to: usize) -> usize
+fn repeat_first_position(out: &mut [f64], from: usize, to: usize) -> usize
     requires { ⌜ (from + 2 ≤ to) × (to ≤ length (now out)) ⌝ }
-    ensures { λ r. ⌜ (now (out .exit) ≡ sealedIn (now (out .entry)) from to) × (r ≡ to) ⌝ }
+    ensures { λ r. ⌜ (now (out .exit) ≡ firstRepeatedIn (now (out .entry)) from to) × (r ≡ to) ⌝ }
 {
     let lon = out[from];
     let lat = out[from + 1];
@@ -57,8 +57,8 @@ fn finish(
         count: count,
     };
     let at = st.features;
-    if !write_line(features, at, line) {
-        return lack(st, 17);
+    if !write_feature(features, at, line) {
+        return out_of_room(st, 17);
     }
     State {
         number: 0,
@@ -83,7 +83,7 @@ pub fn stroke(
     st: State,
 ) -> State
     requires { ⌜ (from + 2 ≤ to) × (to ≤ length (now work)) × (to ≤ longest) × (st .positions ≤ length (now positions)) × (st .features ≤ length (now features)) × (st .budget .left ≤ most) ⌝ }
-    ensures { λ r. ⌜ ((w : ℕ) (v : List ℕ) → Fits (sheetBy w (now (positions .entry)) (now (features .entry)) v st) (st .budget) → Played (strokeOf cx p geometry role (pointsIn (now (work .entry)) from to) (st .budget)) (sheetBy w (now (positions .entry)) (now (features .entry)) v st) (sheetBy w (now (positions .exit)) (now (features .exit)) v r) (r .budget)) ⌝ }
+    ensures { λ r. ⌜ ((w : ℕ) (v : List ℕ) → Fits (outputBy w (now (positions .entry)) (now (features .entry)) v st) (st .budget) → Applied (strokeOf cx p geometry role (pointsIn (now (work .entry)) from to) (st .budget)) (outputBy w (now (positions .entry)) (now (features .entry)) v st) (outputBy w (now (positions .exit)) (now (features .exit)) v r) (r .budget)) ⌝ }
 {
     if st.number != 0 {
         return st;
@@ -100,11 +100,11 @@ pub fn stroke(
         0,
     );
     if !d.ok {
-        return lack(st, 16);
+        return out_of_room(st, 16);
     }
     let mut end = at + d.at;
     if geometry == 2 {
-        end = seal(positions, at, end);
+        end = repeat_first_position(positions, at, end);
     }
     finish(
         p,
@@ -119,7 +119,7 @@ pub fn stroke(
 }
 
 // A point.
-pub fn spot(
+pub fn point_feature(
     cx: Ctx,
     p: Props,
     x: f64,
@@ -129,7 +129,7 @@ pub fn spot(
     st: State,
 ) -> State
     requires { ⌜ (st .positions ≤ length (now positions)) × (st .features ≤ length (now features)) ⌝ }
-    ensures { λ r. ⌜ ((w : ℕ) (v : List ℕ) → Fits (sheetBy w (now (positions .entry)) (now (features .entry)) v st) (st .budget) → Played (pointOf cx p (record { x = x; y = y }) (st .budget)) (sheetBy w (now (positions .entry)) (now (features .entry)) v st) (sheetBy w (now (positions .exit)) (now (features .exit)) v r) (r .budget)) ⌝ }
+    ensures { λ r. ⌜ ((w : ℕ) (v : List ℕ) → Fits (outputBy w (now (positions .entry)) (now (features .entry)) v st) (st .budget) → Applied (pointOf cx p (record { x = x; y = y }) (st .budget)) (outputBy w (now (positions .entry)) (now (features .entry)) v st) (outputBy w (now (positions .exit)) (now (features .exit)) v r) (r .budget)) ⌝ }
 {
     if st.number != 0 {
         return st;
@@ -137,13 +137,13 @@ pub fn spot(
     let g = geo(cx.projection, x, y);
     let d = put_point(g.lon, g.lat, st.budget, positions, st.positions);
     if !d.ok {
-        return lack(st, 16);
+        return out_of_room(st, 16);
     }
     finish(p, 0, 0, d.at, 1, st.budget, features, st)
 }
 
 // Fewer positions than a ring has: the draws stand, and a warning takes the place.
-pub fn unwritten(
+pub fn draw_without_writing(
     cx: Ctx,
     item: u32,
     work: &[f64],
@@ -153,7 +153,7 @@ pub fn unwritten(
     st: State,
 ) -> State
     requires { ⌜ (from ≤ to) × (to ≤ length (now work)) × (st .warnings ≤ length (now warnings)) ⌝ }
-    ensures { λ r. ⌜ ((w : ℕ) (q : List Float) (f : List ℕ) → Fits (sheetBy w q f (now (warnings .entry)) st) (st .budget) → Played (unwrittenOf cx item (pointsIn (now (work .entry)) from to) (st .budget)) (sheetBy w q f (now (warnings .entry)) st) (sheetBy w q f (now (warnings .exit)) r) (r .budget)) ⌝ }
+    ensures { λ r. ⌜ ((w : ℕ) (q : List Float) (f : List ℕ) → Fits (outputBy w q f (now (warnings .entry)) st) (st .budget) → Applied (drawWithoutWriting cx item (pointsIn (now (work .entry)) from to) (st .budget)) (outputBy w q f (now (warnings .entry)) st) (outputBy w q f (now (warnings .exit)) r) (r .budget)) ⌝ }
 {
     let left = spend_polyline(
         cx.step,

@@ -5,9 +5,9 @@ ghost use lib.Ieee.{Float};
 ghost use mathlib.Core.List.{List};
 ghost use Prim.Native.Nat.{ℕ};
 ghost use lib.ListN.{length};
-ghost use Rattle.convert.specs.Convert.{single, warned};
-ghost use Rattle.convert.specs.Space.{lacking};
-ghost use Rattle.convert.specs.Contracts.Space.{sheetBy, Fits, Played};
+ghost use Rattle.convert.specs.Convert.{oneEvent, warned};
+ghost use Rattle.convert.specs.Space.{outOfRoom};
+ghost use Rattle.convert.specs.Contracts.Space.{outputBy, Fits, Applied};
 use budget::Budget;
 use similarity::Projection;
 
@@ -36,7 +36,7 @@ pub struct State {
 }
 
 // Something lacks room.
-pub fn lack(st: State, number: u8) -> State
+pub fn out_of_room(st: State, number: u8) -> State
     ensures { λ r. ⌜ (r .number ≡ number) × (r .positions ≡ st .positions) × (r .features ≡ st .features) × (r .warnings ≡ st .warnings) × (r .budget ≡ st .budget) ⌝ }
 {
     let budget = st.budget;
@@ -64,14 +64,14 @@ pub fn with_budget(st: State, budget: Budget) -> State
 // One warning more.
 pub fn warn(warnings: &mut [u32], st: State, kind: u32, index: u32) -> State
     requires { ⌜ st .warnings ≤ length (now warnings) ⌝ }
-    ensures { λ r. ⌜ ((w : ℕ) (p : List Float) (f : List ℕ) → Fits (sheetBy w p f (now (warnings .entry)) st) (st .budget) → Played (single (warned (record { kind = kind; index = index })) (st .budget)) (sheetBy w p f (now (warnings .entry)) st) (sheetBy w p f (now (warnings .exit)) r) (r .budget)) ⌝ }
+    ensures { λ r. ⌜ ((w : ℕ) (p : List Float) (f : List ℕ) → Fits (outputBy w p f (now (warnings .entry)) st) (st .budget) → Applied (oneEvent (warned (record { kind = kind; index = index })) (st .budget)) (outputBy w p f (now (warnings .entry)) st) (outputBy w p f (now (warnings .exit)) r) (r .budget)) ⌝ }
 {
     if st.number != 0 {
         return st;
     }
     let n = st.warnings;
     if warnings.len() - n < 2 {
-        return lack(st, 18);
+        return out_of_room(st, 18);
     }
     warnings[n] = kind;
     warnings[n + 1] = index;

@@ -9,32 +9,32 @@ ghost use Rattle.scene.specs.Scene.{Maybe, Point};
 ghost use Rattle.budget.specs.declared.Budget.{Budget};
 ghost use Rattle.densify.specs.Densify.{Made, closeRingOf};
 ghost use Rattle.convert.specs.Convert.{closedOutline, fillOf, polylineOrPolygonOf, ringTrace};
-ghost use Rattle.convert.specs.Contracts.Space.{sheetBy, most, longest, Fits, Played, Bounds, Laid, Lays, Ringed};
-use crate::laying::Laying;
+ghost use Rattle.convert.specs.Contracts.Space.{outputBy, most, longest, Fits, Applied, Bounds, Loaded, Loads, RingLoaded};
+use crate::workspace::Workspace;
 use crate::positions::stroke;
-use crate::positions::unwritten;
+use crate::positions::draw_without_writing;
 use crate::state::Ctx;
 use crate::state::Props;
 use crate::state::State;
-use crate::state::lack;
+use crate::state::out_of_room;
 use crate::state::with_budget;
-use densify::Done;
+use densify::PointCursor;
 use densify::close_ring;
 
 // A separate fill, of the outline where there is one, else of the points, closed.
 fn fill(
     cx: Ctx,
     p: Props,
-    l: Laying,
+    l: Workspace,
     work: &mut [f64],
     positions: &mut [f64],
     features: &mut [u32],
     st: State,
 ) -> State
     requires { ⌜ Bounds l (length (now work)) × (st .positions ≤ length (now positions)) × (st .features ≤ length (now features)) × (st .budget .left ≤ most) ⌝ }
-    ensures { λ r. ⌜ ((closed : Bool) (ps : List Point) (o : Maybe (List Point)) (v : List ℕ) → Laid (now (work .entry)) closed ps o l → Fits (sheetBy (length (now (work .entry))) (now (positions .entry)) (now (features .entry)) v st) (st .budget) → Played (fillOf cx p (closedOutline o) (closeRingOf ps) (st .budget)) (sheetBy (length (now (work .entry))) (now (positions .entry)) (now (features .entry)) v st) (sheetBy (length (now (work .exit))) (now (positions .exit)) (now (features .exit)) v r) (r .budget)) ⌝ }
+    ensures { λ r. ⌜ ((closed : Bool) (ps : List Point) (o : Maybe (List Point)) (v : List ℕ) → Loaded (now (work .entry)) closed ps o l → Fits (outputBy (length (now (work .entry))) (now (positions .entry)) (now (features .entry)) v st) (st .budget) → Applied (fillOf cx p (closedOutline o) (closeRingOf ps) (st .budget)) (outputBy (length (now (work .entry))) (now (positions .entry)) (now (features .entry)) v st) (outputBy (length (now (work .exit))) (now (positions .exit)) (now (features .exit)) v r) (r .budget)) ⌝ }
     ensures { λ r. ⌜ take (l .own) (now (work .exit)) ≡ take (l .own) (now (work .entry)) ⌝ }
-    ensures { λ r. ⌜ ((v : List ℕ) → Fits (sheetBy (length (now (work .entry))) (now (positions .entry)) (now (features .entry)) v st) (st .budget) → Fits (sheetBy (length (now (work .exit))) (now (positions .exit)) (now (features .exit)) v r) (r .budget)) ⌝ }
+    ensures { λ r. ⌜ ((v : List ℕ) → Fits (outputBy (length (now (work .entry))) (now (positions .entry)) (now (features .entry)) v st) (st .budget) → Fits (outputBy (length (now (work .exit))) (now (positions .exit)) (now (features .exit)) v r) (r .budget)) ⌝ }
 {
     if !p.fill {
         return st;
@@ -57,21 +57,21 @@ pub fn polyline_or_polygon(
     cx: Ctx,
     p: Props,
     closed: bool,
-    l: Laying,
+    l: Workspace,
     work: &mut [f64],
     positions: &mut [f64],
     features: &mut [u32],
     warnings: &mut [u32],
     st: State,
 ) -> State
-    requires { ⌜ (l .ok ≡ true → Bounds l (length (now work)) × (l .budget .left ≤ most)) × Fits (sheetBy (length (now work)) (now positions) (now features) (now warnings) st) (st .budget) ⌝ }
-    ensures { λ r. ⌜ ((w : List Float) (ps : List Point) (o : Maybe (List Point)) (b : Budget) → Lays w (now (work .entry)) closed ps o b l → Played (polylineOrPolygonOf cx p closed ps o b) (sheetBy (length (now (work .entry))) (now (positions .entry)) (now (features .entry)) (now (warnings .entry)) st) (sheetBy (length (now (work .exit))) (now (positions .exit)) (now (features .exit)) (now (warnings .exit)) r) (r .budget)) ⌝ }
+    requires { ⌜ (l .ok ≡ true → Bounds l (length (now work)) × (l .budget .left ≤ most)) × Fits (outputBy (length (now work)) (now positions) (now features) (now warnings) st) (st .budget) ⌝ }
+    ensures { λ r. ⌜ ((w : List Float) (ps : List Point) (o : Maybe (List Point)) (b : Budget) → Loads w (now (work .entry)) closed ps o b l → Applied (polylineOrPolygonOf cx p closed ps o b) (outputBy (length (now (work .entry))) (now (positions .entry)) (now (features .entry)) (now (warnings .entry)) st) (outputBy (length (now (work .exit))) (now (positions .exit)) (now (features .exit)) (now (warnings .exit)) r) (r .budget)) ⌝ }
 {
     if st.number != 0 {
         return st;
     }
     if !l.ok {
-        return lack(st, 15);
+        return out_of_room(st, 15);
     }
     let drawn = with_budget(st, l.budget);
     if l.own < 4 {
@@ -84,7 +84,7 @@ pub fn polyline_or_polygon(
     }
     let filled = fill(cx, p, l, work, positions, features, drawn);
     if closed {
-        return unwritten(cx, p.item, work, 0, l.own, warnings, filled);
+        return draw_without_writing(cx, p.item, work, 0, l.own, warnings, filled);
     }
     stroke(cx, p, 1, 0, work, 0, l.own, positions, features, filled)
 }
@@ -93,23 +93,23 @@ pub fn polyline_or_polygon(
 pub fn draw_ring(
     cx: Ctx,
     p: Props,
-    d: Done,
+    d: PointCursor,
     work: &[f64],
     positions: &mut [f64],
     features: &mut [u32],
     st: State,
 ) -> State
     requires { ⌜ (d .ok ≡ true → (2 ≤ d .at) × (d .at ≤ length (now work)) × (d .at ≤ longest) × (d .budget .left ≤ most)) × (st .positions ≤ length (now positions)) × (st .features ≤ length (now features)) ⌝ }
-    ensures { λ r. ⌜ ((m : Made) (v : List ℕ) → Ringed (now (work .entry)) m d → Fits (sheetBy (length (now (work .entry))) (now (positions .entry)) (now (features .entry)) v st) (st .budget) → Played (ringTrace cx p m) (sheetBy (length (now (work .entry))) (now (positions .entry)) (now (features .entry)) v st) (sheetBy (length (now (work .entry))) (now (positions .exit)) (now (features .exit)) v r) (r .budget)) ⌝ }
+    ensures { λ r. ⌜ ((m : Made) (v : List ℕ) → RingLoaded (now (work .entry)) m d → Fits (outputBy (length (now (work .entry))) (now (positions .entry)) (now (features .entry)) v st) (st .budget) → Applied (ringTrace cx p m) (outputBy (length (now (work .entry))) (now (positions .entry)) (now (features .entry)) v st) (outputBy (length (now (work .entry))) (now (positions .exit)) (now (features .exit)) v r) (r .budget)) ⌝ }
 {
     if st.number != 0 {
         return st;
     }
     if !d.ok {
-        return lack(st, 15);
+        return out_of_room(st, 15);
     }
     if work.len() - d.at < 2 {
-        return lack(st, 15);
+        return out_of_room(st, 15);
     }
     stroke(
         cx,

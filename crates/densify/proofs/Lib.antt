@@ -2,5 +2,5 @@ pub mod Casts
 pub mod Forms
 pub mod Outlines
 pub mod Splits
-pub mod Standing
+pub mod Points
 pub mod Truncated

@@ -11,8 +11,8 @@ use Rattle.budget.specs.declared.Budget.{Budget}
 use Rattle.budget.specs.declared.Taken.{Taken}
 use Rattle.budget.specs.Budget.{grantOf, takeOf}
 use Rattle.scene.specs.Scene.{Point}
-use Rattle.densify.specs.declared.writing.Done.{Done}
-use Rattle.densify.specs.Densify.{Made, drawing, closeRingOf, sharpCorners, roundedCorners, quarterOf, boxRingOf}
+use Rattle.densify.specs.declared.append.PointCursor.{PointCursor}
+use Rattle.densify.specs.Densify.{Made, withDraw, closeRingOf, sharpCorners, roundedCorners, quarterOf, boxRingOf}
 use Rattle.densify.specs.Contracts.Written.{Written}
 use Rattle.densify.specs.Laws.Writing.{next-in}
 use Rattle.densify.specs.Laws.Replay.{radiusOf}
@@ -28,16 +28,16 @@ unfolding quarterOf
 quarter-most step scale r tol = omega (arith, arc-within step scale r tol)
 
 -- ---- what `close_ring` asks
-pub ring-in : {w w₁ : List Float} {at : ℕ} {m : Made} {r : Done} → Written w w₁ at m r → r .ok ≡ true → (at ≤ r .at) × (r .at ≤ length w₁)
+pub ring-in : {w w₁ : List Float} {at : ℕ} {m : Made} {r : PointCursor} → Written w w₁ at m r → r .ok ≡ true → (at ≤ r .at) × (r .at ≤ length w₁)
 ring-in one fits = (omega (arith, one .next fits), next-in one fits)
 
 -- ---- the two kinds of box
 module _ (step scale tol : Float) (c : Point) (w h rad : Float) (b : Budget) {r : Float} (e : r ≡ radiusOf w h rad) where
-  pub box-sharp : le r K.zero ≡ true → boxRingOf step scale tol c w h rad b ≡ drawing b 4 4 (λ n. closeRingOf (sharpCorners c (div binary64 w K.two) (div binary64 h K.two)))
+  pub box-sharp : le r K.zero ≡ true → boxRingOf step scale tol c w h rad b ≡ withDraw b 4 4 (λ n. closeRingOf (sharpCorners c (div binary64 w K.two) (div binary64 h K.two)))
   unfolding boxRingOf
   box-sharp t = rw (rw e at t)
 
   pub box-rounded : le r K.zero ≡ false
-      → boxRingOf step scale tol c w h rad b ≡ drawing b (quarterOf step scale r tol * 4) 8 (λ n. closeRingOf (roundedCorners c (div binary64 w K.two) (div binary64 h K.two) r (n / 4)))
+      → boxRingOf step scale tol c w h rad b ≡ withDraw b (quarterOf step scale r tol * 4) 8 (λ n. closeRingOf (roundedCorners c (div binary64 w K.two) (div binary64 h K.two) r (n / 4)))
   unfolding boxRingOf
   box-rounded t = rw (e, rw e at t)

@@ -6,7 +6,7 @@ use native.Mathlib.Omega.{arith}
 use lib.Ieee.{Float}
 use borrow.Author.Tests.{lt-ltb, le-ltb}
 use Rattle.budget.specs.declared.Budget.{Budget}
-use Rattle.densify.specs.Densify.{Block, andThen, flatOf, firstOf, secondOf, leafOf, splitOf}
+use Rattle.densify.specs.Densify.{Block, andThen, flatOf, firstHalf, secondHalf, leafOf, splitOf}
 
 module _ (tol : Float) (c : Block) (b : Budget) where
   pub ends-deep : (depth : ℕ) → 16 ≤ depth → splitOf (16 - depth) tol c b ≡ leafOf (flatOf tol c) (c .p3) b
@@ -24,7 +24,7 @@ module _ (tol : Float) (c : Block) (b : Budget) where
   ends-left (suc k) bent few = rw (bent, lt-ltb (b .left) 2 few)
 
   pub halved : (depth : ℕ) → depth < 16 → flatOf tol c ≡ false → 2 ≤ b .left
-      → splitOf (16 - depth) tol c b ≡ andThen (splitOf (16 - (depth + 1)) tol (firstOf c) b) (splitOf (16 - (depth + 1)) tol (secondOf c))
+      → splitOf (16 - depth) tol c b ≡ andThen (splitOf (16 - (depth + 1)) tol (firstHalf c) b) (splitOf (16 - (depth + 1)) tol (secondHalf c))
   unfolding splitOf
   halved depth h bent more =
       let fuel : 16 - depth ≡ suc (16 - (depth + 1)) = omega arith in

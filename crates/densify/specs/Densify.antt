@@ -15,7 +15,7 @@ use Rattle.scene.specs.Scene.{Point, Cubic, Form, curve, polyline, DrawnPath}
 
 -- ---- what a producer makes: its points, the budget after them, and its draws in order
 -- a call of `take`; `cut` says that a piece that was not flat met fewer than 2 left just before it
-pub record Drawn : Type 0 where
+pub record GrantedDraw : Type 0 where
   pub want : ℕ
   pub floor : ℕ
   pub granted : ℕ
@@ -24,15 +24,15 @@ pub record Drawn : Type 0 where
 pub record Made : Type 0 where
   pub points : List Point
   pub after : Budget
-  pub draws : List Drawn
+  pub draws : List GrantedDraw
 
 -- nothing is drawn
-abbrev pub plain : List Point → Budget → Made
-plain ps b = record { points = ps; after = b; draws = [] }
+abbrev pub withoutDraws : List Point → Budget → Made
+withoutDraws ps b = record { points = ps; after = b; draws = [] }
 
 -- one draw, and the points that its grant makes
-abbrev pub drawing : Budget → ℕ → ℕ → (ℕ → List Point) → Made
-drawing b want floor f =
+abbrev pub withDraw : Budget → ℕ → ℕ → (ℕ → List Point) → Made
+withDraw b want floor f =
     let t = takeOf b want floor in
     record { points = f (t .granted); after = t .budget; draws = record { want = want; floor = floor; granted = t .granted; cut = false } ∷ [] }
 
@@ -86,8 +86,8 @@ unfoldable pub midOf : Point → Point → Point
 midOf a b = record { x = div binary64 (add binary64 (a .x) (b .x)) K.two; y = div binary64 (add binary64 (a .y) (b .y)) K.two }
 
 -- de Casteljau's halves
-unfoldable pub firstOf : Block → Block
-firstOf b =
+unfoldable pub firstHalf : Block → Block
+firstHalf b =
     let p01 = midOf (b .p0) (b .c1) in
     let p12 = midOf (b .c1) (b .c2) in
     let p23 = midOf (b .c2) (b .p3) in
@@ -95,8 +95,8 @@ firstOf b =
     let p123 = midOf p12 p23 in
     record { p0 = b .p0; c1 = p01; c2 = p012; p3 = midOf p012 p123 }
 
-unfoldable pub secondOf : Block → Block
-secondOf b =
+unfoldable pub secondHalf : Block → Block
+secondHalf b =
     let p01 = midOf (b .p0) (b .c1) in
     let p12 = midOf (b .c1) (b .c2) in
     let p23 = midOf (b .c2) (b .p3) in
@@ -120,20 +120,20 @@ unfoldable pub splitOf : ℕ → Float → Block → Budget → Made
 splitOf zero tol c b = leafOf (flatOf tol c) (c .p3) b
 splitOf (suc fuel) tol c b =
     pickMade (flatOf tol c || ltb (b .left) 2) (leafOf (flatOf tol c) (c .p3) b)
-    (andThen (splitOf fuel tol (firstOf c) b) (λ r. splitOf fuel tol (secondOf c) r))
+    (andThen (splitOf fuel tol (firstHalf c) b) (λ r. splitOf fuel tol (secondHalf c) r))
 
 unfoldable pub flattenCubicOf : Float → Block → Budget → Made
 flattenCubicOf tol c b = splitOf 16 (maxOf tol tiny) c b
 
 -- ---- path_points
 unfoldable pub cubicsOf : Float → Point → List Cubic → Budget → Made
-cubicsOf tol p [] b = plain [] b
+cubicsOf tol p [] b = withoutDraws [] b
 cubicsOf tol p (c ∷ cs) b =
     andThen (flattenCubicOf tol (record { p0 = p; c1 = c .c1; c2 = c .c2; p3 = c .end }) b) (λ r. cubicsOf tol (c .end) cs r)
 
 unfoldable pub formPoints : Float → Form → Budget → Made
-formPoints tol (curve start cs) b = andThen (plain (start ∷ []) b) (λ r. cubicsOf tol start cs r)
-formPoints tol (polyline ps) b = plain ps b
+formPoints tol (curve start cs) b = andThen (withoutDraws (start ∷ []) b) (λ r. cubicsOf tol start cs r)
+formPoints tol (polyline ps) b = withoutDraws ps b
 
 -- close_ring: by value, so -0.0 is 0.0
 unfoldable pub samePoint : Point → Point → Bool
@@ -156,8 +156,8 @@ pathPointsOf tol p b = closedIf (p .closed) (formPoints tol (p .form) b)
 
 -- ---- densify_polyline
 -- the parts of a segment so many metres long; 100,000 at most
-unfoldable pub partsOf : Float → Float → ℕ
-partsOf step metres = cond (finite metres) (clamped 1 100000 (ceilOf (div binary64 metres step))) 1
+unfoldable pub segmentParts : Float → Float → ℕ
+segmentParts step metres = cond (finite metres) (clamped 1 100000 (ceilOf (div binary64 metres step))) 1
 
 -- k nths of the way from a to b
 unfoldable pub alongOf : Point → Point → ℕ → ℕ → Point
@@ -174,19 +174,19 @@ samplesTo f zero = []
 samplesTo f (suc k) = samplesTo f k ++ (f (suc k) ∷ [])
 
 unfoldable pub segmentWant : Float → Float → Point → Point → ℕ
-segmentWant step scale a b = partsOf step (mul binary64 (hypotOf (sub binary64 (b .x) (a .x)) (sub binary64 (b .y) (a .y))) scale)
+segmentWant step scale a b = segmentParts step (mul binary64 (hypotOf (sub binary64 (b .x) (a .x)) (sub binary64 (b .y) (a .y))) scale)
 
 unfoldable pub segmentOf : Float → Float → Point → Point → Budget → Made
 unfolding segmentWant
-segmentOf step scale a b budget = drawing budget (segmentWant step scale a b) 1 (λ n. samplesTo (λ k. alongOf a b k n) n)
+segmentOf step scale a b budget = withDraw budget (segmentWant step scale a b) 1 (λ n. samplesTo (λ k. alongOf a b k n) n)
 
 unfoldable pub segmentsOf : Float → Float → Point → List Point → Budget → Made
-segmentsOf step scale p [] b = plain [] b
+segmentsOf step scale p [] b = withoutDraws [] b
 segmentsOf step scale p (q ∷ qs) b = andThen (segmentOf step scale p q b) (λ r. segmentsOf step scale q qs r)
 
 unfoldable pub densifyPolylineOf : Float → Float → List Point → Budget → Made
-densifyPolylineOf step scale [] b = plain [] b
-densifyPolylineOf step scale (p ∷ ps) b = andThen (plain (p ∷ []) b) (λ r. segmentsOf step scale p ps r)
+densifyPolylineOf step scale [] b = withoutDraws [] b
+densifyPolylineOf step scale (p ∷ ps) b = andThen (withoutDraws (p ∷ []) b) (λ r. segmentsOf step scale p ps r)
 
 -- ---- arc_vertices
 unfoldable pub byTolerance : Float → Float → Float
@@ -212,7 +212,7 @@ ellipsePoint c rx ry n k =
 
 unfoldable pub ellipseRingOf : Float → Float → Float → Point → Float → Float → Budget → Made
 ellipseRingOf step scale tol c rx ry b =
-    drawing b (arcVerticesOf step scale (maxOf rx ry) tol) 8 (λ n. closeRingOf (roundTo (ellipsePoint c rx ry n) n))
+    withDraw b (arcVerticesOf step scale (maxOf rx ry) tol) 8 (λ n. closeRingOf (roundTo (ellipsePoint c rx ry n) n))
 
 -- ---- box_ring
 unfoldable pub sharpCorners : Point → Float → Float → List Point
@@ -251,5 +251,5 @@ boxRingOf step scale tol c w h rad b =
     let r = minOf (minOf (maxOf rad K.zero) hw) hh in
     let quarter = quarterOf step scale r tol in
     pickMade (le r K.zero)
-    (drawing b 4 4 (λ n. closeRingOf (sharpCorners c hw hh)))
-    (drawing b (quarter * 4) 8 (λ n. closeRingOf (roundedCorners c hw hh r (n / 4))))
+    (withDraw b 4 4 (λ n. closeRingOf (sharpCorners c hw hh)))
+    (withDraw b (quarter * 4) 8 (λ n. closeRingOf (roundedCorners c hw hh r (n / 4))))

@@ -26,5 +26,5 @@ unfoldable pub put : List Float → ℕ → List Float → List Float
 put w at vs = take at w ++ (vs ++ drop (at + length vs) w)
 
 -- ---- positions: longitude as x, latitude as y
-unfoldable pub placedBy : Projection → Point → Point
-placedBy t p = let g = geoBy t (p .x) (p .y) in record { x = g .lon; y = g .lat }
+unfoldable pub projectPoint : Projection → Point → Point
+projectPoint t p = let g = geoBy t (p .x) (p .y) in record { x = g .lon; y = g .lat }

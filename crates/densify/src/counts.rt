@@ -1,7 +1,7 @@
 // How many vertices a segment and a full curve want.
 ghost use mathlib.Core.Path.{_≡_};
 ghost use Prim.Native.Nat.{_≤_};
-ghost use Rattle.densify.specs.Densify.{clamped, partsOf, byTolerance, arcVerticesOf};
+ghost use Rattle.densify.specs.Densify.{clamped, segmentParts, byTolerance, arcVerticesOf};
 use elementary::acos;
 use float::abs;
 use float::ceil;
@@ -35,8 +35,8 @@ fn clamp(n: f64, low: usize, high: usize) -> usize
 }
 
 // The parts of a segment so many metres long.
-pub fn parts(step: f64, metres: f64) -> usize
-    ensures { λ r. ⌜ r ≡ partsOf step metres ⌝ }
+pub fn segment_parts(step: f64, metres: f64) -> usize
+    ensures { λ r. ⌜ r ≡ segmentParts step metres ⌝ }
 {
     if !is_finite(metres) {
         return 1;

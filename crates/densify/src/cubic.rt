@@ -2,10 +2,10 @@
 ghost use mathlib.Core.Path.{_≡_};
 ghost use Prim.Native.Nat.{_-_, _≤_};
 ghost use lib.ListN.{length, drop};
-ghost use Rattle.densify.specs.Densify.{distOf, flatOf, midOf, firstOf, secondOf, splitOf, flattenCubicOf};
+ghost use Rattle.densify.specs.Densify.{distOf, flatOf, midOf, firstHalf, secondHalf, splitOf, flattenCubicOf};
 ghost use Rattle.densify.specs.Contracts.Written.{pointIn, blockIn, Written};
-use crate::writing::Done;
-use crate::writing::leaf;
+use crate::append::PointCursor;
+use crate::append::leaf;
 use budget::Budget;
 use elementary::hypot;
 use float::abs;
@@ -47,7 +47,7 @@ fn is_flat(b: [[f64; 2]; 4], tol: f64) -> bool
 
 // De Casteljau's points of both halves, which share the middle one.
 fn halves(b: [[f64; 2]; 4]) -> [[f64; 2]; 7]
-    ensures { λ r. ⌜ (blockIn r ≡ firstOf (blockIn b)) × (blockIn (drop 3 r) ≡ secondOf (blockIn b)) ⌝ }
+    ensures { λ r. ⌜ (blockIn r ≡ firstHalf (blockIn b)) × (blockIn (drop 3 r) ≡ secondHalf (blockIn b)) ⌝ }
 {
     let p0 = b[0];
     let c1 = b[1];
@@ -90,7 +90,7 @@ fn pieces(
     budget: Budget,
     work: &mut [f64],
     at: usize,
-) -> Done
+) -> PointCursor
     requires { ⌜ at ≤ length (now work) ⌝ }
     ensures { λ r. ⌜ Written (now (work .entry)) (now (work .exit)) at (splitOf (16 - depth) tol (blockIn b) budget) r ⌝ }
 {
@@ -123,7 +123,7 @@ pub fn flatten_cubic(
     budget: Budget,
     work: &mut [f64],
     at: usize,
-) -> Done
+) -> PointCursor
     requires { ⌜ at ≤ length (now work) ⌝ }
     ensures { λ r. ⌜ Written (now (work .entry)) (now (work .exit)) at (flattenCubicOf tol (blockIn b) budget) r ⌝ }
 {

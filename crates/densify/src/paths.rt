@@ -5,12 +5,12 @@ ghost use Rattle.stream.specs.Payload.{payload};
 ghost use Rattle.stream.specs.Contracts.Payload.{room};
 ghost use Rattle.scene.specs.Scene.{pointsAt, cubicsAt};
 ghost use Rattle.scene.specs.Contracts.Answers.{formBy};
-ghost use Rattle.densify.specs.Densify.{plain, cubicsOf, formPoints, pathPointsOf};
+ghost use Rattle.densify.specs.Densify.{withoutDraws, cubicsOf, formPoints, pathPointsOf};
 ghost use Rattle.densify.specs.Contracts.Written.{Written, drawnBy, PathFits};
 use crate::cubic::flatten_cubic;
-use crate::writing::Done;
-use crate::writing::close_ring;
-use crate::writing::put_point;
+use crate::append::PointCursor;
+use crate::append::close_ring;
+use crate::append::put_point;
 use budget::Budget;
 use scene::Path;
 use scene::point_at;
@@ -23,9 +23,9 @@ pub fn copy_points(
     budget: Budget,
     work: &mut [f64],
     at: usize,
-) -> Done
+) -> PointCursor
     requires { ⌜ (from + 16 * count ≤ room (now s)) × (at ≤ length (now work)) ⌝ }
-    ensures { λ r. ⌜ Written (now (work .entry)) (now (work .exit)) at (plain (pointsAt (payload (now (s .entry))) from count) budget) r ⌝ }
+    ensures { λ r. ⌜ Written (now (work .entry)) (now (work .exit)) at (withoutDraws (pointsAt (payload (now (s .entry))) from count) budget) r ⌝ }
 {
     let mut next = at;
     let mut i = 0usize;
@@ -38,7 +38,7 @@ pub fn copy_points(
         next = d.at;
         i += 1;
     }
-    Done {
+    PointCursor {
         ok: true,
         at: next,
         budget: budget,
@@ -56,7 +56,7 @@ fn flatten_cubics(
     budget: Budget,
     work: &mut [f64],
     at: usize,
-) -> Done
+) -> PointCursor
     requires { ⌜ (from + 48 * count ≤ room (now s)) × (at ≤ length (now work)) ⌝ }
     ensures { λ r. ⌜ Written (now (work .entry)) (now (work .exit)) at (cubicsOf tol (record { x = x; y = y }) (cubicsAt (payload (now (s .entry))) from count) budget) r ⌝ }
 {
@@ -85,14 +85,14 @@ fn flatten_cubics(
         next = d.at;
         i += 1;
     }
-    Done {
+    PointCursor {
         ok: true,
         at: next,
         budget: left,
     }
 }
 
-fn form_points(s: &[u8], p: Path, tol: f64, budget: Budget, work: &mut [f64], at: usize) -> Done
+fn form_points(s: &[u8], p: Path, tol: f64, budget: Budget, work: &mut [f64], at: usize) -> PointCursor
     requires { ⌜ PathFits (room (now s)) p × (at ≤ length (now work)) ⌝ }
     ensures { λ r. ⌜ Written (now (work .entry)) (now (work .exit)) at (formPoints tol (formBy (payload (now (s .entry))) p) budget) r ⌝ }
 {
@@ -111,7 +111,7 @@ fn form_points(s: &[u8], p: Path, tol: f64, budget: Budget, work: &mut [f64], at
 }
 
 // The points of a path; a closed one ends with its first.
-pub fn path_points(s: &[u8], p: Path, tol: f64, budget: Budget, work: &mut [f64], at: usize) -> Done
+pub fn path_points(s: &[u8], p: Path, tol: f64, budget: Budget, work: &mut [f64], at: usize) -> PointCursor
     requires { ⌜ PathFits (room (now s)) p × (at ≤ length (now work)) ⌝ }
     ensures { λ r. ⌜ Written (now (work .entry)) (now (work .exit)) at (pathPointsOf tol (drawnBy (payload (now (s .entry))) p) budget) r ⌝ }
 {

@@ -5,14 +5,14 @@ ghost use mathlib.Core.Bool.{true, false};
 ghost use Prim.Native.Nat.{_≤_};
 ghost use lib.Ieee.{isNan};
 ghost use lib.ListN.{length};
-ghost use Rattle.densify.specs.Contracts.Written.{pointWith, stretchedBy, stageOf, onY, inPlace};
-ghost use Rattle.densify.specs.Positions.{placedBy};
+ghost use Rattle.densify.specs.Contracts.Written.{pointWith, expStageBy, stageOf, onY, inPlace};
+ghost use Rattle.densify.specs.Positions.{projectPoint};
 use elementary::atan_first;
 use elementary::atan_second;
-use float::same;
+use float::same_value;
 use similarity::Projection;
-use similarity::latitude;
-use similarity::stretch;
+use similarity::rounded_latitude;
+use similarity::exp_stage;
 
 // The stages of a latitude: two halvings of the exponential's arc tangent, and the rest.
 pub enum Stage {
@@ -25,29 +25,29 @@ fn same_point(ax: f64, ay: f64, bx: f64, by: f64) -> bool
     ensures { λ r. ⌜ (r ≡ true → pointWith ax ay ≡ pointWith bx by) ⌝ }
     ensures { λ r. ⌜ (isNan ax ≡ false → isNan ay ≡ false → pointWith ax ay ≡ pointWith bx by → r ≡ true) ⌝ }
 {
-    if same(ax, bx) {
-        return same(ay, by);
+    if same_value(ax, bx) {
+        return same_value(ay, by);
     }
     false
 }
 
 // The longitude of each point, and the exponential of its ordinate.
-fn stretch_points(t: Projection, out: &mut [f64], from: usize, to: usize)
+fn exp_stage_points(t: Projection, out: &mut [f64], from: usize, to: usize)
     requires { ⌜ (from ≤ to) × (to ≤ length (now out)) ⌝ }
-    ensures { λ _. ⌜ now (out .exit) ≡ inPlace (stretchedBy t) (now (out .entry)) from to ⌝ }
+    ensures { λ _. ⌜ now (out .exit) ≡ inPlace (expStageBy t) (now (out .entry)) from to ⌝ }
 {
     if to - from < 2 {
         return;
     }
     let mut last_x = out[from];
     let mut last_y = out[from + 1];
-    let mut g = stretch(t, last_x, last_y);
+    let mut g = exp_stage(t, last_x, last_y);
     let mut i = from;
     while to - i >= 2 {
         let x = out[i];
         let y = out[i + 1];
         if !same_point(x, y, last_x, last_y) {
-            g = stretch(t, x, y);
+            g = exp_stage(t, x, y);
         }
         last_x = x;
         last_y = y;
@@ -63,7 +63,7 @@ fn stage_of(k: Stage, v: f64) -> f64
     match k {
         Stage::First => atan_first(v),
         Stage::Second => atan_second(v),
-        Stage::Last => latitude(v),
+        Stage::Last => rounded_latitude(v),
     }
 }
 
@@ -80,7 +80,7 @@ fn stage_points(k: Stage, out: &mut [f64], from: usize, to: usize)
     let mut i = from;
     while to - i >= 2 {
         let v = out[i + 1];
-        if !same(v, last) {
+        if !same_value(v, last) {
             made = stage_of(k, v);
         }
         last = v;
@@ -90,11 +90,11 @@ fn stage_points(k: Stage, out: &mut [f64], from: usize, to: usize)
 }
 
 // The positions of the points that stand in `out` from `from` to `to`.
-pub fn place_points(t: Projection, out: &mut [f64], from: usize, to: usize)
+pub fn project_points(t: Projection, out: &mut [f64], from: usize, to: usize)
     requires { ⌜ (from ≤ to) × (to ≤ length (now out)) ⌝ }
-    ensures { λ _. ⌜ now (out .exit) ≡ inPlace (placedBy t) (now (out .entry)) from to ⌝ }
+    ensures { λ _. ⌜ now (out .exit) ≡ inPlace (projectPoint t) (now (out .entry)) from to ⌝ }
 {
-    stretch_points(t, out, from, to);
+    exp_stage_points(t, out, from, to);
     stage_points(Stage::First, out, from, to);
     stage_points(Stage::Second, out, from, to);
     stage_points(Stage::Last, out, from, to);

@@ -2,14 +2,14 @@
 ghost use mathlib.Core.Path.{_≡_};
 ghost use Prim.Native.Nat.{suc, _≤_, _<_};
 ghost use lib.ListN.{length};
-ghost use Rattle.densify.specs.Densify.{plain, roundTo, ellipsePoint, ellipseRingOf, sharpCorners, cornerPoint, roundedCorners, quarterOf, boxRingOf};
+ghost use Rattle.densify.specs.Densify.{withoutDraws, roundTo, ellipsePoint, ellipseRingOf, sharpCorners, cornerPoint, roundedCorners, quarterOf, boxRingOf};
 ghost use Rattle.densify.specs.Contracts.Written.{pointIn, Written};
 use crate::counts::arc_vertices;
-use crate::writing::Done;
-use crate::writing::close_ring;
-use crate::writing::put_point;
+use crate::append::PointCursor;
+use crate::append::close_ring;
+use crate::append::put_point;
 use budget::Budget;
-use budget::draw;
+use budget::take;
 use elementary::sin_cos;
 use elementary::to_radians;
 use float::max;
@@ -26,9 +26,9 @@ fn ellipse_points(
     budget: Budget,
     work: &mut [f64],
     at: usize,
-) -> Done
+) -> PointCursor
     requires { ⌜ (n < 4294967296) × (at ≤ length (now work)) ⌝ }
-    ensures { λ r. ⌜ Written (now (work .entry)) (now (work .exit)) at (plain (roundTo (ellipsePoint (pointIn c) rx ry n) n) budget) r ⌝ }
+    ensures { λ r. ⌜ Written (now (work .entry)) (now (work .exit)) at (withoutDraws (roundTo (ellipsePoint (pointIn c) rx ry n) n) budget) r ⌝ }
 {
     let mut next = at;
     let mut k = 0usize;
@@ -42,7 +42,7 @@ fn ellipse_points(
         next = d.at;
         k += 1;
     }
-    Done {
+    PointCursor {
         ok: true,
         at: next,
         budget: budget,
@@ -60,11 +60,11 @@ pub fn ellipse_ring(
     budget: Budget,
     work: &mut [f64],
     at: usize,
-) -> Done
+) -> PointCursor
     requires { ⌜ at ≤ length (now work) ⌝ }
     ensures { λ r. ⌜ Written (now (work .entry)) (now (work .exit)) at (ellipseRingOf step scale tol (pointIn c) rx ry budget) r ⌝ }
 {
-    let t = draw(budget, arc_vertices(step, scale, max(rx, ry), tol), 8);
+    let t = take(budget, arc_vertices(step, scale, max(rx, ry), tol), 8);
     let n = t.granted;
     let after = t.budget;
     let d = ellipse_points(c, rx, ry, n, after, work, at);
@@ -76,9 +76,9 @@ pub fn ellipse_ring(
 }
 
 // The four corners of a box, counter-clockwise from the south-west.
-fn sharp_corners(c: [f64; 2], hw: f64, hh: f64, budget: Budget, work: &mut [f64], at: usize) -> Done
+fn sharp_corners(c: [f64; 2], hw: f64, hh: f64, budget: Budget, work: &mut [f64], at: usize) -> PointCursor
     requires { ⌜ at ≤ length (now work) ⌝ }
-    ensures { λ r. ⌜ Written (now (work .entry)) (now (work .exit)) at (plain (sharpCorners (pointIn c) hw hh) budget) r ⌝ }
+    ensures { λ r. ⌜ Written (now (work .entry)) (now (work .exit)) at (withoutDraws (sharpCorners (pointIn c) hw hh) budget) r ⌝ }
 {
     let west = c[0] - hw;
     let east = c[0] + hw;
@@ -112,9 +112,9 @@ fn corner(
     budget: Budget,
     work: &mut [f64],
     at: usize,
-) -> Done
+) -> PointCursor
     requires { ⌜ (per < 4294967295) × (at ≤ length (now work)) ⌝ }
-    ensures { λ d. ⌜ Written (now (work .entry)) (now (work .exit)) at (plain (roundTo (cornerPoint (record { x = x; y = y }) r start per) (suc per)) budget) d ⌝ }
+    ensures { λ d. ⌜ Written (now (work .entry)) (now (work .exit)) at (withoutDraws (roundTo (cornerPoint (record { x = x; y = y }) r start per) (suc per)) budget) d ⌝ }
 {
     let mut next = at;
     let mut k = 0usize;
@@ -128,7 +128,7 @@ fn corner(
         next = d.at;
         k += 1;
     }
-    Done {
+    PointCursor {
         ok: true,
         at: next,
         budget: budget,
@@ -145,9 +145,9 @@ fn rounded_corners(
     budget: Budget,
     work: &mut [f64],
     at: usize,
-) -> Done
+) -> PointCursor
     requires { ⌜ (per < 4294967295) × (at ≤ length (now work)) ⌝ }
-    ensures { λ d. ⌜ Written (now (work .entry)) (now (work .exit)) at (plain (roundedCorners (pointIn c) hw hh r per) budget) d ⌝ }
+    ensures { λ d. ⌜ Written (now (work .entry)) (now (work .exit)) at (withoutDraws (roundedCorners (pointIn c) hw hh r per) budget) d ⌝ }
 {
     let west = c[0] - hw + r;
     let east = c[0] + hw - r;
@@ -194,7 +194,7 @@ pub fn box_ring(
     budget: Budget,
     work: &mut [f64],
     at: usize,
-) -> Done
+) -> PointCursor
     requires { ⌜ at ≤ length (now work) ⌝ }
     ensures { λ r. ⌜ Written (now (work .entry)) (now (work .exit)) at (boxRingOf step scale tol (pointIn c) w h rad budget) r ⌝ }
 {
@@ -202,7 +202,7 @@ pub fn box_ring(
     let hh = h / 2.0;
     let r = min(min(max(rad, 0.0), hw), hh);
     if r <= 0.0 {
-        let t = draw(budget, 4, 4);
+        let t = take(budget, 4, 4);
         let after = t.budget;
         let d = sharp_corners(c, hw, hh, after, work, at);
         if !d.ok {
@@ -211,7 +211,7 @@ pub fn box_ring(
         let end = d.at;
         return close_ring(after, work, at, end);
     }
-    let t = draw(budget, quarter_of(step, scale, r, tol) * 4, 8);
+    let t = take(budget, quarter_of(step, scale, r, tol) * 4, 8);
     let after = t.budget;
     let d = rounded_corners(c, hw, hh, r, t.granted / 4, after, work, at);
     if !d.ok {

@@ -2,14 +2,14 @@
 ghost use mathlib.Core.Path.{_≡_};
 ghost use Prim.Native.Nat.{_+_, _≤_, _<_};
 ghost use lib.ListN.{length};
-ghost use Rattle.densify.specs.Densify.{plain, segmentWant, alongOf, samplesTo, densifyPolylineOf};
-ghost use Rattle.densify.specs.Contracts.Written.{pointIn, pointsIn, placing, Written};
-use crate::counts::parts;
-use crate::placing::place_points;
-use crate::writing::Done;
-use crate::writing::put_point;
+ghost use Rattle.densify.specs.Densify.{withoutDraws, segmentWant, alongOf, samplesTo, densifyPolylineOf};
+ghost use Rattle.densify.specs.Contracts.Written.{pointIn, pointsIn, projected, Written};
+use crate::counts::segment_parts;
+use crate::placing::project_points;
+use crate::append::PointCursor;
+use crate::append::put_point;
 use budget::Budget;
-use budget::draw;
+use budget::take;
 use elementary::hypot;
 use similarity::Projection;
 
@@ -18,7 +18,7 @@ pub fn segment_want(step: f64, scale: f64, a: [f64; 2], b: [f64; 2]) -> usize
     ensures { λ r. ⌜ r ≡ segmentWant step scale (pointIn a) (pointIn b) ⌝ }
 {
     let inches = hypot(b[0] - a[0], b[1] - a[1]);
-    parts(step, inches * scale)
+    segment_parts(step, inches * scale)
 }
 
 // The k-th of n points of the way from a to b.
@@ -38,10 +38,10 @@ fn sample_segment(
     budget: Budget,
     out: &mut [f64],
     at: usize,
-) -> Done
+) -> PointCursor
     requires { ⌜ (n < 4294967295) × (at ≤ length (now out)) ⌝ }
     ensures { λ r. ⌜ Written (now (out .entry)) (now (out .exit)) at
-        (plain (samplesTo (λ k. alongOf (pointIn a) (pointIn b) k n) n) budget) r ⌝ }
+        (withoutDraws (samplesTo (λ k. alongOf (pointIn a) (pointIn b) k n) n) budget) r ⌝ }
 {
     let mut next = at;
     let mut k = 1usize;
@@ -54,7 +54,7 @@ fn sample_segment(
         next = d.at;
         k += 1;
     }
-    Done {
+    PointCursor {
         ok: true,
         at: next,
         budget: budget,
@@ -71,13 +71,13 @@ fn sample_polyline(
     budget: Budget,
     out: &mut [f64],
     at: usize,
-) -> Done
+) -> PointCursor
     requires { ⌜ (from ≤ to) × (to ≤ length (now work)) × (at ≤ length (now out)) ⌝ }
     ensures { λ r. ⌜ Written (now (out .entry)) (now (out .exit)) at
         (densifyPolylineOf step scale (pointsIn (now (work .entry)) from to) budget) r ⌝ }
 {
     if to - from < 2 {
-        return Done {
+        return PointCursor {
             ok: true,
             at: at,
             budget: budget,
@@ -96,7 +96,7 @@ fn sample_polyline(
         let bx = work[i];
         let by = work[i + 1];
         let want = segment_want(step, scale, [ax, ay], [bx, by]);
-        let taken = draw(left, want, 1);
+        let taken = take(left, want, 1);
         left = taken.budget;
         let d = sample_segment([ax, ay], [bx, by], taken.granted, left, out, next);
         if !d.ok {
@@ -107,7 +107,7 @@ fn sample_polyline(
         ay = by;
         i += 2;
     }
-    Done {
+    PointCursor {
         ok: true,
         at: next,
         budget: left,
@@ -124,17 +124,17 @@ pub fn densify_polyline(
     budget: Budget,
     out: &mut [f64],
     at: usize,
-) -> Done
+) -> PointCursor
     requires { ⌜ (from ≤ to) × (to ≤ length (now work)) × (at ≤ length (now out)) ⌝ }
     ensures { λ r. ⌜ Written (now (out .entry)) (now (out .exit)) at
-        (placing t (densifyPolylineOf step (t .registration .scale) (pointsIn (now (work .entry)) from to) budget))
+        (projected t (densifyPolylineOf step (t .registration .scale) (pointsIn (now (work .entry)) from to) budget))
         r ⌝ }
 {
     let d = sample_polyline(step, t.registration.scale, work, from, to, budget, out, at);
     if !d.ok {
         return d;
     }
-    place_points(t, out, at, d.at);
+    project_points(t, out, at, d.at);
     d
 }
 
@@ -161,7 +161,7 @@ pub fn spend_polyline(
         let bx = work[i];
         let by = work[i + 1];
         let want = segment_want(step, scale, [ax, ay], [bx, by]);
-        let taken = draw(left, want, 1);
+        let taken = take(left, want, 1);
         left = taken.budget;
         ax = bx;
         ay = by;

@@ -16,7 +16,7 @@ use lib.Ieee.Exact.{HasValue, round-exact}
 use lib.Ieee.Fits.{up-pos, down-pos, round-fits, and-i, and-l, eq→eqb}
 use lib.Ieee.Positive.{positive}
 use lib.Ieee.Scale.{finite, round-same}
-use Rattle.float.specs.Contracts.Split.{unitsAt, Split}
+use Rattle.float.specs.Contracts.Decomposition.{unitsAt, Decomposition}
 use Rattle.float.specs.Laws.Exact.{same-value}
 use Rattle.float.specs.Laws.Integers.{whole-sub, minus-shift}
 use Rattle.float.specs.Laws.Tests.{yes, no}
@@ -141,7 +141,7 @@ exponent-is : (e : ℕ) → e ≤ 3121 → sub binary64 (ofInt binary64 (pos e))
 exponent-is e h = ap (sub binary64 (ofInt binary64 (pos e))) offset ∙ whole-sub (ofInt binary64 (pos e)) (ofInt binary64 (pos 2098)) e 2098 (whole e (le-trans h (lit≤ tt))) (whole 2098 (lit≤ tt))
 
 -- ---- the whole
-pub ln-split : (v : Float) (m e : ℕ) → T (positive v) → T (fits binary64 v) → Split (toBits binary64 v) m e
+pub ln-split : (v : Float) (m e : ℕ) → T (positive v) → T (fits binary64 v) → Decomposition (toBits binary64 v) m e
     → lnAt (ofBits binary64 (m + 4602678819172646912)) (sub binary64 (ofInt binary64 (pos e)) (ofBits binary64 4656831965863870464)) ≡ lnOf v
 ln-split v m e p f s =
     let b = toBits binary64 v in

@@ -4,11 +4,11 @@ use mathlib.Core.Bool.{true, false}
 use lib.Ieee.{Float, lt, neg}
 use Rattle.float.specs.Laws.Tests.{taken, left}
 use Rattle.elementary.specs.Constants as K
-use Rattle.elementary.specs.Functions.{turnOf, quadrantOf, restOf, sineAt, cosineAt, sinOf, cosOf}
+use Rattle.elementary.specs.Functions.{remTauOf, quadrantOf, restOf, sineAt, cosineAt, sinOf, cosOf}
 
-module _ (t q u v : Float) (p : (q ≡ quadrantOf (turnOf t)) × (u ≡ restOf (turnOf t))) where
-  parts : (f : Float → Float → Float) → v ≡ f q u → v ≡ f (quadrantOf (turnOf t)) (restOf (turnOf t))
-  parts f e = e ∙ ap (λ (a : Float). f a u) (p .0) ∙ ap (f (quadrantOf (turnOf t))) (p .1)
+module _ (t q u v : Float) (p : (q ≡ quadrantOf (remTauOf t)) × (u ≡ restOf (remTauOf t))) where
+  parts : (f : Float → Float → Float) → v ≡ f q u → v ≡ f (quadrantOf (remTauOf t)) (restOf (remTauOf t))
+  parts f e = e ∙ ap (λ (a : Float). f a u) (p .0) ∙ ap (f (quadrantOf (remTauOf t))) (p .1)
 
   pub cosine-is : v ≡ cosineAt q u → v ≡ cosOf t
   unfolding cosOf

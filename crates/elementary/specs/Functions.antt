@@ -9,8 +9,8 @@ use Rattle.elementary.specs.Constants as K
 use Rattle.elementary.specs.Series.{seriesOf, evenOf, oddOf, sineTable, cosineTable, logarithmTable, exponentialTable, arctangentTable}
 
 -- v held to lo .. hi
-unfoldable pub heldOf : Float → Float → Float → Float
-heldOf lo hi v = pick (lt v lo) lo (pick (lt hi v) hi v)
+unfoldable pub clampOf : Float → Float → Float → Float
+clampOf lo hi v = pick (lt v lo) lo (pick (lt hi v) hi v)
 
 unfoldable pub toRadiansOf : Float → Float
 toRadiansOf x = mul binary64 x (div binary64 K.pi K.c180)
@@ -22,8 +22,8 @@ unfoldable pub hypotOf : Float → Float → Float
 hypotOf x y = rootOf (add binary64 (mul binary64 x x) (mul binary64 y y))
 
 -- ---- sine, cosine and tangent: r = |t| % 2π, q = the whole part of r / FRAC_PI_2, at most 3, and u = r - q * FRAC_PI_2
-unfoldable pub turnOf : Float → Float
-turnOf t = rem binary64 (absOf t) K.tau
+unfoldable pub remTauOf : Float → Float
+remTauOf t = rem binary64 (absOf t) K.tau
 
 unfoldable pub quadrantOf : Float → Float
 quadrantOf r = minOf (truncOf (div binary64 r K.fracPi2)) K.three
@@ -44,14 +44,14 @@ unfoldable pub cosineAt : Float → Float → Float
 cosineAt q u = quarter q (evenOf cosineTable u) (neg (oddOf sineTable u)) (neg (evenOf cosineTable u)) (oddOf sineTable u)
 
 unfoldable pub sinOf : Float → Float
-unfolding turnOf quadrantOf restOf sineAt
+unfolding remTauOf quadrantOf restOf sineAt
 sinOf t =
-    let v = sineAt (quadrantOf (turnOf t)) (restOf (turnOf t)) in
+    let v = sineAt (quadrantOf (remTauOf t)) (restOf (remTauOf t)) in
     pick (lt t K.zero) (neg v) v
 
 unfoldable pub cosOf : Float → Float
-unfolding turnOf quadrantOf restOf cosineAt
-cosOf t = cosineAt (quadrantOf (turnOf t)) (restOf (turnOf t))
+unfolding remTauOf quadrantOf restOf cosineAt
+cosOf t = cosineAt (quadrantOf (remTauOf t)) (restOf (remTauOf t))
 
 unfoldable pub tanOf : Float → Float
 unfolding sinOf cosOf
@@ -91,30 +91,30 @@ unfolding twoTo
 expAt v k = mul binary64 (seriesOf exponentialTable (sub binary64 v (mul binary64 k K.ln2))) (twoTo k)
 
 unfoldable pub expOf : Float → Float
-unfolding heldOf expAt
+unfolding clampOf expAt
 expOf v =
-    let w = heldOf K.m700 K.c700 v in
+    let w = clampOf K.m700 K.c700 v in
     expAt w (roundOf (div binary64 w K.ln2))
 
 -- ---- the arc tangent
 -- the tangent of half the angle
-unfoldable pub halvedOf : Float → Float
-halvedOf v = div binary64 v (add binary64 K.one (rootOf (add binary64 K.one (mul binary64 v v))))
+unfoldable pub halfAngleOf : Float → Float
+halfAngleOf v = div binary64 v (add binary64 K.one (rootOf (add binary64 K.one (mul binary64 v v))))
 
 -- from 0 to 1
-unfoldable pub atanAt : Float → Float
-unfolding heldOf halvedOf
-atanAt v = heldOf K.zero K.fracPi2 (mul binary64 K.four (oddOf arctangentTable (halvedOf (halvedOf v))))
+unfoldable pub atanSmall : Float → Float
+unfolding clampOf halfAngleOf
+atanSmall v = clampOf K.zero K.fracPi2 (mul binary64 K.four (oddOf arctangentTable (halfAngleOf (halfAngleOf v))))
 
 -- from 0 on
-unfoldable pub atanUp : Float → Float
-unfolding atanAt heldOf
-atanUp v = pick (lt K.one v) (heldOf K.zero K.fracPi2 (sub binary64 K.fracPi2 (atanAt (div binary64 K.one v)))) (atanAt v)
+unfoldable pub atanNonneg : Float → Float
+unfolding atanSmall clampOf
+atanNonneg v = pick (lt K.one v) (clampOf K.zero K.fracPi2 (sub binary64 K.fracPi2 (atanSmall (div binary64 K.one v)))) (atanSmall v)
 
 -- Document 01 leaves an argument below 0 free: there it is the opposite of the arc tangent of -v, as in Rust's library.
 unfoldable pub atanOf : Float → Float
-unfolding atanUp
-atanOf v = pick (lt v K.zero) (neg (atanUp (neg v))) (atanUp v)
+unfolding atanNonneg
+atanOf v = pick (lt v K.zero) (neg (atanNonneg (neg v))) (atanNonneg v)
 
 -- the angle between the line to (|x|, |y|) and the x axis. Two zeros, which document 01 leaves free, give FRAC_PI_2, as any y does where x = 0.
 unfoldable pub angleOf : Float → Float → Float
@@ -122,14 +122,14 @@ unfolding atanOf
 angleOf y x = pick (eq x K.zero) K.fracPi2 (atanOf (div binary64 (absOf y) (absOf x)))
 
 -- on the side where x lies
-unfoldable pub sidedOf : Float → Float → Float
+unfoldable pub halfPlaneOf : Float → Float → Float
 unfolding angleOf
-sidedOf y x = let a = angleOf y x in pick (lt x K.zero) (sub binary64 K.pi a) a
+halfPlaneOf y x = let a = angleOf y x in pick (lt x K.zero) (sub binary64 K.pi a) a
 
 -- A NaN in x goes through the quotient.
 unfoldable pub atan2Of : Float → Float → Float
-unfolding sidedOf
-atan2Of y x = let b = sidedOf y x in pick (isNan y) y (pick (lt y K.zero) (neg b) b)
+unfolding halfPlaneOf
+atan2Of y x = let b = halfPlaneOf y x in pick (isNan y) y (pick (lt y K.zero) (neg b) b)
 
 unfoldable pub acosOf : Float → Float
 unfolding atanOf

@@ -1,6 +1,6 @@
 -- What callers may know of the elementary functions.
 pub mod Codes
-pub mod Held
+pub mod Clamp
 pub mod Powers
 pub mod Exponential
 pub mod Logarithm

@@ -4,7 +4,7 @@ ghost use lib.Dec.{T};
 ghost use lib.Ieee.Positive.{positive};
 ghost use Rattle.elementary.specs.Series.{seriesOf, evenOf, oddOf, sineTable, cosineTable, logarithmTable, exponentialTable, arctangentTable};
 ghost use Rattle.elementary.specs.Contracts.Stages.{atanFirst, atanSecond, quadrupled, atanThird};
-ghost use Rattle.elementary.specs.Functions.{heldOf, toRadiansOf, toDegreesOf, hypotOf, turnOf, quadrantOf, restOf, sineAt, cosineAt, sinOf, cosOf, tanOf, lnAt, lnOf, twoTo, expOf, halvedOf, atanAt, atanUp, atanOf, angleOf, sidedOf, atan2Of, acosOf};
+ghost use Rattle.elementary.specs.Functions.{clampOf, toRadiansOf, toDegreesOf, hypotOf, remTauOf, quadrantOf, restOf, sineAt, cosineAt, sinOf, cosOf, tanOf, lnAt, lnOf, twoTo, expOf, halfAngleOf, atanSmall, atanNonneg, atanOf, angleOf, halfPlaneOf, atan2Of, acosOf};
 ghost use Rattle.elementary.specs.Contracts.Powers.{Small};
 
 const PI: f64 = 3.141592653589793;
@@ -157,8 +157,8 @@ fn arctangent_series(v: f64) -> f64
 }
 
 // v held to lo .. hi.
-fn held(lo: f64, hi: f64, v: f64) -> f64
-    ensures { λ r. ⌜ r ≡ heldOf lo hi v ⌝ }
+fn clamp(lo: f64, hi: f64, v: f64) -> f64
+    ensures { λ r. ⌜ r ≡ clampOf lo hi v ⌝ }
 {
     if v < lo {
         return lo;
@@ -191,7 +191,7 @@ struct Reduced {
 }
 
 fn reduce(t: f64) -> Reduced
-    ensures { λ r. ⌜ (r .q ≡ quadrantOf (turnOf t)) × (r .u ≡ restOf (turnOf t)) ⌝ }
+    ensures { λ r. ⌜ (r .q ≡ quadrantOf (remTauOf t)) × (r .u ≡ restOf (remTauOf t)) ⌝ }
 {
     let r = float::abs(t) % TAU;
     let q = float::min(float::trunc(r / FRAC_PI_2), 3.0);
@@ -284,7 +284,7 @@ fn ln_positive(v: f64) -> f64
     requires { ⌜ T (positive v) ⌝ }
     ensures { λ r. ⌜ r ≡ lnOf v ⌝ }
 {
-    let p = float::split(f64::to_bits(v));
+    let p = float::decompose(f64::to_bits(v));
     let m = f64::from_bits(p.m + 4602678819172646912);
     let e = (p.e as f64) - 2098.0;
     ln_at(m, e)
@@ -321,14 +321,14 @@ pub fn exp(v: f64) -> f64
     if v != v {
         return v;
     }
-    let w = held(-700.0, 700.0, v);
+    let w = clamp(-700.0, 700.0, v);
     let k = float::round(w / LN_2);
     exponential_series(w - k * LN_2) * two_to(k)
 }
 
 // The tangent of half the angle.
-fn halved(v: f64) -> f64
-    ensures { λ r. ⌜ r ≡ halvedOf v ⌝ }
+fn half_angle(v: f64) -> f64
+    ensures { λ r. ⌜ r ≡ halfAngleOf v ⌝ }
 {
     v / (1.0 + root::root(1.0 + v * v))
 }
@@ -337,23 +337,23 @@ fn halved(v: f64) -> f64
 fn quadruple(w: f64) -> f64
     ensures { λ r. ⌜ r ≡ quadrupled w ⌝ }
 {
-    held(0.0, FRAC_PI_2, 4.0 * arctangent_series(w))
+    clamp(0.0, FRAC_PI_2, 4.0 * arctangent_series(w))
 }
 
-fn atan_at(v: f64) -> f64
-    ensures { λ r. ⌜ r ≡ atanAt v ⌝ }
+fn atan_small(v: f64) -> f64
+    ensures { λ r. ⌜ r ≡ atanSmall v ⌝ }
 {
-    let w = halved(halved(v));
+    let w = half_angle(half_angle(v));
     quadruple(w)
 }
 
-fn atan_up(v: f64) -> f64
-    ensures { λ r. ⌜ r ≡ atanUp v ⌝ }
+fn atan_nonneg(v: f64) -> f64
+    ensures { λ r. ⌜ r ≡ atanNonneg v ⌝ }
 {
     if 1.0 < v {
-        return held(0.0, FRAC_PI_2, FRAC_PI_2 - atan_at(1.0 / v));
+        return clamp(0.0, FRAC_PI_2, FRAC_PI_2 - atan_small(1.0 / v));
     }
-    atan_at(v)
+    atan_small(v)
 }
 
 // Below 0, the opposite of the arc tangent of -v.
@@ -361,9 +361,9 @@ pub fn atan(v: f64) -> f64
     ensures { λ r. ⌜ r ≡ atanOf v ⌝ }
 {
     if v < 0.0 {
-        return -atan_up(-v);
+        return -atan_nonneg(-v);
     }
-    atan_up(v)
+    atan_nonneg(v)
 }
 
 // The arc tangent of an argument above 0 in three stages, so that a line of points goes through one after the other. Above 1 the first two hand on the opposite.
@@ -371,25 +371,25 @@ pub fn atan_first(v: f64) -> f64
     ensures { λ r. ⌜ r ≡ atanFirst v ⌝ }
 {
     if 1.0 < v {
-        return -halved(1.0 / v);
+        return -half_angle(1.0 / v);
     }
-    halved(v)
+    half_angle(v)
 }
 
 pub fn atan_second(w: f64) -> f64
     ensures { λ r. ⌜ r ≡ atanSecond w ⌝ }
 {
     if w < 0.0 {
-        return -halved(-w);
+        return -half_angle(-w);
     }
-    halved(w)
+    half_angle(w)
 }
 
 pub fn atan_third(w: f64) -> f64
     ensures { λ r. ⌜ r ≡ atanThird w ⌝ }
 {
     if w < 0.0 {
-        return held(0.0, FRAC_PI_2, FRAC_PI_2 - quadruple(-w));
+        return clamp(0.0, FRAC_PI_2, FRAC_PI_2 - quadruple(-w));
     }
     quadruple(w)
 }
@@ -404,8 +404,8 @@ fn angle(y: f64, x: f64) -> f64
     atan(float::abs(y) / float::abs(x))
 }
 
-fn sided(y: f64, x: f64) -> f64
-    ensures { λ r. ⌜ r ≡ sidedOf y x ⌝ }
+fn half_plane(y: f64, x: f64) -> f64
+    ensures { λ r. ⌜ r ≡ halfPlaneOf y x ⌝ }
 {
     let a = angle(y, x);
     if x < 0.0 { PI - a } else { a }
@@ -417,7 +417,7 @@ pub fn atan2(y: f64, x: f64) -> f64
     if y != y {
         return y;
     }
-    let b = sided(y, x);
+    let b = half_plane(y, x);
     if y < 0.0 { -b } else { b }
 }
 

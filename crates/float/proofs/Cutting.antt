@@ -14,8 +14,8 @@ use lib.Ieee.Exact.{HasValue}
 use lib.Ieee.Back.{round-whole}
 use lib.Ieee.Compare.{differs-from-itself}
 use lib.Ieee.Bits.{nanBits-is, ofBits-fits, ofBits-toBits, toBits-lt}
-use Rattle.float.specs.Contracts.Split.{unitsAt}
-use Rattle.float.specs.Contracts.Pointed.{Pointed, Weighs, signOf, fieldOf, digitsOf, unitOf}
+use Rattle.float.specs.Contracts.Decomposition.{unitsAt}
+use Rattle.float.specs.Contracts.Fraction.{HasFraction, IsUnit, signOf, fieldOf, digitsOf, unitOf}
 use Rattle.float.specs.Functions.{wholeAt, truncOf, ceilOf, roundOf}
 use Rattle.float.specs.Laws.Tests.{yes, nan-test}
 use Rattle.float.specs.Laws.Fields.{of-fields, pattern-value, pattern-reads}
@@ -144,7 +144,7 @@ large {g} R b l = go (eq-or-lt-of-le (top b))
         (normal b 1 (fieldOf b - 1075) 1074 (lt-of-lt-of-le (lit< tt) l) h (apart (fieldOf b) l) (one-mul (2 ^ 1074)))
 
 -- ---- values with digits on both sides of the point
-module _ (b : ℕ) (p : Pointed b) where
+module _ (b : ℕ) (p : HasFraction b) where
   shift : unitOf b * 2 ^ (fieldOf b - 1) ≡ 2 ^ 1074
   shift = sym (pow-add 2 (1075 - fieldOf b) (fieldOf b - 1)) ∙ ap (λ (z : ℕ). 2 ^ z) (sum (fieldOf b) (p .low) (p .high))
     where
@@ -232,9 +232,9 @@ nearest-at m (suc k) K =
     even : (m u t : ℕ) → u ≡ t * 2 → 2 * (m + u / 2) ≡ 2 * m + u
     even m u t e = omega arith
 
-pub unit-is : (b : ℕ) → Pointed b → Weighs b (1 * 2 ^ (1075 - fieldOf b) % 2 ^ 64)
+pub unit-is : (b : ℕ) → HasFraction b → IsUnit b (1 * 2 ^ (1075 - fieldOf b) % 2 ^ 64)
 unit-is b p =
-    subst (Weighs b) (sym (ap (λ (z : ℕ). z % 2 ^ 64) (one-mul (unitOf b)) ∙ mod-eq-of-lt (lt-of-le-of-lt most (lit< tt))))
+    subst (IsUnit b) (sym (ap (λ (z : ℕ). z % 2 ^ 64) (one-mul (unitOf b)) ∙ mod-eq-of-lt (lt-of-le-of-lt most (lit< tt))))
     (record { is = refl; least = pow-mono (above (fieldOf b) (p .high)); most = most })
   where
     above : (f : ℕ) → f < 1075 → 1 ≤ 1075 - f
@@ -338,7 +338,7 @@ module _ (x : Float) (held : fits binary64 x ≡ true) where
   pub small-ceil : above x ≡ true → fieldOf b < 1023 → ofBits binary64 0x3ff0000000000000 ≡ ceilOf x
   small-ceil h k = sym (ceil-small b (ap above reads ∙ h) k) ∙ ap ceilOf reads
 
-  module _ (p : Pointed b) (z : Float) where
+  module _ (p : HasFraction b) (z : Float) where
     pub cut-trunc : z ≡ wholeAt (signOf b) ((digitsOf b + 0) / unitOf b) → z ≡ truncOf x
     cut-trunc e = e ∙ ap (λ (d : ℕ). wholeAt (signOf b) (d / unitOf b)) (add-zero (digitsOf b)) ∙ sym (pointed b p trunc-cuts) ∙ ap truncOf reads
 

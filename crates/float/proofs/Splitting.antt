@@ -6,7 +6,7 @@ use native.Mathlib.Omega.{arith}
 use lib.Pow.{pow-add, pow-pos, pow-mono}
 use lib.Dec.{lit≤}
 use lib.Count.{leadingZeros, leading-top}
-use Rattle.float.specs.Contracts.Split.{unitsAt, Split}
+use Rattle.float.specs.Contracts.Decomposition.{unitsAt, Decomposition}
 
 pow-back : (i p : ℕ) → 2 ^ i < 2 ^ p → i < p
 pow-back i p h = lt-of-not-le (λ (g : p ≤ i). lt-irrefl (2 ^ i) (lt-of-lt-of-le h (pow-mono g)))
@@ -55,7 +55,7 @@ module _ (t : ℕ) (p : 0 < t) (h : t < 2 ^ 52) where
   back : (z : ℕ) → z ≤ 52 → z + (1076 - z) ≡ 1076
   back z l = omega arith
 
-  pub split-low : (b : ℕ) → b / 2 ^ 52 ≡ 0 → b % 2 ^ 52 ≡ t → Split b (t * 2 ^ shift t % 2 ^ 64) (1076 - shift t)
+  pub split-low : (b : ℕ) → b / 2 ^ 52 ≡ 0 → b % 2 ^ 52 ≡ t → Decomposition b (t * 2 ^ shift t % 2 ^ 64) (1076 - shift t)
   split-low b e f = record {
     value =
         ap (λ (x : ℕ). unitsAt x (b % 2 ^ 52) * 2 ^ 1076) e
@@ -69,7 +69,7 @@ module _ (t : ℕ) (p : 0 < t) (h : t < 2 ^ 52) where
     high = omega arith;
   }
 
-split-high : (b k : ℕ) → b / 2 ^ 52 ≡ suc k → k < 2046 → Split b (2 ^ 52 + b % 2 ^ 52) (1075 + b / 2 ^ 52)
+split-high : (b k : ℕ) → b / 2 ^ 52 ≡ suc k → k < 2046 → Decomposition b (2 ^ 52 + b % 2 ^ 52) (1075 + b / 2 ^ 52)
 split-high b k e l = record {
   value =
       ap (λ (x : ℕ). unitsAt x (b % 2 ^ 52) * 2 ^ 1076) e
@@ -84,9 +84,9 @@ split-high b k e l = record {
     count : (k f : ℕ) → f ≡ suc k → k + 1076 ≡ 1075 + f
     count k f e = omega arith
 
-pub split-normal : (b : ℕ) → b < 2047 * 2 ^ 52 → (b / 2 ^ 52 ≡ 0 → ⊥) → Split b (2 ^ 52 + b % 2 ^ 52) (1075 + b / 2 ^ 52)
+pub split-normal : (b : ℕ) → b < 2047 * 2 ^ 52 → (b / 2 ^ 52 ≡ 0 → ⊥) → Decomposition b (2 ^ 52 + b % 2 ^ 52) (1075 + b / 2 ^ 52)
 split-normal b h n = go (b / 2 ^ 52) refl
   where
-    go : (f : ℕ) → b / 2 ^ 52 ≡ f → Split b (2 ^ 52 + b % 2 ^ 52) (1075 + b / 2 ^ 52)
+    go : (f : ℕ) → b / 2 ^ 52 ≡ f → Decomposition b (2 ^ 52 + b % 2 ^ 52) (1075 + b / 2 ^ 52)
     go zero e = absurd (n e)
     go (suc k) e = split-high b k e (omega arith)

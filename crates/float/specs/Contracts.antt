@@ -1,3 +1,3 @@
 -- Words in which contracts of the parts are said. What a host is promised is not said in them.
-pub mod Pointed
-pub mod Split
+pub mod Fraction
+pub mod Decomposition

@@ -5,7 +5,7 @@ ghost use Prim.Native.Nat.{ℕ, _+_, _*_, _<_, _≤_, _%_, _^_, _/_};
 ghost use lib.Ieee.{isNan};
 ghost use lib.Ieee.Scale.{finite};
 ghost use Rattle.float.specs.Functions.{absOf, maxOf, minOf, truncOf, ceilOf, roundOf, remEuclid360Of};
-ghost use Rattle.float.specs.Contracts.Split.{Split};
+ghost use Rattle.float.specs.Contracts.Decomposition.{Decomposition};
 
 mod whole;
 
@@ -48,7 +48,7 @@ pub fn is_finite(x: f64) -> bool
 }
 
 // Whether both are one value: 0.0 and -0.0 are two, and a NaN is never one with another.
-pub fn same(a: f64, b: f64) -> bool
+pub fn same_value(a: f64, b: f64) -> bool
     ensures { λ r. ⌜ (r ≡ true → a ≡ b) × (isNan a ≡ false → a ≡ b → r ≡ true) ⌝ }
 {
     if a == b {
@@ -66,26 +66,26 @@ pub fn rem_euclid_360(x: f64) -> f64
 }
 
 // m * 2^e
-pub struct Parts {
+pub struct Decomposed {
     pub m: u64,
     pub e: u64,
 }
 
 // The value of a finite pattern above zero as m * 2^e in units of 2^-2150, with all 53 digits of m in use.
-pub fn split(b: u64) -> Parts
+pub fn decompose(b: u64) -> Decomposed
     requires { ⌜ (0 < b) × (b < 2047 * 2 ^ 52) ⌝ }
-    ensures { λ r. ⌜ Split b (r .m) (r .e) ⌝ }
+    ensures { λ r. ⌜ Decomposition b (r .m) (r .e) ⌝ }
 {
     let f = b / 4503599627370496;
     let t = b % 4503599627370496;
     if f == 0 {
         let z = (u64::leading_zeros(t) - 11) as u64;
-        return Parts {
+        return Decomposed {
             m: t << z,
             e: 1076 - z,
         };
     }
-    Parts {
+    Decomposed {
         m: 4503599627370496 + t,
         e: 1075 + f,
     }

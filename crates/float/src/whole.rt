@@ -2,19 +2,19 @@
 ghost use mathlib.Core.Path.{_≡_};
 ghost use Prim.Native.Nat.{ℕ, _+_, _*_, _<_, _≤_, _%_, _^_, _/_};
 ghost use Rattle.float.specs.Functions.{wholeAt, truncOf, ceilOf, roundOf};
-ghost use Rattle.float.specs.Contracts.Pointed.{Pointed, Weighs, unitOf, signOf, digitsOf};
+ghost use Rattle.float.specs.Contracts.Fraction.{HasFraction, IsUnit, unitOf, signOf, digitsOf};
 
 // What one weighs among the digits of the pattern b, some of which are behind the point.
 fn unit(b: u64) -> u64
-    requires { ⌜ Pointed b ⌝ }
-    ensures { λ r. ⌜ Weighs b r ⌝ }
+    requires { ⌜ HasFraction b ⌝ }
+    ensures { λ r. ⌜ IsUnit b r ⌝ }
 {
     1 << (1075 - b / 4503599627370496 % 2048)
 }
 
 // What `round` adds before it cuts. Half of one takes halves away from zero.
 fn half(b: u64) -> u64
-    requires { ⌜ Pointed b ⌝ }
+    requires { ⌜ HasFraction b ⌝ }
     ensures { λ r. ⌜ r ≡ unitOf b / 2 ⌝ }
 {
     let u = unit(b);
@@ -23,8 +23,8 @@ fn half(b: u64) -> u64
 
 // The pattern's value with h added to its digits, and without those behind the point. What the sum carries into the exponent's
 // field is right there.
-fn cut(b: u64, h: u64) -> f64
-    requires { ⌜ Pointed b × (h < unitOf b) ⌝ }
+fn clear_fraction(b: u64, h: u64) -> f64
+    requires { ⌜ HasFraction b × (h < unitOf b) ⌝ }
     ensures { λ r. ⌜ r ≡ wholeAt (signOf b) ((digitsOf b + h) / unitOf b) ⌝ }
 {
     let u = unit(b);
@@ -47,7 +47,7 @@ pub fn trunc(x: f64) -> f64
     if f < 1023 {
         return f64::from_bits(b / 9223372036854775808 * 9223372036854775808);
     }
-    cut(b, 0)
+    clear_fraction(b, 0)
 }
 
 // The least whole number that is not below x. Up to zero that is the whole part.
@@ -64,7 +64,7 @@ pub fn ceil(x: f64) -> f64
             return 1.0;
         }
         let u = unit(b);
-        return cut(b, u - 1);
+        return clear_fraction(b, u - 1);
     }
     trunc(x)
 }
@@ -88,5 +88,5 @@ pub fn round(x: f64) -> f64
     if f == 1022 {
         return f64::from_bits(s + 4607182418800017408);
     }
-    cut(b, half(b))
+    clear_fraction(b, half(b))
 }

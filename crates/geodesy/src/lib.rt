@@ -1,7 +1,7 @@
 // Web Mercator, EPSG:3857, after the source's geodesy.rs.
 ghost use mathlib.Core.Path.{_≡_};
 ghost use Rattle.geodesy.specs.Geodesy.{normalizeLonOf, mercatorForwardOf, mercatorInverseOf};
-ghost use Rattle.geodesy.specs.Contracts.Stages.{longitudeOf, stretchOf, northOf};
+ghost use Rattle.geodesy.specs.Contracts.Stages.{longitudeOf, expOrdinateOf, latitudeOf};
 use elementary::atan;
 use elementary::exp;
 use elementary::ln;
@@ -58,15 +58,15 @@ pub fn longitude(x: f64) -> f64
 }
 
 // The exponential of an ordinate, over the radius.
-pub fn stretched(y: f64) -> f64
-    ensures { λ r. ⌜ r ≡ stretchOf y ⌝ }
+pub fn exp_ordinate(y: f64) -> f64
+    ensures { λ r. ⌜ r ≡ expOrdinateOf y ⌝ }
 {
     exp(y / MERCATOR_RADIUS)
 }
 
 // The latitude of that exponential's arc tangent.
-pub fn north(a: f64) -> f64
-    ensures { λ r. ⌜ r ≡ northOf a ⌝ }
+pub fn latitude(a: f64) -> f64
+    ensures { λ r. ⌜ r ≡ latitudeOf a ⌝ }
 {
     to_degrees(2.0 * a - FRAC_PI_2)
 }
@@ -76,6 +76,6 @@ pub fn mercator_inverse(m: Metres) -> LonLat
 {
     LonLat {
         lon: longitude(m.x),
-        lat: north(atan(stretched(m.y))),
+        lat: latitude(atan(exp_ordinate(m.y))),
     }
 }

@@ -3,7 +3,7 @@ ghost use mathlib.Core.Path.{_≡_};
 ghost use Prim.Native.Nat.{_+_, _≤_};
 ghost use lib.ListN.{length};
 ghost use lib.Dec.{leb};
-ghost use Rattle.geojson.specs.Contracts.Lined.{Lined};
+ghost use Rattle.geojson.specs.Contracts.Features.{FeatureWritten};
 
 // A feature line. Geometry: 0 a point, 1 a line, 2 a polygon. Role: 1 a separate fill. Placement: 1 on the screen. Part: 0, or 1 and the path's index. Count: its positions.
 pub struct Feature {
@@ -16,10 +16,10 @@ pub struct Feature {
 }
 
 // Writes a feature line at `at`, where it has room.
-pub fn write_line(out: &mut [u32], at: usize, f: Feature) -> bool
+pub fn write_feature(out: &mut [u32], at: usize, f: Feature) -> bool
     requires { ⌜ at ≤ length (now out) ⌝ }
     ensures { λ r. ⌜ r ≡ leb (at + 6) (length (now (out .entry))) ⌝ }
-    ensures { λ r. ⌜ Lined (now (out .entry)) (now (out .exit)) at f ⌝ }
+    ensures { λ r. ⌜ FeatureWritten (now (out .entry)) (now (out .exit)) at f ⌝ }
 {
     if out.len() - at < 6 {
         return false;

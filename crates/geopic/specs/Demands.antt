@@ -1,4 +1,4 @@
--- The three demands, as theorems about every stream s and whatever slices are lent with it (t). The contract of `geopic_place` says that its answer is `answerOf s t` and that the slices then hold `lentAfter s t`; both are read off one list of events, `traceOf`.
+-- The three demands, as theorems about every stream s and whatever slices are lent with it (t). The contract of `geopic_place` says that its answer is `answerOf s t` and that the slices then hold `buffersAfter s t`; both are read off one list of events, `traceOf`.
 use Prim.Native.Nat.{ℕ, _*_}
 use mathlib.Core.Path.{_≡_}
 use mathlib.Core.Bool.{cond}
@@ -11,11 +11,11 @@ use Rattle.similarity.specs.Projection.{geoOf}
 use Rattle.register.specs.Register.{f0, registrationOf}
 use Rattle.budget.specs.Draws.{Draw, leftAfter, Claim}
 use Rattle.budget.specs.Laws.Draws.{claim}
-use Rattle.densify.specs.Positions.{placedBy}
+use Rattle.densify.specs.Positions.{projectPoint}
 use Rattle.densify.specs.Draws.{drawsOf, Granted, fellShort}
 use Rattle.convert.specs.Convert.{drawsIn}
 use Rattle.convert.specs.Features.{AllWellFormed, positionsIn, featuresIn, warningsIn, featuresAt, warningsAt, anyOfKind}
-use Rattle.geopic.specs.Geopic.{fresh, ctxOf, traceOf, Lent, early, conditions, answerOf, clear, lentAfter}
+use Rattle.geopic.specs.Geopic.{fresh, ctxOf, traceOf, Buffers, early, conditions, answerOf, clear, buffersAfter}
 use Rattle.geopic.specs.Laws.Conditions.{number-is, number-none, none-number}
 use Rattle.geopic.specs.Laws.Calls.{untouched, cleared}
 use Rattle.geopic.specs.Laws.Scenes.{formed-read, scene-geo, scene-features, scene-warnings, scene-counts, scene-tails, scene-claim, scene-grants, scene-left, scene-spent, scene-six}
@@ -24,7 +24,7 @@ use Rattle.geopic.specs.Laws.Scenes.{formed-read, scene-geo, scene-featu
 pub demand-3-any : (allowance : ℕ) (ds : List Draw) → Claim allowance ds
 demand-3-any allowance ds = claim allowance ds
 
-module _ (s : List ℕ) (t : Lent) where
+module _ (s : List ℕ) (t : Buffers) where
   abbrev sc : Scene
   sc = sceneOf (payload s)
 
@@ -40,20 +40,20 @@ module _ (s : List ℕ) (t : Lent) where
   demand-1-only h = number-none s t h
 
   -- a condition that is checked before the slices are looked at leaves them as they were ..
-  pub demand-1-untouched : (firstOf (early s) ≡ 0 → ⊥) → lentAfter s t ≡ t
+  pub demand-1-untouched : (firstOf (early s) ≡ 0 → ⊥) → buffersAfter s t ≡ t
   demand-1-untouched h = untouched s t h
 
   -- .. and one that is checked later clears them all
-  pub demand-1-cleared : firstOf (early s) ≡ 0 → (answerOf s t .number ≡ 0 → ⊥) → lentAfter s t
+  pub demand-1-cleared : firstOf (early s) ≡ 0 → (answerOf s t .number ≡ 0 → ⊥) → buffersAfter s t
       ≡ record { work = clear f0 (length (t .work)); positions = clear f0 (length (t .positions)); features = clear 0 (length (t .features)); warnings = clear 0 (length (t .warnings)) }
   demand-1-cleared e h = cleared s t e h
 
   module _ (h : answerOf s t .number ≡ 0) where
     -- 2. Features with their positions, and warnings, read off the slices as the header says, are those of `traceOf`, the Rust's definition of them ..
-    pub demand-2 : featuresAt (lentAfter s t .features) (lentAfter s t .positions) 0 0 (answerOf s t .features) ≡ featuresIn (traceOf sc .events)
+    pub demand-2 : featuresAt (buffersAfter s t .features) (buffersAfter s t .positions) 0 0 (answerOf s t .features) ≡ featuresIn (traceOf sc .events)
     demand-2 = scene-features s t h
 
-    pub demand-2-warnings : warningsAt (lentAfter s t .warnings) 0 (answerOf s t .warnings) ≡ warningsIn (traceOf sc .events)
+    pub demand-2-warnings : warningsAt (buffersAfter s t .warnings) 0 (answerOf s t .warnings) ≡ warningsIn (traceOf sc .events)
     demand-2-warnings = scene-warnings s t h
 
     -- .. there are as many as the answer says, and what stands behind them is as it was
@@ -61,17 +61,17 @@ module _ (s : List ℕ) (t : Lent) where
         × (answerOf s t .warnings ≡ length (warningsIn (traceOf sc .events)))
     demand-2-counts = scene-counts s t h
 
-    pub demand-2-tails : (drop (2 * answerOf s t .positions) (lentAfter s t .positions) ≡ drop (2 * answerOf s t .positions) (t .positions))
-        × (drop (6 * answerOf s t .features) (lentAfter s t .features) ≡ drop (6 * answerOf s t .features) (t .features))
-        × (drop (2 * answerOf s t .warnings) (lentAfter s t .warnings) ≡ drop (2 * answerOf s t .warnings) (t .warnings))
+    pub demand-2-tails : (drop (2 * answerOf s t .positions) (buffersAfter s t .positions) ≡ drop (2 * answerOf s t .positions) (t .positions))
+        × (drop (6 * answerOf s t .features) (buffersAfter s t .features) ≡ drop (6 * answerOf s t .features) (t .features))
+        × (drop (2 * answerOf s t .warnings) (buffersAfter s t .warnings) ≡ drop (2 * answerOf s t .warnings) (t .warnings))
     demand-2-tails = scene-tails s t h
 
     -- Each that the host holds is what RFC 7946 says of its geometry: a point is one finite position, a line two or more (3.1.4), a polygon one ring of four or more whose first and last are identical (3.1.6); its line counts them; and all lie on the globe.
-    pub demand-2-formed : AllWellFormed (featuresAt (lentAfter s t .features) (lentAfter s t .positions) 0 0 (answerOf s t .features))
+    pub demand-2-formed : AllWellFormed (featuresAt (buffersAfter s t .features) (buffersAfter s t .positions) 0 0 (answerOf s t .features))
     demand-2-formed = formed-read s t h
 
     -- each position is the Rust's `geo` of its canvas point
-    pub demand-2-geo : (p : Point) → placedBy (ctxOf sc .projection) p ≡ (let g = geoOf (registrationOf sc) (p .x) (p .y) in record { x = g .lon; y = g .lat })
+    pub demand-2-geo : (p : Point) → projectPoint (ctxOf sc .projection) p ≡ (let g = geoOf (registrationOf sc) (p .x) (p .y) in record { x = g .lon; y = g .lat })
     demand-2-geo p = scene-geo s p
 
     -- 3. The scene's draws, in their order, are a list of draws from a fresh allowance of 2,000,000; its rings and lines are as 2 says ..
@@ -90,5 +90,5 @@ module _ (s : List ℕ) (t : Lent) where
     pub demand-3-spent : answerOf s t .spent ≡ cond (fellShort (drawsIn (traceOf sc .events))) 1 0
     demand-3-spent = scene-spent s t h
 
-    pub demand-3-warning : anyOfKind 6 (warningsAt (lentAfter s t .warnings) 0 (answerOf s t .warnings)) ≡ fellShort (drawsIn (traceOf sc .events))
+    pub demand-3-warning : anyOfKind 6 (warningsAt (buffersAfter s t .warnings) 0 (answerOf s t .warnings)) ≡ fellShort (drawsIn (traceOf sc .events))
     demand-3-warning = scene-six s t h

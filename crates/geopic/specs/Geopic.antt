@@ -15,7 +15,7 @@ use Rattle.register.specs.Register.{f0, f100, registrationOf, ofRegistration, r
 use Rattle.budget.specs.declared.Budget.{Budget}
 use Rattle.convert.specs.declared.state.Ctx.{Ctx}
 use Rattle.convert.specs.Convert.{warned, Trace, onScreen, convertOf}
-use Rattle.convert.specs.Space.{Sheet, playAll, ofSpace}
+use Rattle.convert.specs.Space.{Output, applyAll, ofSpace}
 use Rattle.geopic.specs.declared.Answer.{Answer}
 
 -- ---- what a scene draws
@@ -36,17 +36,17 @@ traceOf sc =
     record { events = map warned (registerWarnings sc) ++ t .events; after = t .after }
 
 -- ---- what is lent, and the sheet that comes of it
-pub record Lent : Type 0 where
+pub record Buffers : Type 0 where
   pub work : List Float
   pub positions : List Float
   pub features : List ℕ
   pub warnings : List ℕ
 
-abbrev pub lentBy : List Float → List Float → List ℕ → List ℕ → Lent
-lentBy work positions features warnings = record { work = work; positions = positions; features = features; warnings = warnings }
+abbrev pub buffersBy : List Float → List Float → List ℕ → List ℕ → Buffers
+buffersBy work positions features warnings = record { work = work; positions = positions; features = features; warnings = warnings }
 
-abbrev pub blank : Lent → Sheet
-blank t =
+abbrev pub unused : Buffers → Output
+unused t =
     record {
       work = length (t .work);
       positions = t .positions;
@@ -58,8 +58,8 @@ blank t =
       number = 0;
     }
 
-unfoldable pub sheetOf : Scene → Lent → Sheet
-sheetOf sc t = playAll (traceOf sc .events) (blank t)
+unfoldable pub outputOf : Scene → Buffers → Output
+outputOf sc t = applyAll (traceOf sc .events) (unused t)
 
 -- ---- document 01's eighteen conditions, in the order of checking
 -- those that are checked before the lent slices are looked at: 1 to 6 of the stream, 7 to 14 of the registration
@@ -67,10 +67,10 @@ unfoldable pub early : List ℕ → List Condition
 early s = ofStream s ++ ofRegistration (sceneOf (payload s))
 
 -- and 15 to 18: the first thing that lacks room
-unfoldable pub conditions : List ℕ → Lent → List Condition
-conditions s t = early s ++ ofSpace (sheetOf (sceneOf (payload s)) t)
+unfoldable pub conditions : List ℕ → Buffers → List Condition
+conditions s t = early s ++ ofSpace (outputOf (sceneOf (payload s)) t)
 
-unfoldable pub numberOf : List ℕ → Lent → ℕ
+unfoldable pub numberOf : List ℕ → Buffers → ℕ
 numberOf s t = firstOf (conditions s t)
 
 -- ---- the answer
@@ -79,7 +79,7 @@ abbrev pub refusal : ℕ → Answer
 refusal n = record { number = n; method = 0; controls = 0; spent = 0; positions = 0; features = 0; warnings = 0; left = 0 }
 
 -- method, control points, used counts, what is left of the allowance, and whether it was spent
-abbrev pub acceptance : Registration → Sheet → Budget → Answer
+abbrev pub acceptance : Registration → Output → Budget → Answer
 acceptance r u b =
     record {
       number = 0;
@@ -96,11 +96,11 @@ abbrev pub pickAnswer : Bool → Answer → Answer → Answer
 pickAnswer true a b = a
 pickAnswer false a b = b
 
-unfoldable pub answerOf : List ℕ → Lent → Answer
+unfoldable pub answerOf : List ℕ → Buffers → Answer
 answerOf s t =
     let sc = sceneOf (payload s) in
     let n = numberOf s t in
-    pickAnswer (eqb n 0) (acceptance (registrationOf sc) (sheetOf sc t) (traceOf sc .after)) (refusal n)
+    pickAnswer (eqb n 0) (acceptance (registrationOf sc) (outputOf sc t) (traceOf sc .after)) (refusal n)
 
 -- ---- the slices
 unfoldable pub clear : {A : Type 0} → A → ℕ → List A
@@ -116,11 +116,11 @@ unfoldable pub sliceBy : {A : Type 0} → ℕ → ℕ → A → List A → List 
 sliceBy first n z before written = pickList (eqb first 0) (pickList (eqb n 0) written (clear z (length before))) before
 
 -- an accepted call clears work too; the others hold what was written, and their tails are as they were
-unfoldable pub lentAfter : List ℕ → Lent → Lent
-lentAfter s t =
+unfoldable pub buffersAfter : List ℕ → Buffers → Buffers
+buffersAfter s t =
     let first = firstOf (early s) in
     let n = numberOf s t in
-    let u = sheetOf (sceneOf (payload s)) t in
+    let u = outputOf (sceneOf (payload s)) t in
     record {
       work = sliceBy first n f0 (t .work) (clear f0 (length (t .work)));
       positions = sliceBy first n f0 (t .positions) (u .positions);

@@ -7,8 +7,8 @@ ghost use lib.ListN.{length};
 ghost use Rattle.stream.specs.Payload.{payload};
 ghost use Rattle.scene.specs.Scene.{sceneOf};
 ghost use Rattle.register.specs.Register.{f0};
-ghost use Rattle.convert.specs.Contracts.Space.{sheetBy, Played};
-ghost use Rattle.geopic.specs.Geopic.{traceOf, lentBy, blank, refusal, acceptance, clear, answerOf, lentAfter};
+ghost use Rattle.convert.specs.Contracts.Space.{outputBy, Applied};
+ghost use Rattle.geopic.specs.Geopic.{traceOf, buffersBy, unused, refusal, acceptance, clear, answerOf, buffersAfter};
 ghost use Rattle.geopic.specs.Contracts.Opened.{Opens, Registers};
 use budget::Budget;
 use convert::Ctx;
@@ -108,7 +108,7 @@ fn open_stream(s: &[u8], kept: &mut [u32]) -> Opened
 }
 
 // The registration's warnings, then every item.
-fn draw(
+fn write_output(
     s: &[u8],
     v: Survey,
     r: Registration,
@@ -119,9 +119,9 @@ fn draw(
     warnings: &mut [u32],
 ) -> State
     requires { ⌜ Registers (now s) v r (now kept) ⌝ }
-    ensures { λ st. ⌜ Played (traceOf (sceneOf (payload (now (s .entry)))))
-        (blank (lentBy (now (work .entry)) (now (positions .entry)) (now (features .entry)) (now (warnings .entry))))
-        (sheetBy (length (now (work .exit))) (now (positions .exit)) (now (features .exit)) (now (warnings .exit)) st)
+    ensures { λ st. ⌜ Applied (traceOf (sceneOf (payload (now (s .entry)))))
+        (unused (buffersBy (now (work .entry)) (now (positions .entry)) (now (features .entry)) (now (warnings .entry))))
+        (outputBy (length (now (work .exit))) (now (positions .exit)) (now (features .exit)) (now (warnings .exit)) st)
         (st .budget) ⌝ }
 {
     let w = write_warnings(s, v, kept, warnings, r.controls);
@@ -150,7 +150,7 @@ fn draw(
 
 fn accept(r: Registration, st: State) -> Answer
     ensures { λ a. ⌜ ((w : ℕ) (p : List Float) (f v : List ℕ)
-        → a ≡ acceptance r (sheetBy w p f v st) (st .budget)) ⌝ }
+        → a ≡ acceptance r (outputBy w p f v st) (st .budget)) ⌝ }
 {
     let b = st.budget;
     let mut spent = 0u32;
@@ -170,7 +170,7 @@ fn accept(r: Registration, st: State) -> Answer
 }
 
 // What a stream that has been opened answers and leaves in the slices.
-fn fill(
+fn place_registered(
     s: &[u8],
     v: Survey,
     r: Registration,
@@ -183,12 +183,12 @@ fn fill(
     requires { ⌜ Registers (now s) v r (now kept) ⌝ }
     ensures { λ a. ⌜ a
         ≡ answerOf (now (s .entry))
-        (lentBy (now (work .entry)) (now (positions .entry)) (now (features .entry)) (now (warnings .entry))) ⌝ }
-    ensures { λ a. ⌜ lentBy (now (work .exit)) (now (positions .exit)) (now (features .exit)) (now (warnings .exit))
-        ≡ lentAfter (now (s .entry))
-        (lentBy (now (work .entry)) (now (positions .entry)) (now (features .entry)) (now (warnings .entry))) ⌝ }
+        (buffersBy (now (work .entry)) (now (positions .entry)) (now (features .entry)) (now (warnings .entry))) ⌝ }
+    ensures { λ a. ⌜ buffersBy (now (work .exit)) (now (positions .exit)) (now (features .exit)) (now (warnings .exit))
+        ≡ buffersAfter (now (s .entry))
+        (buffersBy (now (work .entry)) (now (positions .entry)) (now (features .entry)) (now (warnings .entry))) ⌝ }
 {
-    let st = draw(s, v, r, kept, work, positions, features, warnings);
+    let st = write_output(s, v, r, kept, work, positions, features, warnings);
     clear_floats(work);
     if st.number != 0 {
         clear_floats(positions);
@@ -210,14 +210,14 @@ pub extern "C" fn geopic_place(
 ) -> Answer
     ensures { λ r. ⌜ r
         ≡ answerOf (now (s .entry))
-        (lentBy (now (work .entry)) (now (positions .entry)) (now (features .entry)) (now (warnings .entry))) ⌝ }
-    ensures { λ r. ⌜ lentBy (now (work .exit)) (now (positions .exit)) (now (features .exit)) (now (warnings .exit))
-        ≡ lentAfter (now (s .entry))
-        (lentBy (now (work .entry)) (now (positions .entry)) (now (features .entry)) (now (warnings .entry))) ⌝ }
+        (buffersBy (now (work .entry)) (now (positions .entry)) (now (features .entry)) (now (warnings .entry))) ⌝ }
+    ensures { λ r. ⌜ buffersBy (now (work .exit)) (now (positions .exit)) (now (features .exit)) (now (warnings .exit))
+        ≡ buffersAfter (now (s .entry))
+        (buffersBy (now (work .entry)) (now (positions .entry)) (now (features .entry)) (now (warnings .entry))) ⌝ }
 {
     let mut kept = [0u32; 64];
     match open_stream(s, &mut kept) {
         Opened::Refused(number) => refuse(number),
-        Opened::Registered(v, r) => fill(s, v, r, &kept, work, positions, features, warnings),
+        Opened::Registered(v, r) => place_registered(s, v, r, &kept, work, positions, features, warnings),
     }
 }

@@ -9,9 +9,9 @@ use native.Mathlib.Omega.{arith}
 use lib.ListN.{length, getD, set, length-set}
 use lib.Seq.{getD-set-same, getD-set-other}
 use Rattle.records.specs.Layout.{before}
-use Rattle.records.specs.Records.{part}
+use Rattle.records.specs.Records.{bytesAt}
 use Rattle.scene.specs.Laws.Rising.{before-trans}
-use Rattle.names.specs.Contracts.Table.{nameAt, nameOf, keyOf, Stands, Table, In, Gap, Searched, Opened, Inserted}
+use Rattle.names.specs.Contracts.Table.{nameAt, nameOf, keyOf, NameFits, Table, Contains, Gap, Searched, ShiftedUp, Inserted}
 
 -- ---- x belongs from lo to hi
 pub record Between (more : ℕ) (l t : List ℕ) (n : ℕ) (x : List ℕ) (lo hi : ℕ) : Type 0 where
@@ -67,13 +67,13 @@ module _ (more : ℕ) (l t : List ℕ) (n : ℕ) (x : List ℕ) where
           }
 
 -- ---- entries move up
-pub opened-none : (t : List ℕ) (n : ℕ) → Opened t t n n
+pub opened-none : (t : List ℕ) (n : ℕ) → ShiftedUp t t n n
 opened-none t n = record { size = refl; low = λ i h. refl; high = λ i h k. absurd (omega arith) }
 
-pub opened-end : (t₀ t : List ℕ) (k at n : ℕ) → k ≤ at → at ≤ k → Opened t₀ t k n → Opened t₀ t at n
+pub opened-end : (t₀ t : List ℕ) (k at n : ℕ) → k ≤ at → at ≤ k → ShiftedUp t₀ t k n → ShiftedUp t₀ t at n
 opened-end t₀ t k at n h m o = record { size = o .size; low = λ i j. o .low i (omega arith); high = λ i j q. o .high i (omega arith) q }
 
-pub opened-one : (t₀ t : List ℕ) (k n : ℕ) → Opened t₀ t k n → 0 < k → k < length t₀ → Opened t₀ (set t k (getD t (k - 1) 0)) (k - 1) n
+pub opened-one : (t₀ t : List ℕ) (k n : ℕ) → ShiftedUp t₀ t k n → 0 < k → k < length t₀ → ShiftedUp t₀ (set t k (getD t (k - 1) 0)) (k - 1) n
 opened-one t₀ t k n o h m =
     let v = getD t (k - 1) 0 in
     record {
@@ -89,7 +89,7 @@ opened-one t₀ t k n o h m =
     }
 
 -- ---- p is put at k
-module _ (t₀ t₁ : List ℕ) (n k p : ℕ) (o : Opened t₀ t₁ k n) (within : k ≤ n) (free : n < length t₀) where
+module _ (t₀ t₁ : List ℕ) (n k p : ℕ) (o : ShiftedUp t₀ t₁ k n) (within : k ≤ n) (free : n < length t₀) where
   put-low : (i : ℕ) → i < k → getD (set t₁ k p) i 0 ≡ getD t₀ i 0
   put-low i h = getD-set-other t₁ k i p 0 (λ e. omega arith) ∙ o .low i (omega arith)
 
@@ -121,7 +121,7 @@ module _ (t₀ t₁ : List ℕ) (n k p : ℕ) (o : Opened t₀ t₁ k n) (within
     f e = nameOf more l e
 
     -- the old entry i is still there
-    put-old : (i : ℕ) → i < n → (y : List ℕ) → f (getD t₀ i 0) ≡ y → In more l (set t₁ k p) (n + 1) y
+    put-old : (i : ℕ) → i < n → (y : List ℕ) → f (getD t₀ i 0) ≡ y → Contains more l (set t₁ k p) (n + 1) y
     put-old i h y e =
         elim (decLt i k) [
           | yes m ↦ record { at = i; within = omega arith; is = rw (put-low i m) e }
@@ -158,9 +158,9 @@ module _ (t₀ t₁ : List ℕ) (n k p : ℕ) (o : Opened t₀ t₁ k n) (within
           ]
 
 -- ---- what `insert` promises
-module _ (more : ℕ) (l t₀ : List ℕ) (n p m : ℕ) (small : p < 33554432) (st : Stands more l p) (len : m + more ≡ getD l p 0) (free : n < length t₀) (tab : Table more l t₀ n) where
+module _ (more : ℕ) (l t₀ : List ℕ) (n p m : ℕ) (small : p < 33554432) (st : NameFits more l p) (len : m + more ≡ getD l p 0) (free : n < length t₀) (tab : Table more l t₀ n) where
   abbrev name : List ℕ
-  name = part l (p + 1) m
+  name = bytesAt l (p + 1) m
 
   itself : p % 33554432 ≡ p
   itself = omega arith
@@ -180,7 +180,7 @@ module _ (more : ℕ) (l t₀ : List ℕ) (n p m : ℕ) (small : p < 33554432) (
         only = λ y i. inl i;
       }
 
-  pub insert-gap : (k : ℕ) → Gap more l t₀ n name k → (t₁ : List ℕ) → Opened t₀ t₁ k n → Inserted more l t₀ (set t₁ k p) n (n + 1) name
+  pub insert-gap : (k : ℕ) → Gap more l t₀ n name k → (t₁ : List ℕ) → ShiftedUp t₀ t₁ k n → Inserted more l t₀ (set t₁ k p) n (n + 1) name
   insert-gap k g₀ t₁ o =
       let g : Gap more l t₀ n (nameOf more l p) k = rw called at g₀ in
       let w : k ≤ n = g .within in
@@ -188,13 +188,13 @@ module _ (more : ℕ) (l t₀ : List ℕ) (n p m : ℕ) (small : p < 33554432) (
         count = (omega arith, omega arith);
         table = record {
           fits = omega (arith, put-size t₀ t₁ n k p o w free);
-          stands = put-each t₀ t₁ n k p o w free (λ (e : ℕ). Stands more l (e % 33554432)) (rw itself st) (tab .stands);
+          stands = put-each t₀ t₁ n k p o w free (λ (e : ℕ). NameFits more l (e % 33554432)) (rw itself st) (tab .stands);
           rises = put-rises t₀ t₁ n k p o w free more l tab g;
         };
         unmarked = λ b. put-each t₀ t₁ n k p o w free (λ (e : ℕ). e < 33554432) small b;
         new = record { at = k; within = omega arith; is = rw (put-at t₀ t₁ n k p o w free) (sym called) };
         old = λ y i. put-old t₀ t₁ n k p o w free more l (i .at) (i .within) y (i .is);
-        only = λ y i. put-each t₀ t₁ n k p o w free (λ (e : ℕ). nameOf more l e ≡ y → In more l t₀ n y ⊎ (y ≡ name))
+        only = λ y i. put-each t₀ t₁ n k p o w free (λ (e : ℕ). nameOf more l e ≡ y → Contains more l t₀ n y ⊎ (y ≡ name))
             (λ e. inr (sym e ∙ sym called))
             (λ j h e. inl (record { at = j; within = h; is = e }))
             (i .at) (i .within) (i .is);

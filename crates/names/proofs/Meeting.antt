@@ -12,13 +12,13 @@ use lib.ListN.{getD}
 use borrow.Author.Tests.{lt-ltb}
 use Rattle.stream.specs.Payload.{payload}
 use Rattle.stream.specs.Contracts.Payload.{rest}
-use Rattle.records.specs.Records.{part}
+use Rattle.records.specs.Records.{bytesAt}
 use Rattle.scene.specs.declared.labels.Best as code-best
 use Rattle.scene.specs.Scene.{Maybe, none, some, given, Point, NamedPlace, DrawnItem}
-use Rattle.scene.specs.Labels.{same, pick, Key, Best, greater, consider, considerAt, carries, itemKey, placeKey, referencePoint}
+use Rattle.scene.specs.Labels.{sameBytes, pick, Key, Best, greater, consider, considerAt, labelIs, itemKey, placeKey, referencePoint}
 use Rattle.scene.specs.Contracts.Answers.{bestBy, considerPlace, considerItem, placesAt, itemsAt}
 use Rattle.names.specs.Contracts.Table.{nameOf, markOf, Table, Gap}
-use Rattle.names.specs.Contracts.Batch.{isSome, Slots, slotAt, Had, Kept, Stays, Held, Met, placeStep, itemStep}
+use Rattle.names.specs.Contracts.Batch.{isSome, Slots, slotAt, BestIs, SlotsHold, SameNames, BestStored, Matched, placeStep, itemStep}
 use Rattle.names.specs.Laws.Order.{same-itself, key-not-same}
 
 -- ---- a label's length
@@ -84,7 +84,7 @@ given-fits : (t : Bool) (b : Best) → (t ≡ true → b .key .order < 429496729
 given-fits true b h = h refl
 given-fits false b h = tt
 
-module _ {keys : List ℕ} {spots : List Float} {m : ℕ} {b : code-best.Best} (had : Had keys spots m b) where
+module _ {keys : List ℕ} {spots : List Float} {m : ℕ} {b : code-best.Best} (had : BestIs keys spots m b) where
   had-order : b .some ≡ true → b .key .order < 4294967296
   had-order h =
       elim (decLt m 1) [
@@ -107,11 +107,11 @@ module _ {keys : List ℕ} {spots : List Float} {m : ℕ} {b : code-best.Best} (
 
 -- what `hold` asks for
 pub new-order : {keys : List ℕ} {spots : List Float} {m : ℕ} {old : code-best.Best} (b : code-best.Best) {g : Maybe Best → Maybe Best}
-    → Had keys spots m old → Steps g → bestBy b ≡ g (bestBy old) → b .some ≡ true → b .key .order < 4294967296
+    → BestIs keys spots m old → Steps g → bestBy b ≡ g (bestBy old) → b .some ≡ true → b .key .order < 4294967296
 new-order b {g} had st e h = rw h at (subst Fits (sym e) (st .fits _ (had-fits had)))
 
--- ---- the same of equal functions
-pub kept-same : {n : ℕ} {z : Slots} {bs bs′ : ℕ → Maybe Best} → Kept n z bs → ((i : ℕ) → i < n → bs′ i ≡ bs i) → Kept n z bs′
+-- ---- the sameBytes of equal functions
+pub kept-same : {n : ℕ} {z : Slots} {bs bs′ : ℕ → Maybe Best} → SlotsHold n z bs → ((i : ℕ) → i < n → bs′ i ≡ bs i) → SlotsHold n z bs′
 kept-same q f =
     record {
       few = q .few;
@@ -125,7 +125,7 @@ kept-same q f =
       apart = q .apart;
     }
 
-pub stays-same : (z : Slots) → Stays z z
+pub stays-same : (z : Slots) → SameNames z z
 stays-same z = record { size = refl; keys = refl; spots = refl; names = λ i. refl }
 
 abbrev named : ℕ → List ℕ → Slots → ℕ → List ℕ
@@ -134,15 +134,15 @@ named more l z i = nameOf more l (getD (z .t) i 0)
 -- ---- a step that leaves every name but x, and makes g of what was found for x
 pub record Touches (step : List ℕ → Maybe Best → Maybe Best) (x : List ℕ) (g : Maybe Best → Maybe Best) : Type 0 where
   pub this : (b : Maybe Best) → step x b ≡ g b
-  pub others : (name : List ℕ) (b : Maybe Best) → same x name ≡ false → step name b ≡ b
+  pub others : (name : List ℕ) (b : Maybe Best) → sameBytes x name ≡ false → step name b ≡ b
 
 module _ {more : ℕ} {l : List ℕ} {n : ℕ} (z : Slots) {step : List ℕ → Maybe Best → Maybe Best} where
   -- for no name
-  pub met-none : ((i : ℕ) → i < n → (b : Maybe Best) → step (named more l z i) b ≡ b) → Met more l n z z step
+  pub met-none : ((i : ℕ) → i < n → (b : Maybe Best) → step (named more l z i) b ≡ b) → Matched more l n z z step
   met-none f = record { stays = stays-same z; tells = λ bs q. kept-same q (λ i h. f i h (bs i)) }
 
   module _ {x : List ℕ} {g : Maybe Best → Maybe Best} (tou : Touches step x g) where
-    pub met-gap : {k : ℕ} → Gap more l (z .t) n x k → Met more l n z z step
+    pub met-gap : {k : ℕ} → Gap more l (z .t) n x k → Matched more l n z z step
     met-gap {k} gap =
         met-none (λ i h b. tou .others (named more l z i) b (elim (decLt i k) [
           | yes m ↦ key-not-same (named more l z i) x (gap .low i m) .1
@@ -150,7 +150,7 @@ module _ {more : ℕ} {l : List ℕ} {n : ℕ} (z : Slots) {step : List ℕ → 
         ]))
 
     module _ (tab : Table more l (z .t) n) (k : ℕ) (within : k < n) (is : named more l z k ≡ x) where
-      no-other : (i : ℕ) → i < n → (i ≡ k → ⊥) → same x (named more l z i) ≡ false
+      no-other : (i : ℕ) → i < n → (i ≡ k → ⊥) → sameBytes x (named more l z i) ≡ false
       no-other i h d =
           elim (decLt i k) [
             | yes m ↦ key-not-same (named more l z i) x (rw is at (tab .rises i k m within)) .1
@@ -158,7 +158,7 @@ module _ {more : ℕ} {l : List ℕ} {n : ℕ} (z : Slots) {step : List ℕ → 
           ]
 
       pub met-one : {z′ : Slots} (old b : code-best.Best)
-          → Had (z .keys) (z .spots) (markOf (getD (z .t) k 0)) old → Steps g → bestBy b ≡ g (bestBy old) → Held k (bestBy b) z z′ → Met more l n z z′ step
+          → BestIs (z .keys) (z .spots) (markOf (getD (z .t) k 0)) old → Steps g → bestBy b ≡ g (bestBy old) → BestStored k (bestBy b) z z′ → Matched more l n z z′ step
       met-one old b had st e held =
           record {
             stays = held .stays;
@@ -171,7 +171,7 @@ module _ {more : ℕ} {l : List ℕ} {n : ℕ} (z : Slots) {step : List ℕ → 
           here : (m : Maybe Best) → step (named more l z k) m ≡ g m
           here m = ap (λ (y : List ℕ). step y m) is ∙ tou .this m
 
-          was : (bs : ℕ → Maybe Best) → Kept n z bs → markOf (getD (z .t) k 0) ≤ 64 → bs k ≡ bestBy old
+          was : (bs : ℕ → Maybe Best) → SlotsHold n z bs → markOf (getD (z .t) k 0) ≤ 64 → bs k ≡ bestBy old
           was bs q h =
               elim (decLt (markOf (getD (z .t) k 0)) 1) [
                 | yes m ↦ q .zero k within (omega arith) ∙ sym (had-nothing had (omega arith))
@@ -180,24 +180,24 @@ module _ {more : ℕ} {l : List ℕ} {n : ℕ} (z : Slots) {step : List ℕ → 
 
 -- ---- the steps of a place and of an item
 module _ (l : List ℕ) (q i : ℕ) where
-  pub place-touches : {n : ℕ} → n ≡ getD l (q + 1) 0 → Touches (placeStep l q i) (part l (q + 1 + 1) n) (λ b. considerPlace b i (placesAt l q))
+  pub place-touches : {n : ℕ} → n ≡ getD l (q + 1) 0 → Touches (placeStep l q i) (bytesAt l (q + 1 + 1) n) (λ b. considerPlace b i (placesAt l q))
   unfolding placeStep
   place-touches {n} e =
       record {
-        this = λ b. rw (← e, same-itself (part l (q + 1 + 1) n)) refl;
+        this = λ b. rw (← e, same-itself (bytesAt l (q + 1 + 1) n)) refl;
         others = λ name b h. rw (← e, h) refl;
       }
 
-  pub item-touches : {n : ℕ} → n ≡ getD l (q + 3) 0 → (n ≡ 0 → ⊥) → Touches (itemStep l q i) (part l (q + 3 + 1) n) (λ b. considerItem b i (itemsAt l q))
-  unfolding itemStep carries
+  pub item-touches : {n : ℕ} → n ≡ getD l (q + 3) 0 → (n ≡ 0 → ⊥) → Touches (itemStep l q i) (bytesAt l (q + 3 + 1) n) (λ b. considerItem b i (itemsAt l q))
+  unfolding itemStep labelIs
   item-touches {n} e f =
       let p : ltb 0 n ≡ true = lt-ltb 0 n (omega arith) in
       record {
-        this = λ b. rw (← e, p, same-itself (part l (q + 3 + 1) n)) refl;
+        this = λ b. rw (← e, p, same-itself (bytesAt l (q + 3 + 1) n)) refl;
         others = λ name b h. rw (← e, p, h) refl;
       }
 
   -- an item without a label
   pub item-unlabelled : {n : ℕ} → n ≡ getD l (q + 3) 0 → n ≡ 0 → (name : List ℕ) (b : Maybe Best) → itemStep l q i name b ≡ b
-  unfolding itemStep carries
+  unfolding itemStep labelIs
   item-unlabelled {n} e f name b = rw (← e, f) refl

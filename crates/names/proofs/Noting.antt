@@ -15,7 +15,7 @@ use Rattle.scene.specs.Scene.{Maybe, none, some}
 use Rattle.scene.specs.Labels.{Best}
 use Rattle.scene.specs.Contracts.Answers.{keyBy, bestBy}
 use Rattle.names.specs.Contracts.Table.{markOf, marked}
-use Rattle.names.specs.Contracts.Batch.{isSome, Slots, slotsOf, slotAt, Put, Kept, Stays, Held}
+use Rattle.names.specs.Contracts.Batch.{isSome, Slots, slotsOf, slotAt, SlotSet, SlotsHold, SameNames, BestStored}
 
 pub same-or : (i k : ℕ) → (i ≡ k) ⊎ (i ≡ k → ⊥)
 same-or i k =
@@ -60,15 +60,15 @@ module _ (t keys : List ℕ) (spots : List Float) (used k : ℕ) (b : code-best.
   abbrev mark : ℕ → ℕ
   mark i = markOf (getD t i 0)
 
-  stays : Stays z z
+  stays : SameNames z z
   stays = record { size = refl; keys = refl; spots = refl; names = λ i. refl }
 
   -- no mark and no slot changes
-  module _ (n : ℕ) (bs bs′ : ℕ → Maybe Best) (q : Kept n z bs) (f : (i : ℕ) → i < n → (i ≡ k → ⊥) → bs′ i ≡ bs i) where
+  module _ (n : ℕ) (bs bs′ : ℕ → Maybe Best) (q : SlotsHold n z bs) (f : (i : ℕ) → i < n → (i ≡ k → ⊥) → bs′ i ≡ bs i) where
     same-marks : (mark k ≡ 0 → bs′ k ≡ none)
         → (1 ≤ mark k → mark k ≤ 64 → (d : Float) → bs′ k ≡ some (slotAt keys spots (mark k - 1) d))
         → (1 ≤ mark k → isSome (bs′ k) ≡ true)
-        → Kept n z bs′
+        → SlotsHold n z bs′
     same-marks zero′ one′ found′ =
         record {
           few = q .few;
@@ -83,7 +83,7 @@ module _ (t keys : List ℕ) (spots : List Float) (used k : ℕ) (b : code-best.
         }
 
   -- nothing to hold
-  pub held-none : b .some ≡ false → Held k (bestBy b) z z
+  pub held-none : b .some ≡ false → BestStored k (bestBy b) z z
   held-none h =
       record {
         stays = stays;
@@ -94,7 +94,7 @@ module _ (t keys : List ℕ) (spots : List Float) (used k : ℕ) (b : code-best.
       }
 
   -- no slot was left for it before
-  pub held-over : 2181038080 ≤ getD t k 0 → Held k (bestBy b) z z
+  pub held-over : 2181038080 ≤ getD t k 0 → BestStored k (bestBy b) z z
   held-over h =
       record {
         stays = stays;
@@ -106,8 +106,8 @@ module _ (t keys : List ℕ) (spots : List Float) (used k : ℕ) (b : code-best.
     best = record { key = keyBy (b .key); at = record { x = b .x; y = b .y } }
 
     -- it has a slot
-    module _ (low : 33554432 ≤ getD t k 0) (high : getD t k 0 < 2181038080) (keys′ : List ℕ) (spots′ : List Float) (p : Put keys keys′ spots spots′ (mark k - 1) b) where
-      pub held-again : Held k (bestBy b) z (slotsOf t keys′ spots′ used)
+    module _ (low : 33554432 ≤ getD t k 0) (high : getD t k 0 < 2181038080) (keys′ : List ℕ) (spots′ : List Float) (p : SlotSet keys keys′ spots spots′ (mark k - 1) b) where
+      pub held-again : BestStored k (bestBy b) z (slotsOf t keys′ spots′ used)
       held-again =
           record {
             stays = record { size = refl; keys = p .lengths .0; spots = p .lengths .1; names = λ i. refl };
@@ -150,7 +150,7 @@ module _ (t keys : List ℕ) (spots : List Float) (used k : ℕ) (b : code-best.
       abbrev top : ℕ
       top = getD t k 0 + 2181038080
 
-      pub held-full : Held k (bestBy b) z (slotsOf (set t k top) keys spots used)
+      pub held-full : BestStored k (bestBy b) z (slotsOf (set t k top) keys spots used)
       held-full =
           let stem : top % 33554432 ≡ getD t k 0 % 33554432 = omega arith in
           let mark-is : markOf top ≡ 65 = omega arith in
@@ -179,11 +179,11 @@ module _ (t keys : List ℕ) (spots : List Float) (used k : ℕ) (b : code-best.
             };
           }
 
-    module _ (inside : k < length t) (new : getD t k 0 < 33554432) (free : used < 64) (keys′ : List ℕ) (spots′ : List Float) (p : Put keys keys′ spots spots′ used b) where
+    module _ (inside : k < length t) (new : getD t k 0 < 33554432) (free : used < 64) (keys′ : List ℕ) (spots′ : List Float) (p : SlotSet keys keys′ spots spots′ used b) where
       abbrev next : ℕ
       next = getD t k 0 + 33554432 * (used + 1)
 
-      pub held-fresh : Held k (bestBy b) z (slotsOf (set t k next) keys′ spots′ (used + 1))
+      pub held-fresh : BestStored k (bestBy b) z (slotsOf (set t k next) keys′ spots′ (used + 1))
       held-fresh =
           let stem : next % 33554432 ≡ getD t k 0 % 33554432 = omega arith in
           let mark-is : markOf next ≡ used + 1 = omega arith in

@@ -11,9 +11,9 @@ use borrow.Author.Tests.{le-ltb, eq-eqb}
 use Rattle.stream.specs.Payload.{payload}
 use Rattle.stream.specs.Contracts.Payload.{room, rest}
 use Rattle.records.specs.Layout.{before}
-use Rattle.records.specs.Records.{part}
+use Rattle.records.specs.Records.{bytesAt}
 use Rattle.records.specs.Laws.Names.{name-length, name-at}
-use Rattle.scene.specs.Labels.{same}
+use Rattle.scene.specs.Labels.{sameBytes}
 use Rattle.scene.specs.Laws.Rising.{before-less, before-not-back, same-eq}
 use Rattle.names.specs.Contracts.Table.{keyOf, orderOf}
 use Rattle.names.specs.Laws.Order.{same-itself, key-else, key-not-same}
@@ -31,7 +31,7 @@ unfolding orderOf
 order-same a b e = rw (e, same-itself b) refl
 
 -- ---- what it tells
-by-order : (a b : List ℕ) (u v : Bool) → u ≡ same a b → v ≡ before (keyOf a) (keyOf b) → (o : ℕ) → o ≡ cond u 1 (cond v 0 2)
+by-order : (a b : List ℕ) (u v : Bool) → u ≡ sameBytes a b → v ≡ before (keyOf a) (keyOf b) → (o : ℕ) → o ≡ cond u 1 (cond v 0 2)
     → ((o ≡ 1 → a ≡ b) × (o ≡ 0 → before (keyOf a) (keyOf b) ≡ true) × ((o ≡ 1 → ⊥) → (o ≡ 0 → ⊥) → before (keyOf b) (keyOf a) ≡ true))
 by-order a b true v eu ev o e = (λ h. same-eq a b (sym eu), λ h. absurd (omega arith), λ h k. absurd (h e))
 by-order a b false true eu ev o e = (λ h. absurd (omega arith), λ h. sym ev, λ h k. absurd (k e))
@@ -40,7 +40,7 @@ by-order a b false false eu ev o e = (λ h. absurd (omega arith), λ h. absurd (
 module _ (a b : List ℕ) {o : ℕ} (e : o ≡ orderOf a b) where
   told : (o ≡ 1 → a ≡ b) × (o ≡ 0 → before (keyOf a) (keyOf b) ≡ true) × ((o ≡ 1 → ⊥) → (o ≡ 0 → ⊥) → before (keyOf b) (keyOf a) ≡ true)
   unfolding orderOf
-  told = by-order a b (same a b) (before (keyOf a) (keyOf b)) refl refl o e
+  told = by-order a b (sameBytes a b) (before (keyOf a) (keyOf b)) refl refl o e
 
   pub told-same : o ≡ 1 → a ≡ b
   told-same = told .0
@@ -68,7 +68,7 @@ unfolding before
 before-head x xs ys = rw (le-ltb x x (omega arith), eq-eqb x x refl) refl
 
 order-next : (x : ℕ) (xs ys : List ℕ) → length xs ≡ length ys → orderOf (x ∷ xs) (x ∷ ys) ≡ orderOf xs ys
-unfolding orderOf same
+unfolding orderOf sameBytes
 order-next x xs ys e = rw (level (x ∷ xs) (x ∷ ys) (ap suc e), level xs ys e, before-head x xs ys, eq-eqb x x refl) refl
 
 pub order-front : (c xs ys : List ℕ) → length xs ≡ length ys → orderOf (c ++ xs) (c ++ ys) ≡ orderOf xs ys
@@ -78,10 +78,10 @@ order-front (x ∷ c) xs ys e = order-next x (c ++ xs) (c ++ ys) (simp length-ap
 -- ---- two parts of a payload, from byte i on, by the values that the code has
 module _ (s : List ℕ) (p q n i : ℕ) (u : p + n ≤ room s) (v : q + n ≤ room s) where
   abbrev A : List ℕ
-  A = part (payload s) p n
+  A = bytesAt (payload s) p n
 
   abbrev B : List ℕ
-  B = part (payload s) q n
+  B = bytesAt (payload s) q n
 
   len-a : length A ≡ n
   len-a = name-length s p n u

@@ -11,11 +11,11 @@ use lib.ListN.{length, getD, take, drop, length-take, length-drop, take-append-d
 use lib.Seq.{drop-cons, getD-take, getD-drop, take-add, take-take, take-nil, drop-drop}
 use Rattle.stream.specs.Laws.Numbers.{Bytes}
 use Rattle.records.specs.Layout.{before}
-use Rattle.records.specs.Records.{part}
+use Rattle.records.specs.Records.{bytesAt}
 use Rattle.records.specs.Laws.Names.{part-length}
 use Rattle.scene.specs.Laws.Rising.{before-less}
 use Rattle.names.specs.Contracts.Words.{be16At, be32At, be64At, wordOf, frontOf}
-use Rattle.names.specs.Contracts.Table.{nameAt, orderOf, Stands}
+use Rattle.names.specs.Contracts.Table.{nameAt, orderOf, NameFits}
 use Rattle.names.proofs.Numbers.{beOf, Small, be-less, be-before, be-same, be-append, be-cut}
 use Rattle.names.proofs.Orders.{order-less, order-more, order-same, level-less, level-more, order-front}
 
@@ -110,8 +110,8 @@ drop-take zero m l = rw zero-add refl
 drop-take (suc k) m [] = rw suc-add (sym (take-nil m))
 drop-take (suc k) m (x ∷ xs) = rw suc-add (drop-take k m xs)
 
-behind : (l : List ℕ) (r n : ℕ) → 7 < n → drop 7 (part l (r + 1) n) ≡ part l (r + 8) (n - 7)
-unfolding part
+behind : (l : List ℕ) (r n : ℕ) → 7 < n → drop 7 (bytesAt l (r + 1) n) ≡ bytesAt l (r + 8) (n - 7)
+unfolding bytesAt
 behind l r n h =
     let m : n ≡ 7 + (n - 7) = omega arith in
     let j : r + 1 + 7 ≡ r + 8 = omega arith in
@@ -121,7 +121,7 @@ behind l r n h =
 -- x and w are the numbers of what is compared of them
 pub record Pair (more : ℕ) (l : List ℕ) (p q n x w : ℕ) : Type 0 where
   pub bytes : Bytes l
-  pub stands : Stands more l p
+  pub stands : NameFits more l p
   pub fits : q + 9 + n ≤ length l
   pub own : x ≡ frontOf (be64At l p) n
   pub sought : w ≡ frontOf (wordOf l q (n + more)) n
@@ -130,7 +130,7 @@ module _ {more : ℕ} {l : List ℕ} {p q n x w : ℕ} (pair : Pair more l p q n
   abbrev b : Bytes l
   b = pair .bytes
 
-  abbrev st : Stands more l p
+  abbrev st : NameFits more l p
   st = pair .stands
 
   abbrev head : ℕ
@@ -140,10 +140,10 @@ module _ {more : ℕ} {l : List ℕ} {p q n x w : ℕ} (pair : Pair more l p q n
   kept = 7 - (7 - n)
 
   abbrev A : List ℕ
-  A = part l (p + 1) n
+  A = bytesAt l (p + 1) n
 
   abbrev B : List ℕ
-  B = part l (q + 1) n
+  B = bytesAt l (q + 1) n
 
   len-b : length B ≡ n
   len-b = part-length l (q + 1) n (omega arith)
@@ -187,11 +187,11 @@ module _ {more : ℕ} {l : List ℕ} {p q n x w : ℕ} (pair : Pair more l p q n
     len-a = part-length l (p + 1) n (omega (arith, fits))
 
     front-a : take kept A ≡ As
-    unfolding part
+    unfolding bytesAt
     front-a = take-take kept n (drop (p + 1) l) (omega arith)
 
     front-b : take kept B ≡ Bs
-    unfolding part
+    unfolding bytesAt
     front-b = take-take kept n (drop (q + 1) l) (omega arith)
 
     split-a : A ≡ As ++ drop kept A
@@ -264,8 +264,8 @@ module _ {more : ℕ} {l : List ℕ} {p q n x w : ℕ} (pair : Pair more l p q n
         let none : (a : List ℕ) → length a ≡ n → drop kept a ≡ [] = λ a e. drop-of-length-le a {i = kept} (omega arith) in
         rw (name-is heads) (sym (equal-same heads f g ∙ order-same _ _ (none A (len-a heads) ∙ sym (none B len-b))))
 
-    pub word-rest : {o : ℕ} → 7 < n → o ≡ orderOf (part l (p + 8) (n - 7)) (part l (q + 8) (n - 7)) → o ≡ orderOf (nameAt more l p) B
+    pub word-rest : {o : ℕ} → 7 < n → o ≡ orderOf (bytesAt l (p + 8) (n - 7)) (bytesAt l (q + 8) (n - 7)) → o ≡ orderOf (nameAt more l p) B
     word-rest h e =
         let k : kept ≡ 7 = omega arith in
         let r : orderOf A B ≡ orderOf (drop 7 A) (drop 7 B) = rw k at (equal-same heads f g) in
-        rw (name-is heads) (e ∙ sym (r ∙ ap (λ (z : List ℕ). orderOf z (drop 7 B)) (behind l p n h) ∙ ap (orderOf (part l (p + 8) (n - 7))) (behind l q n h)))
+        rw (name-is heads) (e ∙ sym (r ∙ ap (λ (z : List ℕ). orderOf z (drop 7 B)) (behind l p n h) ∙ ap (orderOf (bytesAt l (p + 8) (n - 7))) (behind l q n h)))

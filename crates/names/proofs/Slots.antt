@@ -12,7 +12,7 @@ use mir.Val.{boolByte}
 use Rattle.scene.specs.declared.labels.Best as code-best
 use Rattle.scene.specs.Labels.{Best}
 use Rattle.scene.specs.Contracts.Answers.{keyBy}
-use Rattle.names.specs.Contracts.Batch.{slotAt, Put}
+use Rattle.names.specs.Contracts.Batch.{slotAt, SlotSet}
 
 -- what lies within does not ask for the default
 any-default : {A : Type 0} (l : List A) (i : ℕ) (d e : A) → i < length l → getD l i d ≡ getD l i e
@@ -131,5 +131,5 @@ module _ (keys : List ℕ) (spots : List Float) (m : ℕ) (b : code-best.Best) (
       let first = key-first keys m byte (b .key .line) (b .key .col) (b .key .order) fk j h in
       rw (first, other 1 h (omega arith), other 2 h (omega arith), other 3 h (omega arith), spot-first spots m (b .x) (b .y) fs d j h, spot-second spots m (b .x) (b .y) fs d j h) refl
 
-  pub put-is : Put keys keys′ spots spots′ m b
+  pub put-is : SlotSet keys keys′ spots spots′ m b
   put-is = record { lengths = (size4 keys m byte (b .key .line) (b .key .col) (b .key .order) fk, simp length-set); is = put-here; others = put-else }

@@ -11,16 +11,16 @@ use lib.ListN.{getD}
 use Rattle.stream.specs.Payload.{payload}
 use Rattle.records.specs.declared.search.Hit.{Hit}
 use Rattle.scene.specs.Scene.{Maybe, none, some}
-use Rattle.scene.specs.Labels.{same, pick, Best, bestPlace, bestItem, pointOf, pointOfLabel}
+use Rattle.scene.specs.Labels.{sameBytes, pick, Best, bestPlace, bestItem, pointOf, pointOfLabel}
 use Rattle.scene.specs.Contracts.Answers.{placesAt, itemsAt}
 use Rattle.scene.specs.Laws.Found.{Answer, One}
 use Rattle.scene.specs.Laws.Folds.{Chosen, no-place, next-place, no-item, next-item}
 use Rattle.names.specs.Contracts.Table.{nameAt, nameOf, markOf, Table, Unmarked}
-use Rattle.names.specs.Contracts.Batch.{isSome, spotOf, Slots, slotsOf, slotAt, Kept, Stays, Met, placeStep, placesStep, itemStep, itemsStep, Noted}
+use Rattle.names.specs.Contracts.Batch.{isSome, slotPoint, Slots, slotsOf, slotAt, SlotsHold, SameNames, Matched, placeStep, placesStep, itemStep, itemsStep, LabelsMatched}
 use Rattle.names.proofs.Meeting.{kept-same, met-none}
 
 -- ---- one step after another
-pub table-same : {more : ℕ} {l : List ℕ} {n : ℕ} {z z′ : Slots} → Table more l (z .t) n → Stays z z′ → Table more l (z′ .t) n
+pub table-same : {more : ℕ} {l : List ℕ} {n : ℕ} {z z′ : Slots} → Table more l (z .t) n → SameNames z z′ → Table more l (z′ .t) n
 table-same tab s =
     record {
       fits = omega (arith, s .size, tab .fits);
@@ -28,14 +28,14 @@ table-same tab s =
       rises = λ i j h k. rw (s .names i, s .names j) (tab .rises i j h k);
     }
 
-stays-then : {z z′ z″ : Slots} → Stays z z′ → Stays z′ z″ → Stays z z″
+stays-then : {z z′ z″ : Slots} → SameNames z z′ → SameNames z′ z″ → SameNames z z″
 stays-then a b = record { size = b .size ∙ a .size; keys = b .keys ∙ a .keys; spots = b .spots ∙ a .spots; names = λ i. b .names i ∙ a .names i }
 
-module _ {more : ℕ} {l : List ℕ} {n : ℕ} {z z′ : Slots} {f : List ℕ → Maybe Best → Maybe Best} (m : Met more l n z z′ f) where
-  pub met-as : {g : List ℕ → Maybe Best → Maybe Best} → ((name : List ℕ) (b : Maybe Best) → g name b ≡ f name b) → Met more l n z z′ g
+module _ {more : ℕ} {l : List ℕ} {n : ℕ} {z z′ : Slots} {f : List ℕ → Maybe Best → Maybe Best} (m : Matched more l n z z′ f) where
+  pub met-as : {g : List ℕ → Maybe Best → Maybe Best} → ((name : List ℕ) (b : Maybe Best) → g name b ≡ f name b) → Matched more l n z z′ g
   met-as e = record { stays = m .stays; tells = λ bs q. kept-same (m .tells bs q) (λ i h. e _ (bs i)) }
 
-  pub met-then : {z″ : Slots} {g : List ℕ → Maybe Best → Maybe Best} → Met more l n z′ z″ g → Met more l n z z″ (λ name b. g name (f name b))
+  pub met-then : {z″ : Slots} {g : List ℕ → Maybe Best → Maybe Best} → Matched more l n z′ z″ g → Matched more l n z z″ (λ name b. g name (f name b))
   met-then {z″} {g} k =
       record {
         stays = stays-then (m .stays) (k .stays);
@@ -45,7 +45,7 @@ module _ {more : ℕ} {l : List ℕ} {n : ℕ} {z z′ : Slots} {f : List ℕ �
 -- ---- so far: whatever the rest makes of what is done, is the whole
 pub record Walk (more : ℕ) (l : List ℕ) (n : ℕ) (z z′ : Slots) (all rest : List ℕ → Maybe Best → Maybe Best) : Type 0 where
   pub done : List ℕ → Maybe Best → Maybe Best
-  pub met : Met more l n z z′ done
+  pub met : Matched more l n z z′ done
   pub leads : (name : List ℕ) (b : Maybe Best) → all name b ≡ rest name (done name b)
 
 module _ {more : ℕ} {l : List ℕ} {n : ℕ} where
@@ -53,10 +53,10 @@ module _ {more : ℕ} {l : List ℕ} {n : ℕ} where
   walk-start z e = record { done = λ name b. b; met = met-none z (λ i h b. refl); leads = e }
 
   module _ {z z′ : Slots} {all rest : List ℕ → Maybe Best → Maybe Best} (w : Walk more l n z z′ all rest) where
-    pub walk-end : ((name : List ℕ) (b : Maybe Best) → b ≡ rest name b) → Met more l n z z′ all
+    pub walk-end : ((name : List ℕ) (b : Maybe Best) → b ≡ rest name b) → Matched more l n z z′ all
     walk-end e = met-as (w .met) (λ name b. w .leads name b ∙ sym (e name (w .done name b)))
 
-    pub walk-on : {z″ : Slots} {step rest′ : List ℕ → Maybe Best → Maybe Best} → Met more l n z′ z″ step
+    pub walk-on : {z″ : Slots} {step rest′ : List ℕ → Maybe Best → Maybe Best} → Matched more l n z′ z″ step
         → ((name : List ℕ) (b : Maybe Best) → rest name b ≡ rest′ name (step name b)) → Walk more l n z z″ all rest′
     walk-on {step = step} m e =
         record {
@@ -102,7 +102,7 @@ module _ (s : List ℕ) (q i : ℕ) (h : Hit) where
   items-one o name b = next-item name s q i b h o refl (chosen-pick _ _ b)
 
 -- ---- what the marks tell then
-bare : (t : List ℕ) (n : ℕ) → Unmarked t n → (keys : List ℕ) (spots : List Float) → Kept n (slotsOf t keys spots 0) (λ i. none)
+bare : (t : List ℕ) (n : ℕ) → Unmarked t n → (keys : List ℕ) (spots : List Float) → SlotsHold n (slotsOf t keys spots 0) (λ i. none)
 bare t n u keys spots =
     record {
       few = omega arith;
@@ -120,7 +120,7 @@ point-some : (b : Maybe Best) → isSome b ≡ true → isSome (pointOf b) ≡ t
 point-some (some b) h = refl
 point-some none h = h
 
-slot-point : (keys : List ℕ) (spots : List Float) (m : ℕ) (d : Float) → 1 ≤ m → slotAt keys spots (m - 1) d .at ≡ spotOf spots m d
+slot-point : (keys : List ℕ) (spots : List Float) (m : ℕ) (d : Float) → 1 ≤ m → slotAt keys spots (m - 1) d .at ≡ slotPoint spots m d
 unfolding slotAt
 slot-point keys spots m d h =
     let a : 2 * (m - 1) ≡ 2 * m - 2 = omega arith in
@@ -128,18 +128,18 @@ slot-point keys spots m d h =
     rw (a, b) refl
 
 module _ (more : ℕ) (l t : List ℕ) (n p e : ℕ) (tab : Table more l t n) (clear : Unmarked t n) {keys : List ℕ} {spots : List Float} {z z′ : Slots}
-    (pl : Met more l n (slotsOf t keys spots 0) z (placesStep l p)) (same : itemsAt l p ≡ itemsAt l e) (it : Met more l n z z′ (itemsStep l e)) where
+    (pl : Matched more l n (slotsOf t keys spots 0) z (placesStep l p)) (sameBytes : itemsAt l p ≡ itemsAt l e) (it : Matched more l n z z′ (itemsStep l e)) where
   abbrev name : ℕ → List ℕ
   name i = nameOf more l (getD t i 0)
 
   abbrev best : ℕ → Maybe Best
   best i = bestItem (name i) 0 (itemsAt l p) (bestPlace (name i) 0 (placesAt l p) none)
 
-  kept : Kept n z′ best
+  kept : SlotsHold n z′ best
   unfolding placesStep itemsStep
-  kept = kept-same (met-then pl it .tells (λ i. none) (bare t n clear keys spots)) (λ i h. rw same refl)
+  kept = kept-same (met-then pl it .tells (λ i. none) (bare t n clear keys spots)) (λ i h. rw sameBytes refl)
 
-  pub noted : Noted more l t (z′ .t) n (z′ .spots) (z′ .used) p
+  pub noted : LabelsMatched more l t (z′ .t) n (z′ .spots) (z′ .used) p
   unfolding pointOfLabel
   noted =
       let st = met-then pl it .stays in

@@ -10,7 +10,7 @@ ghost use Rattle.stream.specs.Payload.{payload};
 ghost use Rattle.stream.specs.Contracts.Payload.{room};
 ghost use Rattle.scene.specs.Contracts.Answers.{bestBy, itemsAt};
 ghost use Rattle.names.specs.Contracts.Table.{Table, Unmarked};
-ghost use Rattle.names.specs.Contracts.Batch.{slotsOf, Slot, Had, Put, Held, Met, placeStep, placesStep, itemStep, itemsStep, Noted};
+ghost use Rattle.names.specs.Contracts.Batch.{slotsOf, Slot, BestIs, SlotSet, BestStored, Matched, placeStep, placesStep, itemStep, itemsStep, LabelsMatched};
 use crate::table::find_name;
 use records::find;
 use records::seek;
@@ -58,7 +58,7 @@ fn best_at(keys: &[u32], spots: &[f64], m: usize) -> Best
 fn put_best(keys: &mut [u32], spots: &mut [f64], m: usize, b: Best)
     requires { ⌜ (4 * m + 4 ≤ length (now keys)) × (2 * m + 2 ≤ length (now spots))
         × (b .key .order < 4294967296) ⌝ }
-    ensures { λ r. ⌜ Put (now (keys .entry)) (now (keys .exit)) (now (spots .entry)) (now (spots .exit)) m b ⌝ }
+    ensures { λ r. ⌜ SlotSet (now (keys .entry)) (now (keys .exit)) (now (spots .entry)) (now (spots .exit)) m b ⌝ }
 {
     let key = b.key;
     keys[4 * m] = key.top as u32;
@@ -72,7 +72,7 @@ fn put_best(keys: &mut [u32], spots: &mut [f64], m: usize, b: Best)
 // What was found for an entry with the mark m.
 fn best_of(keys: &[u32], spots: &[f64], m: usize) -> Best
     requires { ⌜ (length (now keys) ≡ 256) × (length (now spots) ≡ 128) ⌝ }
-    ensures { λ r. ⌜ Had (now (keys .entry)) (now (spots .entry)) m r ⌝ }
+    ensures { λ r. ⌜ BestIs (now (keys .entry)) (now (spots .entry)) m r ⌝ }
 {
     if m == 0 {
         return no_best();
@@ -84,10 +84,10 @@ fn best_of(keys: &[u32], spots: &[f64], m: usize) -> Best
 }
 
 // The best for entry k is b from now on. How many slots are used then.
-fn hold(t: &mut [u32], keys: &mut [u32], spots: &mut [f64], used: usize, k: usize, b: Best) -> usize
+fn store_best(t: &mut [u32], keys: &mut [u32], spots: &mut [f64], used: usize, k: usize, b: Best) -> usize
     requires { ⌜ (k < length (now t)) × (length (now keys) ≡ 256) × (length (now spots) ≡ 128)
         × (b .some ≡ true → b .key .order < 4294967296) ⌝ }
-    ensures { λ r. ⌜ Held k (bestBy b) (slotsOf (now (t .entry)) (now (keys .entry)) (now (spots .entry)) used)
+    ensures { λ r. ⌜ BestStored k (bestBy b) (slotsOf (now (t .entry)) (now (keys .entry)) (now (spots .entry)) used)
         (slotsOf (now (t .exit)) (now (keys .exit)) (now (spots .exit)) r) ⌝ }
 {
     if !b.some {
@@ -111,7 +111,7 @@ fn hold(t: &mut [u32], keys: &mut [u32], spots: &mut [f64], used: usize, k: usiz
 }
 
 // The place at q, the i-th: a candidate for the name that it has, if that is one of the first `count` entries.
-fn note_place(
+fn match_place(
     s: &[u8],
     t: &mut [u32],
     count: usize,
@@ -126,7 +126,7 @@ fn note_place(
         × (getD (payload (now s)) (q + 1) 0 + more ≤ 255) × (i < 4294967296)
         × Table more (payload (now s)) (now t) count × (length (now keys) ≡ 256)
         × (length (now spots) ≡ 128) ⌝ }
-    ensures { λ r. ⌜ Met more (payload (now (s .entry))) count
+    ensures { λ r. ⌜ Matched more (payload (now (s .entry))) count
         (slotsOf (now (t .entry)) (now (keys .entry)) (now (spots .entry)) used)
         (slotsOf (now (t .exit)) (now (keys .exit)) (now (spots .exit)) r)
         (placeStep (payload (now (s .entry))) q i) ⌝ }
@@ -139,11 +139,11 @@ fn note_place(
     let k = f.at;
     let old = best_of(keys, spots, (t[k] / 33554432) as usize);
     let b = consider_place(s, old, q, i);
-    hold(t, keys, spots, used, k, b)
+    store_best(t, keys, spots, used, k, b)
 }
 
 // The item at q, the i-th, if it has a label.
-fn note_item(
+fn match_item(
     s: &[u8],
     t: &mut [u32],
     count: usize,
@@ -158,7 +158,7 @@ fn note_item(
         × (getD (payload (now s)) (q + 3) 0 + more ≤ 255) × (i < 4294967296)
         × Table more (payload (now s)) (now t) count × (length (now keys) ≡ 256)
         × (length (now spots) ≡ 128) ⌝ }
-    ensures { λ r. ⌜ Met more (payload (now (s .entry))) count
+    ensures { λ r. ⌜ Matched more (payload (now (s .entry))) count
         (slotsOf (now (t .entry)) (now (keys .entry)) (now (spots .entry)) used)
         (slotsOf (now (t .exit)) (now (keys .exit)) (now (spots .exit)) r)
         (itemStep (payload (now (s .entry))) q i) ⌝ }
@@ -174,16 +174,16 @@ fn note_item(
     let k = f.at;
     let old = best_of(keys, spots, (t[k] / 33554432) as usize);
     let b = consider_item(s, old, q, i);
-    hold(t, keys, spots, used, k, b)
+    store_best(t, keys, spots, used, k, b)
 }
 
 // How many slots are used, and where the items are asked for: behind the places.
-pub struct Walked {
+pub struct MatchedPlaces {
     pub used: usize,
     pub end: usize,
 }
 
-fn note_places(
+fn match_places(
     s: &[u8],
     p: usize,
     t: &mut [u32],
@@ -191,10 +191,10 @@ fn note_places(
     more: u64,
     keys: &mut [u32],
     spots: &mut [f64],
-) -> Walked
+) -> MatchedPlaces
     requires { ⌜ (room (now s) < 33554432) × (more ≤ 4) × Table more (payload (now s)) (now t) count
         × (length (now keys) ≡ 256) × (length (now spots) ≡ 128) ⌝ }
-    ensures { λ r. ⌜ Met more (payload (now (s .entry))) count
+    ensures { λ r. ⌜ Matched more (payload (now (s .entry))) count
         (slotsOf (now (t .entry)) (now (keys .entry)) (now (spots .entry)) 0)
         (slotsOf (now (t .exit)) (now (keys .exit)) (now (spots .exit)) (r .used))
         (placesStep (payload (now (s .entry))) p) ⌝ }
@@ -206,18 +206,18 @@ fn note_places(
     loop {
         let h = seek(s, q, 5, 0);
         if !h.some {
-            return Walked {
+            return MatchedPlaces {
                 used: used,
                 end: h.at,
             };
         }
-        used = note_place(s, t, count, more, keys, spots, used, h.at, i);
+        used = match_place(s, t, count, more, keys, spots, used, h.at, i);
         q = h.next;
         i += 1;
     }
 }
 
-fn note_items(
+fn match_items(
     s: &[u8],
     p: usize,
     t: &mut [u32],
@@ -229,7 +229,7 @@ fn note_items(
 ) -> usize
     requires { ⌜ (room (now s) < 33554432) × (more ≤ 4) × Table more (payload (now s)) (now t) count
         × (length (now keys) ≡ 256) × (length (now spots) ≡ 128) ⌝ }
-    ensures { λ r. ⌜ Met more (payload (now (s .entry))) count
+    ensures { λ r. ⌜ Matched more (payload (now (s .entry))) count
         (slotsOf (now (t .entry)) (now (keys .entry)) (now (spots .entry)) places)
         (slotsOf (now (t .exit)) (now (keys .exit)) (now (spots .exit)) r)
         (itemsStep (payload (now (s .entry))) p) ⌝ }
@@ -242,7 +242,7 @@ fn note_items(
         if !h.some {
             return used;
         }
-        used = note_item(s, t, count, more, keys, spots, used, h.at, i);
+        used = match_item(s, t, count, more, keys, spots, used, h.at, i);
         q = h.next;
         i += 1;
     }
@@ -250,7 +250,7 @@ fn note_items(
 
 // The labels from p on, for the names of the first `count` entries, none of which has a mark. How many slots are used
 // then.
-pub fn note_labels(
+pub fn match_labels(
     s: &[u8],
     p: usize,
     t: &mut [u32],
@@ -261,9 +261,9 @@ pub fn note_labels(
 ) -> usize
     requires { ⌜ (room (now s) < 33554432) × (more ≤ 4) × Table more (payload (now s)) (now t) count
         × Unmarked (now t) count × (length (now keys) ≡ 256) × (length (now spots) ≡ 128) ⌝ }
-    ensures { λ r. ⌜ Noted more (payload (now (s .entry))) (now (t .entry)) (now (t .exit)) count
+    ensures { λ r. ⌜ LabelsMatched more (payload (now (s .entry))) (now (t .entry)) (now (t .exit)) count
         (now (spots .exit)) r p ⌝ }
 {
-    let w = note_places(s, p, t, count, more, keys, spots);
-    note_items(s, w.end, t, count, more, keys, spots, w.used)
+    let w = match_places(s, p, t, count, more, keys, spots);
+    match_items(s, w.end, t, count, more, keys, spots, w.used)
 }

@@ -3,7 +3,7 @@ mod batch;
 mod table;
 mod words;
 
-pub use batch::note_labels;
+pub use batch::match_labels;
 pub use table::Found;
 pub use table::find_name;
 pub use table::insert;

@@ -8,13 +8,13 @@ ghost use Prim.Native.Nat.{_+_, _-_, _*_, _≤_, _<_, _%_};
 ghost use lib.ListN.{length, getD, set};
 ghost use Rattle.stream.specs.Payload.{payload};
 ghost use Rattle.stream.specs.Contracts.Payload.{room};
-ghost use Rattle.records.specs.Records.{part};
+ghost use Rattle.records.specs.Records.{bytesAt};
 ghost use Rattle.names.specs.Contracts.Words.{wordOf, frontOf};
-ghost use Rattle.names.specs.Contracts.Table.{nameAt, markOf, orderOf, Stands, Table, Searched, Opened, Inserted};
+ghost use Rattle.names.specs.Contracts.Table.{nameAt, markOf, orderOf, NameFits, Table, Searched, ShiftedUp, Inserted};
 use crate::words::swap8;
 use crate::words::word_at;
 use stream::byte;
-use stream::long;
+use stream::u64_at;
 
 // A payload has fewer bytes than this: what an entry is beyond it, is a mark.
 const SPAN: usize = 33554432;
@@ -32,7 +32,7 @@ pub struct Found {
 // come after.
 fn order_bytes(s: &[u8], p: usize, q: usize, n: usize) -> u8
     requires { ⌜ (p + n ≤ room (now s)) × (q + n ≤ room (now s)) ⌝ }
-    ensures { λ r. ⌜ r ≡ orderOf (part (payload (now (s .entry))) p n) (part (payload (now (s .entry))) q n) ⌝ }
+    ensures { λ r. ⌜ r ≡ orderOf (bytesAt (payload (now (s .entry))) p n) (bytesAt (payload (now (s .entry))) q n) ⌝ }
 {
     let mut i = 0usize;
     while i < n {
@@ -65,16 +65,16 @@ fn word_of(s: &[u8], p: usize, n: usize, more: u64) -> u64
     requires { ⌜ (p + 8 ≤ room (now s)) × (n + more ≤ 255) ⌝ }
     ensures { λ r. ⌜ r ≡ wordOf (payload (now (s .entry))) p (n + more) ⌝ }
 {
-    swap8(long(s, 0, p)) % FIRST + (n as u64 + more) * FIRST
+    swap8(u64_at(s, 0, p)) % FIRST + (n as u64 + more) * FIRST
 }
 
 // The order of the name whose length stands at p and the n bytes behind q, of which w are the first without the spare
 // bits.
 fn order(s: &[u8], p: usize, q: usize, n: usize, w: u64, more: u64) -> u8
-    requires { ⌜ Stands more (payload (now s)) p × (q + 9 + n ≤ room (now s)) × (n + more ≤ 255)
+    requires { ⌜ NameFits more (payload (now s)) p × (q + 9 + n ≤ room (now s)) × (n + more ≤ 255)
         × (w ≡ frontOf (wordOf (payload (now s)) q (n + more)) n) ⌝ }
     ensures { λ r. ⌜ r ≡ orderOf (nameAt more (payload (now (s .entry))) p)
-        (part (payload (now (s .entry))) (q + 1) n) ⌝ }
+        (bytesAt (payload (now (s .entry))) (q + 1) n) ⌝ }
 {
     let x = word_at(s, p) >> spare_bits(n);
     if x < w {
@@ -102,7 +102,7 @@ fn find_near(
     requires { ⌜ (p + 9 + n ≤ room (now s)) × (n + more ≤ 255) × Table more (payload (now s)) (now t) count
         × (0 < count → first < count) ⌝ }
     ensures { λ r. ⌜ Searched more (payload (now (s .entry))) (now (t .entry)) count
-        (part (payload (now (s .entry))) (p + 1) n) (r .some) (r .at) ⌝ }
+        (bytesAt (payload (now (s .entry))) (p + 1) n) (r .some) (r .at) ⌝ }
 {
     let w = word_of(s, p, n, more) >> spare_bits(n);
     let mut lo = 0usize;
@@ -135,15 +135,15 @@ pub fn find_name(s: &[u8], t: &[u32], count: usize, p: usize, n: usize, more: u6
     requires { ⌜ (p + 9 + n ≤ room (now s)) × (n + more ≤ 255)
         × Table more (payload (now s)) (now t) count ⌝ }
     ensures { λ r. ⌜ Searched more (payload (now (s .entry))) (now (t .entry)) count
-        (part (payload (now (s .entry))) (p + 1) n) (r .some) (r .at) ⌝ }
+        (bytesAt (payload (now (s .entry))) (p + 1) n) (r .some) (r .at) ⌝ }
 {
     find_near(s, t, count, count / 2, p, n, more)
 }
 
 // The entries from `at` to n - 1 move up by one.
-fn make_room(t: &mut [u32], at: usize, n: usize)
+fn shift_up(t: &mut [u32], at: usize, n: usize)
     requires { ⌜ (at ≤ n) × (n < length (now t)) ⌝ }
-    ensures { λ r. ⌜ Opened (now (t .entry)) (now (t .exit)) at n ⌝ }
+    ensures { λ r. ⌜ ShiftedUp (now (t .entry)) (now (t .exit)) at n ⌝ }
 {
     let mut k = n;
     while k > at {
@@ -162,18 +162,18 @@ fn last_of(count: usize) -> usize
 // The name of n bytes whose length stands at p becomes one of the first `count` entries, unless it is one of them. How
 // many there are then. Most names come in their order: the last entry is looked at first.
 pub fn insert(s: &[u8], t: &mut [u32], count: usize, p: usize, n: usize, more: u64) -> usize
-    requires { ⌜ (p < 33554432) × Stands more (payload (now s)) p
+    requires { ⌜ (p < 33554432) × NameFits more (payload (now s)) p
         × (n + more ≡ getD (payload (now s)) p 0) × (n + more ≤ 255)
         × (count < length (now t)) × Table more (payload (now s)) (now t) count ⌝ }
     ensures { λ r. ⌜ Inserted more (payload (now (s .entry))) (now (t .entry)) (now (t .exit)) count r
-        (part (payload (now (s .entry))) (p + 1) n) ⌝ }
+        (bytesAt (payload (now (s .entry))) (p + 1) n) ⌝ }
 {
     let f = find_near(s, t, count, last_of(count), p, n, more);
     if f.some {
         return count;
     }
     let at = f.at;
-    make_room(t, at, count);
+    shift_up(t, at, count);
     t[at] = p as u32;
     count + 1
 }

@@ -7,7 +7,7 @@ ghost use Rattle.stream.specs.Contracts.Payload.{room};
 ghost use Rattle.stream.specs.Numbers.{u16At, u32At, u64At};
 ghost use Rattle.stream.specs.Laws.Numbers.{Bytes};
 ghost use Rattle.names.specs.Contracts.Words.{be16At, be32At, be64At};
-use stream::long;
+use stream::u64_at;
 
 // A number from its two halves.
 fn join16(high: u8, low: u8) -> u16
@@ -55,5 +55,5 @@ pub fn word_at(s: &[u8], p: usize) -> u64
     requires { ⌜ p + 8 ≤ room (now s) ⌝ }
     ensures { λ r. ⌜ r ≡ be64At (payload (now (s .entry))) p ⌝ }
 {
-    swap8(long(s, 0, p))
+    swap8(u64_at(s, 0, p))
 }

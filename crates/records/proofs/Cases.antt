@@ -9,24 +9,24 @@ use lib.ListN.{length, getD}
 use lib.Dec.{eqb, leb, ltb}
 use borrow.Author.Tests.{le-leb, lt-leb, lt-ltb, le-ltb, eq-eqb, ne-eqb}
 use Rattle.stream.specs.Numbers.{u16At}
-use Rattle.records.specs.declared.records.Record.the-variants.{Rescale, Choice, Feature, Variable, Place, Item, Points, Path}
+use Rattle.records.specs.declared.records.Record.the-variants.{Rescale, Option, Feature, Variable, Place, Item, Points, Path}
 use Rattle.records.specs.declared.records.Step.{Step}
 use Rattle.records.specs.declared.records.Step.the-variants.{Got, End, Bad}
-use Rattle.records.specs.Records.{pick, plains, named, labelled, namedThen, counted, allZero, choiceWidth, choiceFits, valuesWidth, itemBegins, itemFits, itemWith}
-use Rattle.records.specs.Records.{endOf, rescaleOf, choiceOf, featureOf, variableOf, placeOf, itemOf, pointsOf, pathWith, cubicsOf, polylineOf, pathOf, byTag, recordOf}
+use Rattle.records.specs.Records.{pick, allAsciiGraphic, named, labelled, namedThen, counted, allZero, optionWidth, optionFits, valuesWidth, itemBegins, itemFits, itemWith}
+use Rattle.records.specs.Records.{endOf, rescaleOf, optionOf, featureOf, variableOf, placeOf, itemOf, pointsOf, pathWith, cubicsOf, polylineOf, pathOf, byTag, recordOf}
 
 -- ---- what an option's value takes
 module _ (o : ℕ) where
-  pub width-frame : o ≡ 1 → 1 ≡ choiceWidth o
-  unfolding choiceWidth
+  pub width-frame : o ≡ 1 → 1 ≡ optionWidth o
+  unfolding optionWidth
   width-frame h = rw h refl
 
-  pub width-anchor : o ≡ 2 → 16 ≡ choiceWidth o
-  unfolding choiceWidth
+  pub width-anchor : o ≡ 2 → 16 ≡ optionWidth o
+  unfolding optionWidth
   width-anchor h = rw h refl
 
-  pub width-other : (o ≡ 1 → ⊥) → (o ≡ 2 → ⊥) → 8 ≡ choiceWidth o
-  unfolding choiceWidth
+  pub width-other : (o ≡ 1 → ⊥) → (o ≡ 2 → ⊥) → 8 ≡ optionWidth o
+  unfolding optionWidth
   width-other a b = rw (ne-eqb o 1 a, ne-eqb o 2 b) refl
 
 -- the bytes that a count asks for
@@ -52,14 +52,14 @@ module _ (l : List ℕ) where
     unfolding named
     named-short h = simp (lt-leb (p + 1 + getD l p 0) (length l) h, and-false)
 
-    named-at : p < length l → 1 ≤ getD l p 0 → getD l p 0 ≤ 31 → p + 1 + getD l p 0 ≤ length l → plains l (p + 1) (getD l p 0) ≡ named l p
+    named-at : p < length l → 1 ≤ getD l p 0 → getD l p 0 ≤ 31 → p + 1 + getD l p 0 ≤ length l → allAsciiGraphic l (p + 1) (getD l p 0) ≡ named l p
     unfolding named
     named-at a b c d = simp (lt-ltb p (length l) a, le-leb 1 (getD l p 0) b, le-leb (getD l p 0) 31 c, le-leb (p + 1 + getD l p 0) (length l) d)
 
-    pub named-is : {x n : ℕ} {r : Bool} → p < length l → x ≡ getD l p 0 → n ≡ x → 1 ≤ n → n ≤ 31 → p + 1 + n ≤ length l → r ≡ plains l (p + 1) n → r ≡ named l p
+    pub named-is : {x n : ℕ} {r : Bool} → p < length l → x ≡ getD l p 0 → n ≡ x → 1 ≤ n → n ≤ 31 → p + 1 + n ≤ length l → r ≡ allAsciiGraphic l (p + 1) n → r ≡ named l p
     named-is a x n b c d r =
         let e = n ∙ x in
-        r ∙ ap (λ (k : ℕ). plains l (p + 1) k) e ∙ named-at a (omega arith) (omega arith) (omega arith)
+        r ∙ ap (λ (k : ℕ). allAsciiGraphic l (p + 1) k) e ∙ named-at a (omega arith) (omega arith) (omega arith)
 
     pub label-none : p < length l → getD l p 0 ≡ 0 → true ≡ labelled l p
     unfolding labelled
@@ -106,38 +106,38 @@ module _ (l : List ℕ) where
 
   -- ---- 2
   module _ (o : ℕ) where
-    pub choice-low : o < 1 → false ≡ choiceFits l o
-    unfolding choiceFits
+    pub choice-low : o < 1 → false ≡ optionFits l o
+    unfolding optionFits
     choice-low h = rw (lt-leb 1 o h) refl
 
-    pub choice-high : 6 < o → false ≡ choiceFits l o
-    unfolding choiceFits
+    pub choice-high : 6 < o → false ≡ optionFits l o
+    unfolding optionFits
     choice-high h = rw (lt-leb o 6 h, and-false) refl
 
-    pub choice-short : length l < 2 + choiceWidth o → false ≡ choiceFits l o
-    unfolding choiceFits
-    choice-short h = simp (lt-leb (2 + choiceWidth o) (length l) h, and-false)
+    pub choice-short : length l < 2 + optionWidth o → false ≡ optionFits l o
+    unfolding optionFits
+    choice-short h = simp (lt-leb (2 + optionWidth o) (length l) h, and-false)
 
-    choice-fits : 1 ≤ o → o ≤ 6 → 2 + choiceWidth o ≤ length l → (ltb 1 o || leb (getD l 2 0) 1) ≡ choiceFits l o
-    unfolding choiceFits
-    choice-fits a b c = simp (le-leb 1 o a, le-leb o 6 b, le-leb (2 + choiceWidth o) (length l) c)
+    choice-fits : 1 ≤ o → o ≤ 6 → 2 + optionWidth o ≤ length l → (ltb 1 o || leb (getD l 2 0) 1) ≡ optionFits l o
+    unfolding optionFits
+    choice-fits a b c = simp (le-leb 1 o a, le-leb o 6 b, le-leb (2 + optionWidth o) (length l) c)
 
-    pub choice-other : 1 < o → o ≤ 6 → 2 + choiceWidth o ≤ length l → true ≡ choiceFits l o
+    pub choice-other : 1 < o → o ≤ 6 → 2 + optionWidth o ≤ length l → true ≡ optionFits l o
     choice-other a b c = rw (← choice-fits (omega arith) b c, lt-ltb 1 o a) refl
 
-    pub choice-frame : {x : ℕ} → 1 ≤ o → o ≤ 1 → 2 + choiceWidth o ≤ length l → x ≡ getD l 2 0 → leb x 1 ≡ choiceFits l o
+    pub choice-frame : {x : ℕ} → 1 ≤ o → o ≤ 1 → 2 + optionWidth o ≤ length l → x ≡ getD l 2 0 → leb x 1 ≡ optionFits l o
     choice-frame a b c x = rw (← choice-fits a (omega arith) c, le-ltb 1 o b, x) refl
 
-  pub choice-cut : length l < 2 → Bad ≡ choiceOf l
-  unfolding choiceOf
+  pub choice-cut : length l < 2 → Bad ≡ optionOf l
+  unfolding optionOf
   choice-cut h = rw (lt-leb 2 (length l) h) refl
 
-  pub choice-bad : {o : ℕ} → o ≡ getD l 1 0 → choiceFits l o ≡ false → Bad ≡ choiceOf l
-  unfolding choiceOf
+  pub choice-bad : {o : ℕ} → o ≡ getD l 1 0 → optionFits l o ≡ false → Bad ≡ optionOf l
+  unfolding optionOf
   choice-bad o h = rw (← o, h, and-false) refl
 
-  pub choice-is : {o w : ℕ} → 2 ≤ length l → o ≡ getD l 1 0 → choiceFits l o ≡ true → w ≡ choiceWidth o → Got (Choice o) (2 + w) ≡ choiceOf l
-  unfolding choiceOf
+  pub choice-is : {o w : ℕ} → 2 ≤ length l → o ≡ getD l 1 0 → optionFits l o ≡ true → w ≡ optionWidth o → Got (Option o) (2 + w) ≡ optionOf l
+  unfolding optionOf
   choice-is a o h w = rw (w, ← o, h, le-leb 2 (length l) a) refl
 
   -- ---- 3, 4 and 5: what a name and so many bytes make

@@ -4,4 +4,4 @@ pub mod Names
 pub mod Steps
 pub mod Passes
 pub mod Near
-pub mod Refusing
+pub mod RefusalNumbers

@@ -11,7 +11,7 @@ use borrow.Author.Tests.{lt-ltb, le-ltb, eq-eqb, ne-eqb}
 use Rattle.stream.specs.Payload.{payload}
 use Rattle.stream.specs.Contracts.Payload.{room, rest}
 use Rattle.records.specs.Layout.{before}
-use Rattle.records.specs.Records.{part}
+use Rattle.records.specs.Records.{bytesAt}
 use Rattle.records.specs.Laws.Names.{name-length, name-at}
 
 none-after : (l : List ℕ) → before l [] ≡ false
@@ -47,30 +47,30 @@ module _ (a b : List ℕ) (i : ℕ) where
 
 -- the same of two parts of a payload, and of the values that the code has
 module _ (s : List ℕ) (p n q m i : ℕ) (u : p + n ≤ room s) (v : q + m ≤ room s) where
-  len-a : length (part (payload s) p n) ≡ n
+  len-a : length (bytesAt (payload s) p n) ≡ n
   len-a = name-length s p n u
 
-  len-b : length (part (payload s) q m) ≡ m
+  len-b : length (bytesAt (payload s) q m) ≡ m
   len-b = name-length s q m v
 
-  pub end-b : m ≤ i → before (drop i (part (payload s) p n)) (drop i (part (payload s) q m)) ≡ false
+  pub end-b : m ≤ i → before (drop i (bytesAt (payload s) p n)) (drop i (bytesAt (payload s) q m)) ≡ false
   end-b h = second-ends _ _ i (omega (arith, len-b))
 
-  pub end-a : n ≤ i → i < m → before (drop i (part (payload s) p n)) (drop i (part (payload s) q m)) ≡ true
+  pub end-a : n ≤ i → i < m → before (drop i (bytesAt (payload s) p n)) (drop i (bytesAt (payload s) q m)) ≡ true
   end-a h k = first-ends _ _ i (omega (arith, len-a)) (omega (arith, len-b))
 
   module _ (h : i < n) (k : i < m) {x y : ℕ} (ex : x ≡ getD (rest s 0) (p + i) 0) (ey : y ≡ getD (rest s 0) (q + i) 0) where
-    at-a : x ≡ getD (part (payload s) p n) i 0
+    at-a : x ≡ getD (bytesAt (payload s) p n) i 0
     at-a = name-at s p n h ex
 
-    at-b : y ≡ getD (part (payload s) q m) i 0
+    at-b : y ≡ getD (bytesAt (payload s) q m) i 0
     at-b = name-at s q m k ey
 
-    pub is-less : x < y → before (drop i (part (payload s) p n)) (drop i (part (payload s) q m)) ≡ true
+    pub is-less : x < y → before (drop i (bytesAt (payload s) p n)) (drop i (bytesAt (payload s) q m)) ≡ true
     is-less e = less _ _ i (omega (arith, len-a)) (omega (arith, len-b)) (omega (arith, at-a, at-b))
 
-    pub is-greater : y < x → before (drop i (part (payload s) p n)) (drop i (part (payload s) q m)) ≡ false
+    pub is-greater : y < x → before (drop i (bytesAt (payload s) p n)) (drop i (bytesAt (payload s) q m)) ≡ false
     is-greater e = greater _ _ i (omega (arith, len-a)) (omega (arith, len-b)) (omega (arith, at-a, at-b))
 
-    pub is-same : x ≤ y → y ≤ x → before (drop i (part (payload s) p n)) (drop i (part (payload s) q m)) ≡ before (drop (i + 1) (part (payload s) p n)) (drop (i + 1) (part (payload s) q m))
+    pub is-same : x ≤ y → y ≤ x → before (drop i (bytesAt (payload s) p n)) (drop i (bytesAt (payload s) q m)) ≡ before (drop (i + 1) (bytesAt (payload s) p n)) (drop (i + 1) (bytesAt (payload s) q m))
     is-same e f = same _ _ i (omega (arith, len-a)) (omega (arith, len-b)) (omega (arith, at-a, at-b))

@@ -8,31 +8,31 @@ use lib.Ieee.{Float, le, neg}
 use Rattle.stream.specs.declared.Float64.{Float64}
 use Rattle.stream.specs.declared.Float64.the-variants.{Finite, NotFinite}
 use Rattle.records.specs.declared.records.Record.{Record}
-use Rattle.records.specs.declared.records.Record.the-variants.{Rescale, Choice, Feature, Variable, Place, Item, Points, Path}
-use Rattle.records.specs.Records.{choiceWidth, valuesWidth}
-use Rattle.records.specs.Limits.{number, near, million, choiceFloats, limitedAt}
-use Rattle.records.specs.Contracts.Floats.{fine, fines}
+use Rattle.records.specs.declared.records.Record.the-variants.{Rescale, Option, Feature, Variable, Place, Item, Points, Path}
+use Rattle.records.specs.Records.{optionWidth, valuesWidth}
+use Rattle.records.specs.Limits.{isFinite, onCanvas, million, optionFloats, limitedAt}
+use Rattle.records.specs.Contracts.Floats.{withinLimit, allWithinLimit}
 
-none : (canvas : Bool) → false ≡ fine canvas NotFinite
-unfolding number near
+none : (canvas : Bool) → false ≡ withinLimit canvas NotFinite
+unfolding isFinite onCanvas
 none true = refl
 none false = refl
 
 module _ (canvas : Bool) {x : Float64} where
-  pub not-finite : x ≡ NotFinite → false ≡ fine canvas x
+  pub not-finite : x ≡ NotFinite → false ≡ withinLimit canvas x
   not-finite e = rw e (none canvas)
 
   module _ {v : Float} (e : x ≡ Finite v) where
-    pub any-finite : canvas ≡ false → true ≡ fine canvas x
-    unfolding number
+    pub any-finite : canvas ≡ false → true ≡ withinLimit canvas x
+    unfolding isFinite
     any-finite c = rw (c, e) refl
 
-    pub low-holds : canvas ≡ true → le (neg million) v ≡ true → le v million ≡ fine canvas x
-    unfolding near
+    pub low-holds : canvas ≡ true → le (neg million) v ≡ true → le v million ≡ withinLimit canvas x
+    unfolding onCanvas
     low-holds c h = rw (c, e, h) refl
 
-    pub low-fails : canvas ≡ true → le (neg million) v ≡ false → le (neg million) v ≡ fine canvas x
-    unfolding near
+    pub low-fails : canvas ≡ true → le (neg million) v ≡ false → le (neg million) v ≡ withinLimit canvas x
+    unfolding onCanvas
     low-fails c h = rw (c, e, h) refl
 
 -- ---- the floats of an option: eight bytes each
@@ -41,49 +41,49 @@ eights true b = refl
 eights false true = refl
 eights false false = refl
 
-choice-floats : (o : ℕ) → choiceWidth o / 8 ≡ choiceFloats o
-unfolding choiceWidth choiceFloats
+choice-floats : (o : ℕ) → optionWidth o / 8 ≡ optionFloats o
+unfolding optionWidth optionFloats
 choice-floats o = eights (eqb o 1) (eqb o 2)
 
 -- ---- of each record, from the values that the code has
 module _ (l : List ℕ) {r : Record} {b : Bool} where
-  pub rescale-floats : r ≡ Rescale → b ≡ fines l false 1 1 → b ≡ limitedAt l r
+  pub rescale-floats : r ≡ Rescale → b ≡ allWithinLimit l false 1 1 → b ≡ limitedAt l r
   unfolding limitedAt
   rescale-floats e h = rw e h
 
-  pub option-floats : {o w : ℕ} → r ≡ Choice o → w ≡ choiceWidth o → b ≡ fines l false 2 (w / 8) → b ≡ limitedAt l r
+  pub option-floats : {o w : ℕ} → r ≡ Option o → w ≡ optionWidth o → b ≡ allWithinLimit l false 2 (w / 8) → b ≡ limitedAt l r
   unfolding limitedAt
   option-floats {o} e w h = rw (e, ← choice-floats o, ← w) h
 
-  pub feature-floats : {n x : ℕ} → r ≡ Feature n → x ≡ n → b ≡ fines l false (2 + x) 2 → b ≡ limitedAt l r
+  pub feature-floats : {n x : ℕ} → r ≡ Feature n → x ≡ n → b ≡ allWithinLimit l false (2 + x) 2 → b ≡ limitedAt l r
   unfolding limitedAt
   feature-floats e x h = rw (e, ← x) h
 
-  pub variable-floats : {n x : ℕ} → r ≡ Variable n → x ≡ n → b ≡ fines l false (2 + x) 1 → b ≡ limitedAt l r
+  pub variable-floats : {n x : ℕ} → r ≡ Variable n → x ≡ n → b ≡ allWithinLimit l false (2 + x) 1 → b ≡ limitedAt l r
   unfolding limitedAt
   variable-floats e x h = rw (e, ← x) h
 
-  pub place-floats : {n x : ℕ} → r ≡ Place n → x ≡ n → b ≡ fines l true (2 + x) 2 → b ≡ limitedAt l r
+  pub place-floats : {n x : ℕ} → r ≡ Place n → x ≡ n → b ≡ allWithinLimit l true (2 + x) 2 → b ≡ limitedAt l r
   unfolding limitedAt
   place-floats e x h = rw (e, ← x) h
 
-  pub item-floats : {k f n m x y w : ℕ} → r ≡ Item k f n m → x ≡ n → y ≡ m → w ≡ valuesWidth y → b ≡ fines l true (13 + x) (w / 8) → b ≡ limitedAt l r
+  pub item-floats : {k f n m x y w : ℕ} → r ≡ Item k f n m → x ≡ n → y ≡ m → w ≡ valuesWidth y → b ≡ allWithinLimit l true (13 + x) (w / 8) → b ≡ limitedAt l r
   unfolding limitedAt
   item-floats e x y w h = rw (e, ← x, ← y, ← w) h
 
-  pub points-floats : {k c x : ℕ} → r ≡ Points k c → x ≡ c → b ≡ fines l true 4 (2 * x) → b ≡ limitedAt l r
+  pub points-floats : {k c x : ℕ} → r ≡ Points k c → x ≡ c → b ≡ allWithinLimit l true 4 (2 * x) → b ≡ limitedAt l r
   unfolding limitedAt
   points-floats e x h = rw (e, ← x) h
 
-  pub start-far : {k c f n : ℕ} → r ≡ Path k c f n → f ≡ 0 → b ≡ fines l true 4 2 → b ≡ false → b ≡ limitedAt l r
+  pub start-far : {k c f n : ℕ} → r ≡ Path k c f n → f ≡ 0 → b ≡ allWithinLimit l true 4 2 → b ≡ false → b ≡ limitedAt l r
   unfolding limitedAt
   start-far e z h o = rw (e, z, ← h, o) refl
 
-  pub cubics-floats : {k c f n x : ℕ} → r ≡ Path k c f n → f ≡ 0 → x ≡ n → fines l true 4 2 ≡ true → b ≡ fines l true 22 (6 * x) → b ≡ limitedAt l r
+  pub cubics-floats : {k c f n x : ℕ} → r ≡ Path k c f n → f ≡ 0 → x ≡ n → allWithinLimit l true 4 2 ≡ true → b ≡ allWithinLimit l true 22 (6 * x) → b ≡ limitedAt l r
   unfolding limitedAt
   cubics-floats e z x s h = rw (e, z, s, ← x) h
 
-  pub polyline-floats : {k c f n x : ℕ} → r ≡ Path k c f n → (f ≡ 0 → ⊥) → x ≡ n → b ≡ fines l true 6 (2 * x) → b ≡ limitedAt l r
+  pub polyline-floats : {k c f n x : ℕ} → r ≡ Path k c f n → (f ≡ 0 → ⊥) → x ≡ n → b ≡ allWithinLimit l true 6 (2 * x) → b ≡ limitedAt l r
   unfolding limitedAt
   polyline-floats {f = zero} e z x h = absurd (z refl)
   polyline-floats {f = suc f} e z x h = rw (e, ← x) h

@@ -9,7 +9,7 @@ use Rattle.records.specs.declared.records.Record.{Record}
 use Rattle.records.specs.declared.records.Step.the-variants.{Got, End, Bad}
 use Rattle.records.specs.Records.{recordOf}
 use Rattle.records.specs.Walk.{entries}
-use Rattle.records.specs.Layout.{Pass, go, stop, stepOf, inOrder, laidOutFrom}
+use Rattle.records.specs.Layout.{Pass, ordered, broken, stepOf, inOrder, laidOutFrom}
 use Rattle.records.specs.Limits.{limitedAt, allLimited}
 use Rattle.records.specs.Laws.Walk.{entries-end, entries-bad, ends-end, ends-bad, entries-got, entries-on, ends-on}
 use Rattle.records.specs.Laws.Search.{entries-closed}
@@ -24,12 +24,12 @@ module _ (b : List ℕ) (st : Pass) where
   unfolding laidOutFrom inOrder
   order-end e = rw (ends-end b e, entries-end b e) refl
 
-  pub order-stop : {r : Record} {k : ℕ} → recordOf b ≡ Got r k → stop ≡ stepOf st b r → false ≡ laidOutFrom st b
+  pub order-stop : {r : Record} {k : ℕ} → recordOf b ≡ Got r k → broken ≡ stepOf st b r → false ≡ laidOutFrom st b
   unfolding laidOutFrom inOrder
   order-stop e h = rw (entries-got b e, ← h, and-false) refl
 
 -- from p to p + k
-pub order-go : (l : List ℕ) (p : ℕ) (st : Pass) {t : Pass} {r : Record} {k : ℕ} → recordOf (drop p l) ≡ Got r k → go t ≡ stepOf st (drop p l) r → laidOutFrom st (drop p l) ≡ laidOutFrom t (drop (p + k) l)
+pub order-go : (l : List ℕ) (p : ℕ) (st : Pass) {t : Pass} {r : Record} {k : ℕ} → recordOf (drop p l) ≡ Got r k → ordered t ≡ stepOf st (drop p l) r → laidOutFrom st (drop p l) ≡ laidOutFrom t (drop (p + k) l)
 unfolding laidOutFrom inOrder
 order-go l p st e h = rw (entries-on l p e, ends-on l p e, ← h) refl
 

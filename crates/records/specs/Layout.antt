@@ -5,7 +5,7 @@ use mathlib.Core.List.{List, [], _∷_}
 use lib.ListN.{take, drop}
 use lib.Dec.{eqb, leb, ltb}
 use Rattle.records.specs.declared.records.Record.{Record}
-use Rattle.records.specs.declared.records.Record.the-variants.{Rescale, Choice, Feature, Variable, Place, Item, Points, Path}
+use Rattle.records.specs.declared.records.Record.the-variants.{Rescale, Option, Feature, Variable, Place, Item, Points, Path}
 use Rattle.records.specs.Walk.{Entry, entries, ends}
 
 -- names by their bytes: a comes before b
@@ -29,13 +29,13 @@ pub record Pass : Type 0 where
 abbrev pub start : Pass
 start = record { last = 0; option = 0; name = []; roles = 0 }
 
-pub data Next : Type 0 where
-  go : Pass → Next
-  stop : Next
+pub data PassStep : Type 0 where
+  ordered : Pass → PassStep
+  broken : PassStep
 
-abbrev pub turn : Bool → Pass → Next
-turn true p = go p
-turn false p = stop
+abbrev pub orderedIf : Bool → Pass → PassStep
+orderedIf true p = ordered p
+orderedIf false p = broken
 
 -- a tag t has its place after the tags from 1 to t
 abbrev pub follows : Pass → ℕ → Bool
@@ -49,24 +49,24 @@ abbrev pub hasRole : ℕ → ℕ → Bool
 hasRole roles zero = eqb (roles % 2) 1
 hasRole roles (suc r) = eqb (roles / 2) 1
 
-unfoldable pub stepOf : Pass → List ℕ → Record → Next
-stepOf p l Rescale = turn (eqb (p .last) 0) (tagged p 1)
-stepOf p l (Choice o) = turn (follows p 2 && ltb (p .option) o) (record { last = 2; option = o; name = p .name; roles = p .roles })
-stepOf p l (Feature n) = turn (follows p 3) (tagged p 3)
-stepOf p l (Variable n) = turn (follows p 4 && before (p .name) (nameOf l n)) (record { last = 4; option = p .option; name = nameOf l n; roles = p .roles })
-stepOf p l (Place n) = turn (follows p 5) (tagged p 5)
-stepOf p l (Item k f n m) = turn (follows p 6) (record { last = 6; option = p .option; name = p .name; roles = 0 })
-stepOf p l (Points r c) = turn (eqb (p .last) 6 && not (hasRole (p .roles) r)) (record { last = 6; option = p .option; name = p .name; roles = p .roles + suc r })
-stepOf p l (Path r c f k) = turn (eqb (p .last) 6) p
+unfoldable pub stepOf : Pass → List ℕ → Record → PassStep
+stepOf p l Rescale = orderedIf (eqb (p .last) 0) (tagged p 1)
+stepOf p l (Option o) = orderedIf (follows p 2 && ltb (p .option) o) (record { last = 2; option = o; name = p .name; roles = p .roles })
+stepOf p l (Feature n) = orderedIf (follows p 3) (tagged p 3)
+stepOf p l (Variable n) = orderedIf (follows p 4 && before (p .name) (nameOf l n)) (record { last = 4; option = p .option; name = nameOf l n; roles = p .roles })
+stepOf p l (Place n) = orderedIf (follows p 5) (tagged p 5)
+stepOf p l (Item k f n m) = orderedIf (follows p 6) (record { last = 6; option = p .option; name = p .name; roles = 0 })
+stepOf p l (Points r c) = orderedIf (eqb (p .last) 6 && not (hasRole (p .roles) r)) (record { last = 6; option = p .option; name = p .name; roles = p .roles + suc r })
+stepOf p l (Path r c f k) = orderedIf (eqb (p .last) 6) p
 
-abbrev pub onto : Next → (Pass → Bool) → Bool
-onto (go p) f = f p
-onto stop f = false
+abbrev pub whenOrdered : PassStep → (Pass → Bool) → Bool
+whenOrdered (ordered p) f = f p
+whenOrdered broken f = false
 
 -- the end comes after `rescale`
 unfoldable pub inOrder : List Entry → Pass → Bool
 inOrder [] p = leb 1 (p .last)
-inOrder (e ∷ es) p = onto (stepOf p (e .bytes) (e .head)) (λ q. inOrder es q)
+inOrder (e ∷ es) p = whenOrdered (stepOf p (e .bytes) (e .parsed)) (λ q. inOrder es q)
 
 -- from a state on, over the bytes that are left
 unfoldable pub laidOutFrom : Pass → List ℕ → Bool

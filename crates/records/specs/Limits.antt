@@ -8,48 +8,48 @@ use Rattle.stream.specs.Numbers.{floatAt}
 use Rattle.stream.specs.declared.Float64.{Float64}
 use Rattle.stream.specs.declared.Float64.the-variants.{Finite, NotFinite}
 use Rattle.records.specs.declared.records.Record.{Record}
-use Rattle.records.specs.declared.records.Record.the-variants.{Rescale, Choice, Feature, Variable, Place, Item, Points, Path}
+use Rattle.records.specs.declared.records.Record.the-variants.{Rescale, Option, Feature, Variable, Place, Item, Points, Path}
 use Rattle.records.specs.Records.{allTo, valuesWidth}
 use Rattle.records.specs.Walk.{Entry, entries}
 
 abbrev pub million : Float
 million = ofBits binary64 0x412e848000000000
 
-unfoldable pub number : Float64 → Bool
-number NotFinite = false
-number (Finite v) = true
+unfoldable pub isFinite : Float64 → Bool
+isFinite NotFinite = false
+isFinite (Finite v) = true
 
-unfoldable pub near : Float64 → Bool
-near NotFinite = false
-near (Finite v) = le (neg million) v && le v million
+unfoldable pub onCanvas : Float64 → Bool
+onCanvas NotFinite = false
+onCanvas (Finite v) = le (neg million) v && le v million
 
 -- n floats from p on
-abbrev pub numbers : List ℕ → ℕ → ℕ → Bool
-numbers l p n = allTo (λ i. number (floatAt l (p + 8 * i))) n
+abbrev pub allFinite : List ℕ → ℕ → ℕ → Bool
+allFinite l p n = allTo (λ i. isFinite (floatAt l (p + 8 * i))) n
 
-abbrev pub nears : List ℕ → ℕ → ℕ → Bool
-nears l p n = allTo (λ i. near (floatAt l (p + 8 * i))) n
+abbrev pub allOnCanvas : List ℕ → ℕ → ℕ → Bool
+allOnCanvas l p n = allTo (λ i. onCanvas (floatAt l (p + 8 * i))) n
 
 -- how many floats an option has
-unfoldable pub choiceFloats : ℕ → ℕ
-choiceFloats o = cond (eqb o 1) 0 (cond (eqb o 2) 2 1)
+unfoldable pub optionFloats : ℕ → ℕ
+optionFloats o = cond (eqb o 1) 0 (cond (eqb o 2) 2 1)
 
 -- the floats of one record
 unfoldable pub limitedAt : List ℕ → Record → Bool
-limitedAt l Rescale = numbers l 1 1
-limitedAt l (Choice o) = numbers l 2 (choiceFloats o)
-limitedAt l (Feature n) = numbers l (2 + n) 2
-limitedAt l (Variable n) = numbers l (2 + n) 1
-limitedAt l (Place n) = nears l (2 + n) 2
-limitedAt l (Item k f n m) = nears l (13 + n) (valuesWidth m / 8)
-limitedAt l (Points r c) = nears l 4 (2 * c)
-limitedAt l (Path r c zero k) = nears l 4 2 && nears l 22 (6 * k)
-limitedAt l (Path r c (suc f) k) = nears l 6 (2 * k)
+limitedAt l Rescale = allFinite l 1 1
+limitedAt l (Option o) = allFinite l 2 (optionFloats o)
+limitedAt l (Feature n) = allFinite l (2 + n) 2
+limitedAt l (Variable n) = allFinite l (2 + n) 1
+limitedAt l (Place n) = allOnCanvas l (2 + n) 2
+limitedAt l (Item k f n m) = allOnCanvas l (13 + n) (valuesWidth m / 8)
+limitedAt l (Points r c) = allOnCanvas l 4 (2 * c)
+limitedAt l (Path r c zero k) = allOnCanvas l 4 2 && allOnCanvas l 22 (6 * k)
+limitedAt l (Path r c (suc f) k) = allOnCanvas l 6 (2 * k)
 
 -- of all of them
 unfoldable pub allLimited : List Entry → Bool
 allLimited [] = true
-allLimited (e ∷ es) = limitedAt (e .bytes) (e .head) && allLimited es
+allLimited (e ∷ es) = limitedAt (e .bytes) (e .parsed) && allLimited es
 
 unfoldable pub limited : List ℕ → Bool
 limited l = allLimited (entries l 0)

@@ -5,13 +5,13 @@ use mathlib.Core.Bool.{Bool, true, false, _&&_, _||_, cond}
 use lib.ListN.{length, getD, take, drop}
 use lib.Dec.{eqb, leb, ltb}
 use Rattle.stream.specs.Numbers.{u16At}
-use Rattle.records.specs.declared.records.Record.the-variants.{Rescale, Choice, Feature, Variable, Place, Item, Points, Path}
+use Rattle.records.specs.declared.records.Record.the-variants.{Rescale, Option, Feature, Variable, Place, Item, Points, Path}
 use Rattle.records.specs.declared.records.Step.{Step}
 use Rattle.records.specs.declared.records.Step.the-variants.{Got, End, Bad}
 
 -- n bytes from p on
-unfoldable pub part : List ℕ → ℕ → ℕ → List ℕ
-part l p n = take n (drop p l)
+unfoldable pub bytesAt : List ℕ → ℕ → ℕ → List ℕ
+bytesAt l p n = take n (drop p l)
 
 -- `if`, as a function of the test's answer and both arms
 abbrev pub pick : Bool → Step → Step → Step
@@ -19,8 +19,8 @@ pick true a b = a
 pick false a b = b
 
 -- ---- names
-unfoldable pub plain : ℕ → Bool
-plain x = leb 33 x && leb x 126
+unfoldable pub asciiGraphic : ℕ → Bool
+asciiGraphic x = leb 33 x && leb x 126
 
 -- f holds of every number below n
 unfoldable pub allTo : (ℕ → Bool) → ℕ → Bool
@@ -28,14 +28,14 @@ allTo f zero = true
 allTo f (suc n) = allTo f n && f n
 
 -- n such bytes from p on
-abbrev pub plains : List ℕ → ℕ → ℕ → Bool
-plains l p n = allTo (λ i. plain (getD l (p + i) 0)) n
+abbrev pub allAsciiGraphic : List ℕ → ℕ → ℕ → Bool
+allAsciiGraphic l p n = allTo (λ i. asciiGraphic (getD l (p + i) 0)) n
 
 -- a name, its length byte at p
 unfoldable pub named : List ℕ → ℕ → Bool
 named l p =
     ltb p (length l)
-    && (leb 1 (getD l p 0) && (leb (getD l p 0) 31 && (leb (p + 1 + getD l p 0) (length l) && plains l (p + 1) (getD l p 0))))
+    && (leb 1 (getD l p 0) && (leb (getD l p 0) 31 && (leb (p + 1 + getD l p 0) (length l) && allAsciiGraphic l (p + 1) (getD l p 0))))
 
 -- an item's label: a name, or length 0 for none
 unfoldable pub labelled : List ℕ → ℕ → Bool
@@ -63,14 +63,14 @@ unfoldable pub rescaleOf : List ℕ → Step
 rescaleOf l = pick (leb 9 (length l)) (Got Rescale 9) Bad
 
 -- 2: an option, 1 to 6. 1 is frame, a byte of 0 or 1; 2 is anchor, two floats; the others are one float.
-unfoldable pub choiceWidth : ℕ → ℕ
-choiceWidth o = cond (eqb o 1) 1 (cond (eqb o 2) 16 8)
+unfoldable pub optionWidth : ℕ → ℕ
+optionWidth o = cond (eqb o 1) 1 (cond (eqb o 2) 16 8)
 
-unfoldable pub choiceFits : List ℕ → ℕ → Bool
-choiceFits l o = leb 1 o && (leb o 6 && (leb (2 + choiceWidth o) (length l) && (ltb 1 o || leb (getD l 2 0) 1)))
+unfoldable pub optionFits : List ℕ → ℕ → Bool
+optionFits l o = leb 1 o && (leb o 6 && (leb (2 + optionWidth o) (length l) && (ltb 1 o || leb (getD l 2 0) 1)))
 
-unfoldable pub choiceOf : List ℕ → Step
-choiceOf l = pick (leb 2 (length l) && choiceFits l (getD l 1 0)) (Got (Choice (getD l 1 0)) (2 + choiceWidth (getD l 1 0))) Bad
+unfoldable pub optionOf : List ℕ → Step
+optionOf l = pick (leb 2 (length l) && optionFits l (getD l 1 0)) (Got (Option (getD l 1 0)) (2 + optionWidth (getD l 1 0))) Bad
 
 -- 3: a host feature: name, longitude, latitude
 unfoldable pub featureOf : List ℕ → Step
@@ -130,7 +130,7 @@ unfoldable pub byTag : List ℕ → ℕ → Step
 byTag l t =
     pick (eqb t 0) (endOf l)
     (pick (eqb t 1) (rescaleOf l)
-    (pick (eqb t 2) (choiceOf l)
+    (pick (eqb t 2) (optionOf l)
     (pick (eqb t 3) (featureOf l)
     (pick (eqb t 4) (variableOf l)
     (pick (eqb t 5) (placeOf l)

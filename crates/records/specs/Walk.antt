@@ -4,14 +4,14 @@ use mathlib.Core.Bool.{Bool, false}
 use mathlib.Core.List.{List, [], _∷_}
 use lib.Dec.{eqb}
 use Rattle.records.specs.declared.records.Record.{Record}
-use Rattle.records.specs.declared.records.Record.the-variants.{Rescale, Choice, Feature, Variable, Place, Item, Points, Path}
+use Rattle.records.specs.declared.records.Record.the-variants.{Rescale, Option, Feature, Variable, Place, Item, Points, Path}
 use Rattle.records.specs.declared.records.Step.{Step}
 use Rattle.records.specs.declared.records.Step.the-variants.{Got, End, Bad}
 use Rattle.records.specs.Records.{recordOf}
 
 abbrev pub tagOf : Record → ℕ
 tagOf Rescale = 1
-tagOf (Choice o) = 2
+tagOf (Option o) = 2
 tagOf (Feature n) = 3
 tagOf (Variable n) = 4
 tagOf (Place n) = 5
@@ -21,10 +21,10 @@ tagOf (Path r c f n) = 8
 
 pub record Entry : Type 0 where
   pub bytes : List ℕ
-  pub head : Record
+  pub parsed : Record
 
 abbrev pub more : List ℕ → Step → (ℕ → List Entry) → List Entry
-more l (Got r k) f = record { bytes = l; head = r } ∷ f (k - 1)
+more l (Got r k) f = record { bytes = l; parsed = r } ∷ f (k - 1)
 more l End f = []
 more l Bad f = []
 

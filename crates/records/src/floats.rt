@@ -7,10 +7,10 @@ ghost use Rattle.stream.specs.Contracts.Payload.{room, rest};
 ghost use Rattle.records.specs.Records.{recordOf};
 ghost use Rattle.records.specs.declared.records.Step.{Step};
 ghost use Rattle.records.specs.Limits.{limitedAt, limited};
-ghost use Rattle.records.specs.Contracts.Floats.{fine, fines};
+ghost use Rattle.records.specs.Contracts.Floats.{withinLimit, allWithinLimit};
 use crate::records::Record;
 use crate::records::Step;
-use crate::records::choice_width;
+use crate::records::option_width;
 use crate::records::next_record;
 use crate::records::values_width;
 use crate::records::wide;
@@ -18,11 +18,11 @@ use crate::records::wide16;
 use crate::search::tag_at;
 use stream::Float64;
 use stream::float_of;
-use stream::long;
+use stream::u64_at;
 
 // Whether a float is finite and, for a canvas measure, within the limit.
-fn is_fine(canvas: bool, x: Float64) -> bool
-    ensures { λ r. ⌜ r ≡ fine canvas x ⌝ }
+fn is_within_limit(canvas: bool, x: Float64) -> bool
+    ensures { λ r. ⌜ r ≡ withinLimit canvas x ⌝ }
 {
     match x {
         Float64::NotFinite => false,
@@ -36,12 +36,12 @@ fn is_fine(canvas: bool, x: Float64) -> bool
 }
 
 // The same of n floats from p on.
-fn all_fine(part: &[u8], off: usize, canvas: bool, p: usize, n: usize) -> bool
+fn all_within_limit(part: &[u8], off: usize, canvas: bool, p: usize, n: usize) -> bool
     requires { ⌜ (off ≤ room (now part)) × (p + 8 * n ≤ length (rest (now part) off)) ⌝ }
-    ensures { λ r. ⌜ r ≡ fines (rest (now (part .entry)) off) canvas p n ⌝ }
+    ensures { λ r. ⌜ r ≡ allWithinLimit (rest (now (part .entry)) off) canvas p n ⌝ }
 {
     for i in 0..n {
-        if !is_fine(canvas, float_of(long(part, off, p + 8 * i))) {
+        if !is_within_limit(canvas, float_of(u64_at(part, off, p + 8 * i))) {
             return false;
         }
     }
@@ -54,18 +54,18 @@ fn limited_at(part: &[u8], off: usize, r: Record, k: usize) -> bool
     ensures { λ b. ⌜ b ≡ limitedAt (rest (now (part .entry)) off) r ⌝ }
 {
     match r {
-        Record::Rescale => all_fine(part, off, false, 1, 1),
-        Record::Choice(option) => all_fine(part, off, false, 2, choice_width(option) / 8),
-        Record::Feature(name) => all_fine(part, off, false, 2 + wide(name), 2),
-        Record::Variable(name) => all_fine(part, off, false, 2 + wide(name), 1),
-        Record::Place(name) => all_fine(part, off, true, 2 + wide(name), 2),
+        Record::Rescale => all_within_limit(part, off, false, 1, 1),
+        Record::Option(option) => all_within_limit(part, off, false, 2, option_width(option) / 8),
+        Record::Feature(name) => all_within_limit(part, off, false, 2 + wide(name), 2),
+        Record::Variable(name) => all_within_limit(part, off, false, 2 + wide(name), 1),
+        Record::Place(name) => all_within_limit(part, off, true, 2 + wide(name), 2),
         Record::Item {
             kind: _,
             flags: _,
             label,
             has,
         } => {
-            all_fine(
+            all_within_limit(
                 part,
                 off,
                 true,
@@ -73,7 +73,7 @@ fn limited_at(part: &[u8], off: usize, r: Record, k: usize) -> bool
                 values_width(wide(has)) / 8,
             )
         }
-        Record::Points { role: _, count } => all_fine(part, off, true, 4, 2 * wide16(count)),
+        Record::Points { role: _, count } => all_within_limit(part, off, true, 4, 2 * wide16(count)),
         Record::Path {
             role: _,
             closed: _,
@@ -81,9 +81,9 @@ fn limited_at(part: &[u8], off: usize, r: Record, k: usize) -> bool
             count,
         } => {
             if form == 0 {
-                all_fine(part, off, true, 4, 2) && all_fine(part, off, true, 22, 6 * wide16(count))
+                all_within_limit(part, off, true, 4, 2) && all_within_limit(part, off, true, 22, 6 * wide16(count))
             } else {
-                all_fine(part, off, true, 6, 2 * wide16(count))
+                all_within_limit(part, off, true, 6, 2 * wide16(count))
             }
         }
     }

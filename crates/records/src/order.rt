@@ -4,11 +4,11 @@ ghost use Prim.Native.Nat.{_+_, _≤_};
 ghost use lib.ListN.{drop};
 ghost use Rattle.stream.specs.Payload.{payload};
 ghost use Rattle.stream.specs.Contracts.Payload.{room};
-ghost use Rattle.records.specs.Records.{recordOf, part};
+ghost use Rattle.records.specs.Records.{recordOf, bytesAt};
 ghost use Rattle.records.specs.declared.records.Record.{Record};
 ghost use Rattle.records.specs.declared.records.Step.{Step};
 ghost use Rattle.records.specs.Layout.{before, hasRole, stepOf, laidOut};
-ghost use Rattle.records.specs.Contracts.Order.{passOf, nextOf, turnOf, tagOf, Kept, KeptAfter};
+ghost use Rattle.records.specs.Contracts.Order.{passOf, passStepOf, orderStepIf, tagStepOf, StateWithin, StepWithin};
 use crate::records::Record;
 use crate::records::Step;
 use crate::records::next_record;
@@ -27,15 +27,15 @@ pub struct State {
     pub roles: u8,
 }
 
-pub enum Turn {
-    Go(State),
-    Stop,
+pub enum OrderStep {
+    InOrder(State),
+    Broken,
 }
 
 // Whether the n bytes at p come before the m bytes at q.
 fn name_before(s: &[u8], p: usize, n: usize, q: usize, m: usize) -> bool
     requires { ⌜ (p + n ≤ room (now s)) × (q + m ≤ room (now s)) ⌝ }
-    ensures { λ r. ⌜ r ≡ before (part (payload (now (s .entry))) p n) (part (payload (now (s .entry))) q m) ⌝ }
+    ensures { λ r. ⌜ r ≡ before (bytesAt (payload (now (s .entry))) p n) (bytesAt (payload (now (s .entry))) q m) ⌝ }
 {
     let mut i = 0usize;
     while i < m {
@@ -64,36 +64,36 @@ fn has_role(roles: u8, role: u8) -> bool
     roles / 2 == 1
 }
 
-fn go_if(ok: bool, st: State) -> Turn
-    ensures { λ t. ⌜ t ≡ turnOf ok st ⌝ }
+fn step_if(ok: bool, st: State) -> OrderStep
+    ensures { λ t. ⌜ t ≡ orderStepIf ok st ⌝ }
 {
-    if ok { Turn::Go(st) } else { Turn::Stop }
+    if ok { OrderStep::InOrder(st) } else { OrderStep::Broken }
 }
 
 // A record whose tag has its place after the tags from 1 to its own.
-fn tag(st: State, tag: u8) -> Turn
-    ensures { λ t. ⌜ t ≡ tagOf st tag ⌝ }
+fn tag(st: State, tag: u8) -> OrderStep
+    ensures { λ t. ⌜ t ≡ tagStepOf st tag ⌝ }
 {
     let last = st.last;
     if last < 1 {
-        return Turn::Stop;
+        return OrderStep::Broken;
     }
     let mut next = st;
     next.last = tag;
-    go_if(last <= tag, next)
+    step_if(last <= tag, next)
 }
 
 // A variable, which stands at p.
-fn variable(s: &[u8], st: State, p: usize, name: u8) -> Turn
-    requires { ⌜ Kept st (room (now s)) × (p + 2 + name ≤ room (now s)) ⌝ }
-    ensures { λ t. ⌜ nextOf (payload (now (s .entry))) t ≡ stepOf (passOf (payload (now (s .entry))) st) (drop p (payload (now (s .entry)))) (Record.Variable name) ⌝ }
-    ensures { λ t. ⌜ KeptAfter t (room (now (s .entry))) ⌝ }
+fn variable(s: &[u8], st: State, p: usize, name: u8) -> OrderStep
+    requires { ⌜ StateWithin st (room (now s)) × (p + 2 + name ≤ room (now s)) ⌝ }
+    ensures { λ t. ⌜ passStepOf (payload (now (s .entry))) t ≡ stepOf (passOf (payload (now (s .entry))) st) (drop p (payload (now (s .entry)))) (Record.Variable name) ⌝ }
+    ensures { λ t. ⌜ StepWithin t (room (now (s .entry))) ⌝ }
 {
     let at = st.at;
     let len = st.len;
     let n = wide(name);
     if !name_before(s, at, len, p + 2, n) {
-        return Turn::Stop;
+        return OrderStep::Broken;
     }
     let mut next = st;
     next.at = p + 2;
@@ -102,10 +102,10 @@ fn variable(s: &[u8], st: State, p: usize, name: u8) -> Turn
 }
 
 // One record, which stands at p and takes k bytes.
-fn step(s: &[u8], st: State, p: usize, r: Record, k: usize) -> Turn
-    requires { ⌜ Kept st (room (now s)) × (recordOf (drop p (payload (now s))) ≡ Step.Got r k) ⌝ }
-    ensures { λ t. ⌜ nextOf (payload (now (s .entry))) t ≡ stepOf (passOf (payload (now (s .entry))) st) (drop p (payload (now (s .entry)))) r ⌝ }
-    ensures { λ t. ⌜ KeptAfter t (room (now (s .entry))) ⌝ }
+fn step(s: &[u8], st: State, p: usize, r: Record, k: usize) -> OrderStep
+    requires { ⌜ StateWithin st (room (now s)) × (recordOf (drop p (payload (now s))) ≡ Step.Got r k) ⌝ }
+    ensures { λ t. ⌜ passStepOf (payload (now (s .entry))) t ≡ stepOf (passOf (payload (now (s .entry))) st) (drop p (payload (now (s .entry)))) r ⌝ }
+    ensures { λ t. ⌜ StepWithin t (room (now (s .entry))) ⌝ }
 {
     let last = st.last;
     let option = st.option;
@@ -114,11 +114,11 @@ fn step(s: &[u8], st: State, p: usize, r: Record, k: usize) -> Turn
     match r {
         Record::Rescale => {
             next.last = 1;
-            go_if(last == 0, next)
+            step_if(last == 0, next)
         }
-        Record::Choice(o) => {
+        Record::Option(o) => {
             if o <= option {
-                return Turn::Stop;
+                return OrderStep::Broken;
             }
             next.option = o;
             tag(next, 2)
@@ -137,17 +137,17 @@ fn step(s: &[u8], st: State, p: usize, r: Record, k: usize) -> Turn
         }
         Record::Points { role, count: _ } => {
             if has_role(roles, role) {
-                return Turn::Stop;
+                return OrderStep::Broken;
             }
             next.roles = roles + 1 + role;
-            go_if(last == 6, next)
+            step_if(last == 6, next)
         }
         Record::Path {
             role: _,
             closed: _,
             form: _,
             count: _,
-        } => go_if(last == 6, st),
+        } => step_if(last == 6, st),
     }
 }
 
@@ -173,10 +173,10 @@ pub fn layout(s: &[u8]) -> bool
                 return st.last >= 1;
             }
             Step::Got(r, k) => match step(s, st, p, r, k) {
-                Turn::Stop => {
+                OrderStep::Broken => {
                     return false;
                 }
-                Turn::Go(t) => {
+                OrderStep::InOrder(t) => {
                     st = t;
                     p = p + k;
                 }

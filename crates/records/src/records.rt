@@ -3,17 +3,17 @@ ghost use mathlib.Core.Path.{_≡_};
 ghost use Prim.Native.Nat.{_+_, _<_, _≤_};
 ghost use lib.ListN.{length, drop};
 ghost use Rattle.stream.specs.Contracts.Payload.{room, rest};
-ghost use Rattle.records.specs.Records.{plain, plains, named, labelled, namedThen, counted, allZero, choiceWidth, choiceFits, valuesWidth, itemBegins, endOf, rescaleOf, choiceOf, featureOf, variableOf, placeOf, itemOf, pointsOf, pathWith, pathOf, recordOf};
+ghost use Rattle.records.specs.Records.{asciiGraphic, allAsciiGraphic, named, labelled, namedThen, counted, allZero, optionWidth, optionFits, valuesWidth, itemBegins, endOf, rescaleOf, optionOf, featureOf, variableOf, placeOf, itemOf, pointsOf, pathWith, pathOf, recordOf};
 use stream::byte;
-use stream::left;
-use stream::long;
-use stream::short;
+use stream::remaining;
+use stream::u64_at;
+use stream::u16_at;
 
 // A record. Names, floats and pairs stay in the stream, at places that the fields here settle.
 pub enum Record {
     Rescale,
     // an option: which
-    Choice(u8),
+    Option(u8),
     // the name's length
     Feature(u8),
     Variable(u8),
@@ -58,8 +58,8 @@ pub fn wide16(x: u16) -> usize
     x as usize
 }
 
-fn is_plain(x: u8) -> bool
-    ensures { λ r. ⌜ r ≡ plain x ⌝ }
+fn is_ascii_graphic(x: u8) -> bool
+    ensures { λ r. ⌜ r ≡ asciiGraphic x ⌝ }
 {
     if x < 33 {
         return false;
@@ -68,13 +68,13 @@ fn is_plain(x: u8) -> bool
 }
 
 // Whether n bytes from p on are all of 33 to 126, a check between them or not.
-fn apart_plain(part: &[u8], off: usize, p: usize, n: usize) -> bool
+fn split_ascii_graphic(part: &[u8], off: usize, p: usize, n: usize) -> bool
     requires { ⌜ (off ≤ room (now part)) × (p + n ≤ length (rest (now part) off)) ⌝ }
-    ensures { λ r. ⌜ r ≡ plains (rest (now (part .entry)) off) p n ⌝ }
+    ensures { λ r. ⌜ r ≡ allAsciiGraphic (rest (now (part .entry)) off) p n ⌝ }
 {
     let mut i = 0usize;
     while i < n {
-        if !is_plain(byte(part, off, p + i)) {
+        if !is_ascii_graphic(byte(part, off, p + i)) {
             return false;
         }
         i += 1;
@@ -83,13 +83,13 @@ fn apart_plain(part: &[u8], off: usize, p: usize, n: usize) -> bool
 }
 
 // The same of n bytes of the part itself.
-fn run_plain(part: &[u8], at: usize, n: usize) -> bool
+fn contiguous_ascii_graphic(part: &[u8], at: usize, n: usize) -> bool
     requires { ⌜ at + n ≤ length (now part) ⌝ }
-    ensures { λ r. ⌜ r ≡ plains (now (part .entry)) at n ⌝ }
+    ensures { λ r. ⌜ r ≡ allAsciiGraphic (now (part .entry)) at n ⌝ }
 {
     let mut i = 0usize;
     while i < n {
-        if !is_plain(part[at + i]) {
+        if !is_ascii_graphic(part[at + i]) {
             return false;
         }
         i += 1;
@@ -98,15 +98,15 @@ fn run_plain(part: &[u8], at: usize, n: usize) -> bool
 }
 
 // A name seldom has a check between its bytes: it is read where it stands.
-fn all_plain(part: &[u8], off: usize, p: usize, n: usize) -> bool
+fn all_ascii_graphic(part: &[u8], off: usize, p: usize, n: usize) -> bool
     requires { ⌜ (off ≤ room (now part)) × (p + n ≤ length (rest (now part) off)) ⌝ }
-    ensures { λ r. ⌜ r ≡ plains (rest (now (part .entry)) off) p n ⌝ }
+    ensures { λ r. ⌜ r ≡ allAsciiGraphic (rest (now (part .entry)) off) p n ⌝ }
 {
-    let run = stream::run_at(part, off, p, n);
+    let run = stream::contiguous_at(part, off, p, n);
     if run.some {
-        return run_plain(part, run.at, n);
+        return contiguous_ascii_graphic(part, run.at, n);
     }
-    apart_plain(part, off, p, n)
+    split_ascii_graphic(part, off, p, n)
 }
 
 // Whether a name stands at p.
@@ -114,7 +114,7 @@ fn is_name(part: &[u8], off: usize, p: usize) -> bool
     requires { ⌜ off ≤ room (now part) ⌝ }
     ensures { λ r. ⌜ r ≡ named (rest (now (part .entry)) off) p ⌝ }
 {
-    let len = left(part, off);
+    let len = remaining(part, off);
     if p >= len {
         return false;
     }
@@ -128,7 +128,7 @@ fn is_name(part: &[u8], off: usize, p: usize) -> bool
     if len - p - 1 < n {
         return false;
     }
-    all_plain(part, off, p + 1, n)
+    all_ascii_graphic(part, off, p + 1, n)
 }
 
 // Whether a name stands at p, or length 0 for none.
@@ -150,7 +150,7 @@ fn named_then(part: &[u8], off: usize, more: usize) -> bool
     if !is_name(part, off, 1) {
         return false;
     }
-    left(part, off) >= 2 + more + wide(byte(part, off, 1))
+    remaining(part, off) >= 2 + more + wide(byte(part, off, 1))
 }
 
 // Whether a count stands at p, and `each` bytes for each after it.
@@ -158,11 +158,11 @@ fn counts(part: &[u8], off: usize, p: usize, each: usize) -> bool
     requires { ⌜ (off ≤ room (now part)) × (p < 256) × (each < 256) ⌝ }
     ensures { λ r. ⌜ r ≡ counted (rest (now (part .entry)) off) p each ⌝ }
 {
-    let len = left(part, off);
+    let len = remaining(part, off);
     if len < p + 2 {
         return false;
     }
-    len >= p + 2 + each * wide16(short(part, off, p))
+    len >= p + 2 + each * wide16(u16_at(part, off, p))
 }
 
 // Whether the bytes from i on are zeros.
@@ -170,7 +170,7 @@ fn zeros_from(part: &[u8], off: usize, i: usize) -> bool
     requires { ⌜ off ≤ room (now part) ⌝ }
     ensures { λ r. ⌜ r ≡ allZero (drop i (rest (now (part .entry)) off)) ⌝ }
 {
-    let len = left(part, off);
+    let len = remaining(part, off);
     let mut k = i;
     while k < len {
         if byte(part, off, k) != 0 {
@@ -186,10 +186,10 @@ fn zeros(part: &[u8], off: usize) -> bool
     requires { ⌜ off ≤ room (now part) ⌝ }
     ensures { λ r. ⌜ r ≡ allZero (rest (now (part .entry)) off) ⌝ }
 {
-    let len = left(part, off);
+    let len = remaining(part, off);
     let mut i = 0usize;
     while len - i >= 8 {
-        if long(part, off, i) != 0 {
+        if u64_at(part, off, i) != 0 {
             return false;
         }
         i += 8;
@@ -212,15 +212,15 @@ fn read_rescale(part: &[u8], off: usize) -> Step
     requires { ⌜ off ≤ room (now part) ⌝ }
     ensures { λ r. ⌜ r ≡ rescaleOf (rest (now (part .entry)) off) ⌝ }
 {
-    if left(part, off) < 9 {
+    if remaining(part, off) < 9 {
         return Step::Bad;
     }
     Step::Got(Record::Rescale, 9)
 }
 
 // How many bytes an option's value takes.
-pub fn choice_width(option: u8) -> usize
-    ensures { λ r. ⌜ (r ≡ choiceWidth option) × (1 ≤ r) × (r ≤ 16) ⌝ }
+pub fn option_width(option: u8) -> usize
+    ensures { λ r. ⌜ (r ≡ optionWidth option) × (1 ≤ r) × (r ≤ 16) ⌝ }
 {
     if option == 1 {
         return 1;
@@ -231,9 +231,9 @@ pub fn choice_width(option: u8) -> usize
     8
 }
 
-fn choice_fits(part: &[u8], off: usize, option: u8) -> bool
+fn option_fits(part: &[u8], off: usize, option: u8) -> bool
     requires { ⌜ off ≤ room (now part) ⌝ }
-    ensures { λ r. ⌜ r ≡ choiceFits (rest (now (part .entry)) off) option ⌝ }
+    ensures { λ r. ⌜ r ≡ optionFits (rest (now (part .entry)) off) option ⌝ }
 {
     if option < 1 {
         return false;
@@ -241,7 +241,7 @@ fn choice_fits(part: &[u8], off: usize, option: u8) -> bool
     if option > 6 {
         return false;
     }
-    if left(part, off) < 2 + choice_width(option) {
+    if remaining(part, off) < 2 + option_width(option) {
         return false;
     }
     if option > 1 {
@@ -250,18 +250,18 @@ fn choice_fits(part: &[u8], off: usize, option: u8) -> bool
     byte(part, off, 2) <= 1
 }
 
-fn read_choice(part: &[u8], off: usize) -> Step
+fn read_option(part: &[u8], off: usize) -> Step
     requires { ⌜ off ≤ room (now part) ⌝ }
-    ensures { λ r. ⌜ r ≡ choiceOf (rest (now (part .entry)) off) ⌝ }
+    ensures { λ r. ⌜ r ≡ optionOf (rest (now (part .entry)) off) ⌝ }
 {
-    if left(part, off) < 2 {
+    if remaining(part, off) < 2 {
         return Step::Bad;
     }
     let option = byte(part, off, 1);
-    if !choice_fits(part, off, option) {
+    if !option_fits(part, off, option) {
         return Step::Bad;
     }
-    Step::Got(Record::Choice(option), 2 + choice_width(option))
+    Step::Got(Record::Option(option), 2 + option_width(option))
 }
 
 fn read_feature(part: &[u8], off: usize) -> Step
@@ -314,7 +314,7 @@ fn item_begins(part: &[u8], off: usize) -> bool
     requires { ⌜ off ≤ room (now part) ⌝ }
     ensures { λ r. ⌜ r ≡ itemBegins (rest (now (part .entry)) off) ⌝ }
 {
-    if left(part, off) < 4 {
+    if remaining(part, off) < 4 {
         return false;
     }
     if byte(part, off, 1) > 10 {
@@ -333,7 +333,7 @@ fn read_item(part: &[u8], off: usize) -> Step
     if !item_begins(part, off) {
         return Step::Bad;
     }
-    let len = left(part, off);
+    let len = remaining(part, off);
     let kind = byte(part, off, 1);
     let flags = byte(part, off, 2);
     let label = byte(part, off, 3);
@@ -371,7 +371,7 @@ fn read_points(part: &[u8], off: usize) -> Step
     if role > 1 {
         return Step::Bad;
     }
-    let count = short(part, off, 2);
+    let count = u16_at(part, off, 2);
     Step::Got(
         Record::Points {
             role: role,
@@ -391,7 +391,7 @@ fn read_form(part: &[u8], off: usize, form: u8, p: usize, each: usize) -> Step
     }
     let role = byte(part, off, 1);
     let closed = byte(part, off, 2);
-    let count = short(part, off, p);
+    let count = u16_at(part, off, p);
     Step::Got(
         Record::Path {
             role: role,
@@ -407,7 +407,7 @@ fn read_path(part: &[u8], off: usize) -> Step
     requires { ⌜ off ≤ room (now part) ⌝ }
     ensures { λ r. ⌜ r ≡ pathOf (rest (now (part .entry)) off) ⌝ }
 {
-    if left(part, off) < 4 {
+    if remaining(part, off) < 4 {
         return Step::Bad;
     }
     if byte(part, off, 1) > 1 {
@@ -428,13 +428,13 @@ pub fn next_record(part: &[u8], off: usize) -> Step
     requires { ⌜ off ≤ room (now part) ⌝ }
     ensures { λ r. ⌜ r ≡ recordOf (rest (now (part .entry)) off) ⌝ }
 {
-    if left(part, off) == 0 {
+    if remaining(part, off) == 0 {
         return Step::Bad;
     }
     match byte(part, off, 0) {
         0 => read_end(part, off),
         1 => read_rescale(part, off),
-        2 => read_choice(part, off),
+        2 => read_option(part, off),
         3 => read_feature(part, off),
         4 => read_variable(part, off),
         5 => read_place(part, off),

@@ -11,7 +11,7 @@ use crate::search::find;
 use stream::Blocks;
 use stream::Float64;
 use stream::float;
-use stream::judge;
+use stream::check_blocks;
 
 fn is_not_above(x: Float64) -> bool
     ensures { λ r. ⌜ r ≡ notAbove x ⌝ }
@@ -50,10 +50,10 @@ fn values_refusal(s: &[u8]) -> u32
 pub fn refusal(s: &[u8]) -> u32
     ensures { λ r. ⌜ r ≡ refusalOf (now (s .entry)) ⌝ }
 {
-    match judge(s) {
+    match check_blocks(s) {
         Blocks::Size => 1,
         Blocks::Check => 2,
-        Blocks::Fine(_) => {
+        Blocks::Valid(_) => {
             if !layout(s) {
                 return 3;
             }

@@ -8,7 +8,7 @@ use lib.ListN.{length, length-append}
 use Rattle.scene.specs.Scene.{Scene, NamedFeature, NamedValue, sceneOf}
 use Rattle.scene.specs.Laws.Answers.{scene-lists}
 use Rattle.register.specs.declared.survey.Survey.{Survey}
-use Rattle.register.specs.Register.{Event, control, warn, isLon, onto, variableEvents, featureEvents, events, controlsIn, warningsIn, controlsOf}
+use Rattle.register.specs.Register.{Event, control, warn, isLon, consIf, variableEvents, featureEvents, events, controlsIn, warningsIn, controlsOf}
 use Rattle.register.specs.Contracts.Survey.{lonsIn, Surveyed}
 
 pub lon-events : (sc : Scene) (i : ℕ) (vs : List NamedValue) → length (variableEvents sc i vs) ≡ lonsIn vs
@@ -16,7 +16,7 @@ unfolding lonsIn variableEvents
 lon-events sc i [] = refl
 lon-events sc i (v ∷ vs) = by (isLon (v .name)) _ _ (lon-events sc (suc i) vs)
   where
-    by : (b : Bool) (x : Event) (xs : List Event) {k : ℕ} → length xs ≡ k → length (onto b x xs) ≡ cond b (suc k) k
+    by : (b : Bool) (x : Event) (xs : List Event) {k : ℕ} → length xs ≡ k → length (consIf b x xs) ≡ cond b (suc k) k
     by true x xs h = ap suc h
     by false x xs h = h
 

@@ -11,18 +11,18 @@ use lib.Ieee.{Float}
 use Rattle.stream.specs.Payload.{payload}
 use Rattle.stream.specs.Contracts.Payload.{room}
 use Rattle.stream.specs.Laws.Payload.{payload-length}
-use Rattle.records.specs.Records.{part}
+use Rattle.records.specs.Records.{bytesAt}
 use Rattle.records.specs.Laws.Tests.{or-cases}
 use Rattle.scene.specs.Scene.{none, some}
 use Rattle.scene.specs.Laws.Answers.{not-given, is-given}
 use Rattle.scene.specs.Laws.Rising.{same-eq}
-use Rattle.names.specs.Contracts.Table.{Table, Stands, Unmarked, In, Inserted}
-use Rattle.register.specs.declared.controls.Filled as code-filled
+use Rattle.names.specs.Contracts.Table.{Table, NameFits, Unmarked, Contains, Inserted}
+use Rattle.register.specs.declared.controls.FilledBatch as code-filled
 use Rattle.register.specs.declared.mentions.Cursor.{Cursor}
 use Rattle.register.specs.declared.mentions.Mention as code-mention
-use Rattle.register.specs.Contracts.Mentions.{Mention, mentionsAt, mentionBy, moreOf, Heads, Follows, Asked}
+use Rattle.register.specs.Contracts.Mentions.{Mention, mentionsAt, mentionBy, moreOf, MentionFits, Follows, Asked}
 use Rattle.register.specs.Contracts.Gathered.{named, among, Added, Batch}
-use Rattle.register.proofs.Waiting.{same-self}
+use Rattle.register.proofs.Marks.{same-self}
 use Rattle.register.proofs.Reading.{next-of}
 
 -- ---- one mention
@@ -49,25 +49,25 @@ module _ {more : ℕ} {l t : List ℕ} {n : ℕ} {m : Mention} where
         only = λ x i. ⊎-elim inl (λ p. inr (is-named x p)) (h .only x i);
       }
     where
-      new-at : (x : List ℕ) → m .name ≡ x → In more l t′ r x
+      new-at : (x : List ℕ) → m .name ≡ x → Contains more l t′ r x
       new-at x p = rw p at (h .new)
 
       is-named : (x : List ℕ) → x ≡ m .name → named x m (m .lat) ≡ true
       is-named x p = rw (e, p) (same-self (m .name))
 
-module _ (s : List ℕ) (more : ℕ) (m : code-mention.Mention) (h : Heads s more m) where
+module _ (s : List ℕ) (more : ℕ) (m : code-mention.Mention) (h : MentionFits s more m) where
   pub insertable : {t : List ℕ} {n : ℕ} → room s < 33554432 → n < length t → Table more (payload s) t n
-      → (m .at - 1 < 33554432) × Stands more (payload s) (m .at - 1) × (m .len + more ≡ getD (payload s) (m .at - 1) 0) × (m .len + more ≤ 255) × (n < length t) × Table more (payload s) t n
+      → (m .at - 1 < 33554432) × NameFits more (payload s) (m .at - 1) × (m .len + more ≡ getD (payload s) (m .at - 1) 0) × (m .len + more ≤ 255) × (n < length t) × Table more (payload s) t n
   insertable r k d = (
     omega arith,
     record { least = omega arith; fits = omega (arith, payload-length s) },
-    sym (h .head),
+    sym (h .prefix),
     omega arith,
     k,
     d,
   )
 
-  pub added-by : {t t′ : List ℕ} {n r : ℕ} → m .lat .some ≡ true → Inserted more (payload s) t t′ n r (part (payload s) (m .at - 1 + 1) (m .len))
+  pub added-by : {t t′ : List ℕ} {n r : ℕ} → m .lat .some ≡ true → Inserted more (payload s) t t′ n r (bytesAt (payload s) (m .at - 1 + 1) (m .len))
       → Added more (payload s) t t′ n r (mentionBy (payload s) m)
   added-by e i =
       let at : m .at - 1 + 1 ≡ m .at = omega arith in
@@ -99,13 +99,13 @@ pub record Fills (s : List ℕ) (lons : Bool) (c at : Cursor) (n count : ℕ) (t
   pub unmarked : Unmarked t n
   pub enough : count ≤ length (mentionsAt (payload s) lons c)
   pub rest : mentionsAt (payload s) lons at ≡ drop count (mentionsAt (payload s) lons c)
-  pub all : (x : List ℕ) → among x (take count (mentionsAt (payload s) lons c)) ≡ true → In (moreOf lons) (payload s) t n x
-  pub only : (x : List ℕ) → In (moreOf lons) (payload s) t n x → among x (take count (mentionsAt (payload s) lons c)) ≡ true
+  pub all : (x : List ℕ) → among x (take count (mentionsAt (payload s) lons c)) ≡ true → Contains (moreOf lons) (payload s) t n x
+  pub only : (x : List ℕ) → Contains (moreOf lons) (payload s) t n x → among x (take count (mentionsAt (payload s) lons c)) ≡ true
   pub onward : c .q + count ≤ at .q
   pub fits : count ≡ 0 ⊎ (c .q < room s)
   pub few : n ≤ count
 
-nothing-in : (more : ℕ) (l t x : List ℕ) → In more l t 0 x → ⊥
+nothing-in : (more : ℕ) (l t x : List ℕ) → Contains more l t 0 x → ⊥
 nothing-in more l t x i = omega (arith, i .within)
 
 pub fills-none : {s : List ℕ} {lons : Bool} {c : Cursor} {t runs : List ℕ} → Follows s lons c runs → Fills s lons c c 0 0 t runs
@@ -141,7 +141,7 @@ module _ {s : List ℕ} {lons : Bool} {c at : Cursor} {n count : ℕ} {t runs : 
   fits-too (inr p) = inr p
 
   -- the batch ends at a cursor from which on there are the same mentions
-  ends-at : (r : code-filled.Filled) (runs′ : List ℕ) → r .n ≡ n → r .count ≡ count → Follows s lons (r .next) runs′ → at .q ≤ r .next .q
+  ends-at : (r : code-filled.FilledBatch) (runs′ : List ℕ) → r .n ≡ n → r .count ≡ count → Follows s lons (r .next) runs′ → at .q ≤ r .next .q
       → mentionsAt (payload s) lons (r .next) ≡ drop count (mentionsAt (payload s) lons c)
       → (n < length t → mentionsAt (payload s) lons (r .next) ≡ []) → Batch s lons c r t runs′
   ends-at r runs′ en ec f o e w =
@@ -197,7 +197,7 @@ module _ {s : List ℕ} {lons : Bool} {c at : Cursor} {n count : ℕ} {t runs : 
               ≡ (among x (take count (mentionsAt (payload s) lons c)) || named x (mentionBy (payload s) m) (mentionBy (payload s) m .lat))
           snoc x = rw (next-take count (mentionsAt (payload s) lons c) _ _ left) (among-snoc x _ _)
 
-          either : (x : List ℕ) → In (moreOf lons) (payload s) t n x ⊎ (named x (mentionBy (payload s) m) (mentionBy (payload s) m .lat) ≡ true)
+          either : (x : List ℕ) → Contains (moreOf lons) (payload s) t n x ⊎ (named x (mentionBy (payload s) m) (mentionBy (payload s) m .lat) ≡ true)
               → (among x (take count (mentionsAt (payload s) lons c)) || named x (mentionBy (payload s) m) (mentionBy (payload s) m .lat)) ≡ true
           either x (inl i) = rw (h .only x i) refl
           either x (inr p) = rw p (or-true (among x (take count (mentionsAt (payload s) lons c))))

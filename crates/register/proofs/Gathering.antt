@@ -13,34 +13,34 @@ use borrow.Author.Tests.{ltb-true, ltb-false, eqb-true, eqb-false}
 use Rattle.stream.specs.Payload.{payload}
 use Rattle.scene.specs.Scene.{Scene, sceneOf}
 use Rattle.scene.specs.Labels.{pointOfLabel}
-use Rattle.scene.specs.Contracts.Answers.{Labels, Variables, placesAt, itemsAt}
+use Rattle.scene.specs.Contracts.Answers.{LabelsFrom, VariablesFrom, placesAt, itemsAt}
 use Rattle.scene.specs.Laws.Answers.{scene-lists, all-labels}
 use Rattle.scene.specs.Laws.Rising.{variables-rising}
 use Rattle.records.specs.Layout.{laidOut}
 use Rattle.similarity.specs.declared.fit.Control.{Control}
-use Rattle.names.specs.Contracts.Table.{nameOf, markOf, marked, In}
+use Rattle.names.specs.Contracts.Table.{nameOf, markOf, marked, Contains}
 use Rattle.names.specs.Contracts.Batch as batch
 use Rattle.similarity.specs.Contracts.Fours.{foursIn}
 use Rattle.register.specs.declared.controls.Tally.{Tally}
-use Rattle.register.specs.declared.controls.Filled as code-filled
+use Rattle.register.specs.declared.controls.FilledBatch as code-filled
 use Rattle.register.specs.declared.mentions.Cursor.{Cursor}
-use Rattle.register.specs.Register.{isSome, Event, resolved, allPlaced, featureEvents, variableEvents, events, controlsIn, controlsOf}
+use Rattle.register.specs.Register.{isSome, Event, resolved, allWithinLimits, featureEvents, variableEvents, events, controlsIn, controlsOf}
 use Rattle.register.specs.declared.survey.Survey.{Survey}
 use Rattle.register.specs.Contracts.Survey.{lonsIn, Surveyed}
 use Rattle.register.specs.Contracts.Mentions.{Mention, featureMentions, eventsOf, mentionsAt, moreOf, Follows}
-use Rattle.register.specs.Contracts.Gathered.{numbersIn, Holds, Gathers, Filling, Batch, Waits, nobody, featured, Forgotten, Ready, Read, againOf, partEvents, baseOf, beforeOf, batchEvents, Earlier, firstCursor}
-use Rattle.register.proofs.Turning.{along}
-use Rattle.register.proofs.Waiting.{in-stays}
+use Rattle.register.specs.Contracts.Gathered.{numbersIn, Holds, Gathers, Filling, Batch, MarksTell, noName, amongFeatures, KnownCleared, BeforeRead, AfterRead, againOf, partEvents, baseOf, beforeOf, batchEvents, Earlier, firstCursor}
+use Rattle.register.proofs.Declarations.{along}
+use Rattle.register.proofs.Marks.{in-stays}
 use Rattle.register.proofs.Reading.{controls-append, numbers-append}
 use Rattle.register.proofs.Counting.{feature-events}
 use Rattle.register.proofs.Parting.{features-length, lons-length, all-features, among-grown, none-come, partMentions, soFar, so-far-length, part-whole, part-batch, part-earlier}
 
 -- ---- after the walk over the labels
-module _ {more : ℕ} {l t t′ : List ℕ} {n : ℕ} {spots : List Float} {used p : ℕ} (d : batch.Noted more l t t′ n spots used p) (w : Labels l p) where
+module _ {more : ℕ} {l t t′ : List ℕ} {n : ℕ} {spots : List Float} {used p : ℕ} (d : batch.LabelsMatched more l t t′ n spots used p) (w : LabelsFrom l p) where
   resolves-so : (i : ℕ) → pointOfLabel (nameOf more l (getD t i 0)) (placesAt l p) (itemsAt l p) ≡ resolved (sceneOf l) (nameOf more l (getD t′ i 0))
   resolves-so i = rw (d .names i, scene-lists l .2, scene-lists l .3) (all-labels l p (nameOf more l (getD t i 0)) w refl)
 
-  pub noted-waits : Waits (sceneOf l) more l t′ n spots nobody
+  pub noted-waits : MarksTell (sceneOf l) more l t′ n spots noName
   noted-waits =
       record {
         no-more = λ i h m. inl (ap isSome (sym (resolves-so i) ∙ d .none-has i h m));
@@ -49,7 +49,7 @@ module _ {more : ℕ} {l t t′ : List ℕ} {n : ℕ} {spots : List Float} {used
         spot = λ i h m k x. sym (resolves-so i) ∙ d .spot i h m k x;
       }
 
-  pub unused-lost : used ≡ 0 → (x : List ℕ) → In more l t n x → isSome (resolved (sceneOf l) x) ≡ false
+  pub unused-lost : used ≡ 0 → (x : List ℕ) → Contains more l t n x → isSome (resolved (sceneOf l) x) ≡ false
   unused-lost e x k =
       let a : nameOf more l (getD t′ (k .at) 0) ≡ x = rw (d .names (k .at)) (k .is) in
       rw (← a) (ap isSome (sym (resolves-so (k .at)) ∙ d .none-has (k .at) (k .within) (d .unused e (k .at) (k .within))))
@@ -62,13 +62,13 @@ none-marked t (suc n) h = rw (none-marked t n (λ i k. h i (omega arith)), h n (
 -- ---- Holds, where more is known than is asked for
 pub holds-less : {b : Bool} {cs : List Control} {js : List ℕ} {g : Tally} {flat : List Float} {kept : List ℕ} → Holds true cs js g flat kept → Holds b cs js g flat kept
 holds-less h =
-    record { count = h .count; placed = h .placed; controls = λ e. h .controls refl; numbers = λ e. h .numbers refl; as-many = h .as-many; room-for = h .room-for; kept-room = h .kept-room }
+    record { count = h .count; within = h .within; controls = λ e. h .controls refl; numbers = λ e. h .numbers refl; as-many = h .as-many; room-for = h .room-for; kept-room = h .kept-room }
 
 holds-more : {b : Bool} {cs : List Control} {js : List ℕ} {g : Tally} {flat : List Float} {kept : List ℕ} → (b ≡ true) ⊎ (64 < length cs) → Holds b cs js g flat kept → Holds true cs js g flat kept
 holds-more (inl e) h =
-    record { count = h .count; placed = h .placed; controls = λ _. h .controls e; numbers = λ _. h .numbers e; as-many = h .as-many; room-for = h .room-for; kept-room = h .kept-room }
+    record { count = h .count; within = h .within; controls = λ _. h .controls e; numbers = λ _. h .numbers e; as-many = h .as-many; room-for = h .room-for; kept-room = h .kept-room }
 holds-more (inr m) h =
-    record { count = h .count; placed = h .placed; controls = λ _ k. absurd (omega arith); numbers = λ _ k. absurd (omega arith); as-many = h .as-many; room-for = h .room-for; kept-room = h .kept-room }
+    record { count = h .count; within = h .within; controls = λ _ k. absurd (omega arith); numbers = λ _ k. absurd (omega arith); as-many = h .as-many; room-for = h .room-for; kept-room = h .kept-room }
 
 by-ltb : (a b : ℕ) → (ltb a b ≡ true) ⊎ (b ≤ a)
 by-ltb a b = by (ltb a b) refl
@@ -78,7 +78,7 @@ by-ltb a b = by (ltb a b) refl
     by false e = inr (ltb-false a b e)
 
 -- ---- a batch is read
-module _ (s : List ℕ) (lons : Bool) (c : Cursor) (f : code-filled.Filled) (base : ℕ) where
+module _ (s : List ℕ) (lons : Bool) (c : Cursor) (f : code-filled.FilledBatch) (base : ℕ) where
   abbrev sc : Scene
   sc = sceneOf (payload s)
 
@@ -89,15 +89,15 @@ module _ (s : List ℕ) (lons : Bool) (c : Cursor) (f : code-filled.Filled) (bas
   es = batchEvents (payload s) lons base ms
 
   module _ {t t₁ : List ℕ} {spots : List Float} {used p : ℕ}
-      (fill : Filling s lons c f t) (d : batch.Noted (moreOf lons) (payload s) t t₁ (f .n) spots used p) (w : Labels (payload s) p) where
+      (fill : Filling s lons c f t) (d : batch.LabelsMatched (moreOf lons) (payload s) t t₁ (f .n) spots used p) (w : LabelsFrom (payload s) p) where
     -- nothing has one of its names
     module _ {cs : List Control} {js : List ℕ} {g : Tally} {flat : List Float} {kept : List ℕ} (h : Holds true cs js g flat kept) where
       pub batch-lost : used ≡ 0 → Holds true (cs ++ controlsIn es) (js ++ numbersIn base es) g flat kept
       batch-lost e =
-          let o = none-come sc (againOf lons) (featured sc (beforeOf lons (length (sc .features)) base)) ms (λ x k. unused-lost d w e x (fill .all x k)) base in
+          let o = none-come sc (againOf lons) (amongFeatures sc (beforeOf lons (length (sc .features)) base)) ms (λ x k. unused-lost d w e x (fill .all x k)) base in
           rw (o .0, o .1, append-nil, append-nil) h
 
-      module _ {t₂ : List ℕ} (forgot : Forgotten (payload s) (moreOf lons) t₁ t₂ (f .n) (beforeOf lons (length (sc .features)) base)) where
+      module _ {t₂ : List ℕ} (forgot : KnownCleared (payload s) (moreOf lons) t₁ t₂ (f .n) (beforeOf lons (length (sc .features)) base)) where
         pub few : ltb (marked t₁ (f .n)) 65 ≡ true → (i : ℕ) → i < f .n → markOf (getD t₂ i 0) ≤ 64
         few e i k = by (eqb (markOf (getD t₁ i 0)) 65) refl
           where
@@ -105,10 +105,10 @@ module _ (s : List ℕ) (lons : Bool) (c : Cursor) (f : code-filled.Filled) (bas
             by true z = absurd (omega (arith, ltb-true (marked t₁ (f .n)) 65 e, d .full i k (eqb-true (markOf (getD t₁ i 0)) 65 z)))
             by false z = let q = eqb-false (markOf (getD t₁ i 0)) 65 z in omega (arith, forgot .fewer i k, d .most i k)
 
-        abbrev pub ready : Ready (payload s) lons ms t₂ (f .n) spots g flat kept
+        abbrev pub ready : BeforeRead (payload s) lons ms t₂ (f .n) spots g flat kept
         ready =
             record {
-              was = featured sc (beforeOf lons (length (sc .features)) base);
+              was = amongFeatures sc (beforeOf lons (length (sc .features)) base);
               b = ltb (marked t₁ (f .n)) 65;
               cs = cs;
               js = js;
@@ -119,7 +119,7 @@ module _ (s : List ℕ) (lons : Bool) (c : Cursor) (f : code-filled.Filled) (bas
             }
 
         module _ (before : Earlier sc lons base cs) {t₃ : List ℕ} {r : Tally} {flat′ : List Float} {kept′ : List ℕ}
-            (o : Read (payload s) lons ms t₂ t₃ (f .n) spots base (ready .was) (ready .b) cs js r flat′ kept′) where
+            (o : AfterRead (payload s) lons ms t₂ t₃ (f .n) spots base (ready .was) (ready .b) cs js r flat′ kept′) where
           -- each of its names was read, so none waits any more
           all-gone : marked t₃ (f .n) ≡ 0
           all-gone = none-marked t₃ (f .n) (λ i k. by i k (markOf (getD t₃ i 0)) refl)
@@ -180,7 +180,7 @@ module _ {s : List ℕ} {lons : Bool} {g : Tally} {flat₀ : List Float} {kept�
       let z = f (cs ++ controlsIn done) (js ++ numbersIn (baseOf lons scene) done) (h .so-far cs js p q) (rw (h .based) (part-earlier lons scene (h .a) cs q)) in
       rw (e, controls-append done new, numbers-append (baseOf lons scene) done new, n, ← (append-assoc cs (controlsIn done) (controlsIn new)), ← (append-assoc js (numbersIn (baseOf lons scene) done) (numbersIn base new))) z
 
-  pub part-on : {f : code-filled.Filled} {t : List ℕ} {runs′ : List ℕ} → Batch s lons c f t runs′ → (all′ : Tally) (flat′ : List Float) (kept′ : List ℕ)
+  pub part-on : {f : code-filled.FilledBatch} {t : List ℕ} {runs′ : List ℕ} → Batch s lons c f t runs′ → (all′ : Tally) (flat′ : List Float) (kept′ : List ℕ)
       → ((cs : List Control) (js : List ℕ) → Holds true cs js all flat kept → Earlier scene lons base cs
       → Holds true (cs ++ controlsIn (batchEvents (payload s) lons base (take (f .count) (mentionsAt (payload s) lons c)))) (js ++ numbersIn base (batchEvents (payload s) lons base (take (f .count) (mentionsAt (payload s) lons c)))) all′ flat′ kept′)
       → Parted s lons g flat₀ kept₀ (f .next) runs′ (base + f .count) all′ flat′ kept′
@@ -195,16 +195,16 @@ module _ {s : List ℕ} {lons : Bool} {g : Tally} {flat₀ : List Float} {kept�
       }
 
   -- no name is left that has a latitude
-  pub part-end : {f : code-filled.Filled} {t : List ℕ} {runs′ : List ℕ} → Batch s lons c f t runs′ → f .n ≡ 0 → 1 ≤ length t
+  pub part-end : {f : code-filled.FilledBatch} {t : List ℕ} {runs′ : List ℕ} → Batch s lons c f t runs′ → f .n ≡ 0 → 1 ≤ length t
       → (cs : List Control) (js : List ℕ) → Holds true cs js g flat₀ kept₀ → Earlier scene lons 0 cs
       → Holds true (cs ++ controlsIn (partEvents lons scene)) (js ++ numbersIn (baseOf lons scene) (partEvents lons scene)) all flat kept
   part-end {f} {t} d e m cs js p q =
       let y : drop (f .count) (mentionsAt (payload s) lons c) ≡ [] = sym (d .rest) ∙ d .ends (omega arith) in
       let n : length whole ≤ h .a + f .count = omega (arith, h .enough, ap length y, length-drop (f .count) (mentionsAt (payload s) lons c), ap length (h .rest), length-drop (h .a) whole) in
-      let z = more-done (f .count) all flat kept (λ us vs r o. let b = none-come scene (againOf lons) (featured scene (beforeOf lons (length (scene .features)) base)) (take (f .count) (mentionsAt (payload s) lons c)) (λ x k. absurd (nobody-in e (d .filling .all x k))) base in rw (b .0, b .1, append-nil, append-nil) r) cs js p q in
+      let z = more-done (f .count) all flat kept (λ us vs r o. let b = none-come scene (againOf lons) (amongFeatures scene (beforeOf lons (length (scene .features)) base)) (take (f .count) (mentionsAt (payload s) lons c)) (λ x k. absurd (nobody-in e (d .filling .all x k))) base in rw (b .0, b .1, append-nil, append-nil) r) cs js p q in
       rw (← (part-whole lons scene)) (rw (take-all (h .a + f .count) whole n) at z)
     where
-      nobody-in : {more : ℕ} {l t : List ℕ} {n : ℕ} {x : List ℕ} → n ≡ 0 → In more l t n x → ⊥
+      nobody-in : {more : ℕ} {l t : List ℕ} {n : ℕ} {x : List ℕ} → n ≡ 0 → Contains more l t n x → ⊥
       nobody-in z k = let w = k .within in omega arith
 
 pub more-few : (lons : Bool) {more : ℕ} → more ≡ moreOf lons → more ≤ 4
@@ -224,7 +224,7 @@ module _ {l : List ℕ} {v : Survey} (o : Surveyed l v) where
   part-base true e = omega (arith, e, surveyed-features o)
   part-base false e = omega arith
 
-first-mentions : (l : List ℕ) (lons : Bool) (vars : ℕ) → Variables l vars → mentionsAt l lons (firstCursor lons vars) ≡ partMentions lons (sceneOf l)
+first-mentions : (l : List ℕ) (lons : Bool) (vars : ℕ) → VariablesFrom l vars → mentionsAt l lons (firstCursor lons vars) ≡ partMentions lons (sceneOf l)
 first-mentions l true vars e = rw (scene-lists l .1, e .all) refl
 first-mentions l false vars e = rw (scene-lists l .0) refl
 
@@ -270,6 +270,6 @@ pub none-before-all : (sc : Scene) → Earlier sc false 0 []
 unfolding featureMentions eventsOf controlsIn
 none-before-all sc = omega arith
 
-pub none-held : {flat : List Float} {kept : List ℕ} → length flat ≡ 256 → length kept ≡ 64 → Holds true [] [] (record { n = 0; placed = true }) flat kept
-unfolding allPlaced foursIn
-none-held f k = record { count = refl; placed = refl; controls = λ _ _. refl; numbers = λ _ _. refl; as-many = refl; room-for = f; kept-room = k }
+pub none-held : {flat : List Float} {kept : List ℕ} → length flat ≡ 256 → length kept ≡ 64 → Holds true [] [] (record { n = 0; within = true }) flat kept
+unfolding allWithinLimits foursIn
+none-held f k = record { count = refl; within = refl; controls = λ _ _. refl; numbers = λ _ _. refl; as-many = refl; room-for = f; kept-room = k }

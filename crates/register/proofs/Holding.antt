@@ -15,7 +15,7 @@ use Rattle.similarity.specs.declared.fit.Control.{Control}
 use Rattle.similarity.specs.Contracts.Fours.{withFour}
 use Rattle.similarity.specs.Laws.Fours.{four-length, four-more}
 use Rattle.register.specs.declared.controls.Tally.{Tally}
-use Rattle.register.specs.Register.{placed, allPlaced}
+use Rattle.register.specs.Register.{withinLimits, allWithinLimits}
 use Rattle.register.specs.Contracts.Gathered.{upTo65, controlBy, Holds}
 
 pub both : (a b : Bool) {r : Bool} → ((a ≡ true) × (r ≡ b)) ⊎ ((a ≡ false) × (r ≡ false)) → r ≡ (a && b)
@@ -25,10 +25,10 @@ both false b (inl h) = cc
 both false b (inr h) = h .1
 
 -- ---- one more in a list
-placed-append : (cs : List Control) (c : Control) → allPlaced (cs ++ c ∷ []) ≡ (allPlaced cs && placed (c .lon) (c .lat))
-unfolding allPlaced
-placed-append [] c = and-true (placed (c .lon) (c .lat))
-placed-append (d ∷ cs) c = rw (placed-append cs c) (sym (and-assoc (placed (d .lon) (d .lat)) (allPlaced cs) (placed (c .lon) (c .lat))))
+placed-append : (cs : List Control) (c : Control) → allWithinLimits (cs ++ c ∷ []) ≡ (allWithinLimits cs && withinLimits (c .lon) (c .lat))
+unfolding allWithinLimits
+placed-append [] c = and-true (withinLimits (c .lon) (c .lat))
+placed-append (d ∷ cs) c = rw (placed-append cs c) (sym (and-assoc (withinLimits (d .lon) (d .lat)) (allWithinLimits cs) (withinLimits (c .lon) (c .lat))))
 
 length-one : {A : Type 0} (xs : List A) (x : A) → length (xs ++ x ∷ []) ≡ length xs + 1
 length-one xs x = length-append xs (x ∷ [])
@@ -49,9 +49,9 @@ counts n = by (ltb 64 n) refl
 
 -- ---- one more is put
 module _ {b : Bool} {cs : List Control} {js : List ℕ} {g : Tally} {flat : List Float} {kept : List ℕ} (h : Holds b cs js g flat kept) (c : Control) (j : ℕ)
-    {ok : Bool} (e : ok ≡ (g .placed && placed (c .lon) (c .lat))) where
-  placed-now : ok ≡ allPlaced (cs ++ c ∷ [])
-  placed-now = e ∙ rw (h .placed) (sym (placed-append cs c))
+    {ok : Bool} (e : ok ≡ (g .within && withinLimits (c .lon) (c .lat))) where
+  placed-now : ok ≡ allWithinLimits (cs ++ c ∷ [])
+  placed-now = e ∙ rw (h .within) (sym (placed-append cs c))
 
   one-more : (length (cs ++ c ∷ []) ≡ length cs + 1) × (length (js ++ j ∷ []) ≡ length (cs ++ c ∷ []))
   one-more =
@@ -60,11 +60,11 @@ module _ {b : Bool} {cs : List Control} {js : List ℕ} {g : Tally} {flat : List
       let s = h .as-many in
       (p, omega arith)
 
-  pub put-full : 64 ≤ g .n → Holds b (cs ++ c ∷ []) (js ++ j ∷ []) (record { n = 65; placed = ok }) flat kept
+  pub put-full : 64 ≤ g .n → Holds b (cs ++ c ∷ []) (js ++ j ∷ []) (record { n = 65; within = ok }) flat kept
   put-full k =
       record {
         count = sym (many (length (cs ++ c ∷ [])) too-many);
-        placed = placed-now;
+        within = placed-now;
         controls = λ t d. absurd (omega (arith, too-many));
         numbers = λ t d. absurd (omega (arith, too-many));
         as-many = one-more .1;
@@ -79,11 +79,11 @@ module _ {b : Bool} {cs : List Control} {js : List ℕ} {g : Tally} {flat : List
           by (inl p) = omega (arith, h .count ∙ p .1, one-more .0)
           by (inr p) = omega (arith, one-more .0)
 
-  pub put-more : g .n < 64 → Holds b (cs ++ c ∷ []) (js ++ j ∷ []) (record { n = g .n + 1; placed = ok }) (withFour flat (g .n) (c .x) (c .y) (c .lon) (c .lat)) (set kept (g .n) j)
+  pub put-more : g .n < 64 → Holds b (cs ++ c ∷ []) (js ++ j ∷ []) (record { n = g .n + 1; within = ok }) (withFour flat (g .n) (c .x) (c .y) (c .lon) (c .lat)) (set kept (g .n) j)
   put-more k =
       record {
         count = rw next (sym (few (g .n + 1) (omega arith)));
-        placed = placed-now;
+        within = placed-now;
         controls = λ t d. rw (next, add-one (g .n)) (four-more flat (g .n) (c .x) (c .y) (c .lon) (c .lat) (omega (arith, h .room-for)) controlBy ∙ rw (is, h .controls t (omega (arith, is))) refl);
         numbers = λ t d. rw (next, add-one (g .n)) (take-suc-set kept (g .n) j (omega (arith, h .kept-room)) ∙ rw (is, h .numbers t (omega (arith, is))) refl);
         as-many = one-more .1;
@@ -108,7 +108,7 @@ holds-as cs c d f a o h =
     let e : length (cs ++ c ∷ []) ≡ length (cs ++ d ∷ []) = length-one cs c ∙ sym (length-one cs d) in
     record {
       count = h .count ∙ ap upTo65 e;
-      placed = h .placed ∙ placed-append cs c ∙ rw (a, o) (sym (placed-append cs d));
+      within = h .within ∙ placed-append cs c ∙ rw (a, o) (sym (placed-append cs d));
       controls = λ t k. absurd (false≢true (sym f ∙ t));
       numbers = λ t k. absurd (false≢true (sym f ∙ t));
       as-many = h .as-many ∙ e;

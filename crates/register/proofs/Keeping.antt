@@ -13,16 +13,16 @@ use lib.Ieee.{Float}
 use borrow.Author.Tests.{not-true, not-false, eq-eqb, ne-eqb, eqb-true, eqb-false}
 use Rattle.stream.specs.Payload.{payload}
 use Rattle.stream.specs.Contracts.Payload.{room}
-use Rattle.records.specs.Records.{part}
+use Rattle.records.specs.Records.{bytesAt}
 use Rattle.records.specs.Laws.Tests.{and-left}
-use Rattle.scene.specs.declared.numbers.Value.{Value}
+use Rattle.scene.specs.declared.fields.OptionalFloat.{OptionalFloat}
 use Rattle.scene.specs.Scene.{Maybe, none, some, Point, Scene, NamedFeature, sceneOf}
-use Rattle.scene.specs.Labels.{same}
-use Rattle.scene.specs.Contracts.Answers.{Headed, valueBy}
+use Rattle.scene.specs.Labels.{sameBytes}
+use Rattle.scene.specs.Contracts.Answers.{LengthPrefixed, maybeFloat}
 use Rattle.scene.specs.Laws.Rising.{same-eq}
 use Rattle.register.specs.Register.{Warning, Event, control, warn, isSome, resolved, mentioned, eventOf, featureEvent, lonEvent}
 use Rattle.register.specs.Contracts.Gathered.{numbersIn}
-use Rattle.register.specs.Contracts.Warned.{firstIs, called, Heading, kindBy}
+use Rattle.register.specs.Contracts.Warnings.{firstIs, anyNameIs, ResolvedNames, kindBy}
 
 -- ---- the numbers rise, so the first is that of the next event exactly if this is a control point
 abbrev pub isControl : Event → Bool
@@ -77,31 +77,31 @@ taken-more xs i x ys e =
     let g : getD xs i x ≡ x = cc in
     (rw g at (take-suc xs i x h), cc)
 
-mentioned-more : (x : List ℕ) (fs : List NamedFeature) (f : NamedFeature) → mentioned x (fs ++ f ∷ []) ≡ (mentioned x fs || same (f .name) x)
+mentioned-more : (x : List ℕ) (fs : List NamedFeature) (f : NamedFeature) → mentioned x (fs ++ f ∷ []) ≡ (mentioned x fs || sameBytes (f .name) x)
 unfolding mentioned
-mentioned-more x [] f = or-false (same (f .name) x)
-mentioned-more x (g ∷ fs) f = rw (mentioned-more x fs f) (sym (or-assoc (same (g .name) x) (mentioned x fs) (same (f .name) x)))
+mentioned-more x [] f = or-false (sameBytes (f .name) x)
+mentioned-more x (g ∷ fs) f = rw (mentioned-more x fs f) (sym (or-assoc (sameBytes (g .name) x) (mentioned x fs) (sameBytes (f .name) x)))
 
-called-more : (l ps : List ℕ) (p : ℕ) (x : List ℕ) → called l (ps ++ p ∷ []) x ≡ (called l ps x || same (part l (p + 1) (getD l p 0)) x)
-unfolding called
-called-more l [] p x = or-false (same (part l (p + 1) (getD l p 0)) x)
-called-more l (q ∷ ps) p x = rw (called-more l ps p x) (sym (or-assoc (same (part l (q + 1) (getD l q 0)) x) (called l ps x) (same (part l (p + 1) (getD l p 0)) x)))
+called-more : (l ps : List ℕ) (p : ℕ) (x : List ℕ) → anyNameIs l (ps ++ p ∷ []) x ≡ (anyNameIs l ps x || sameBytes (bytesAt l (p + 1) (getD l p 0)) x)
+unfolding anyNameIs
+called-more l [] p x = or-false (sameBytes (bytesAt l (p + 1) (getD l p 0)) x)
+called-more l (q ∷ ps) p x = rw (called-more l ps p x) (sym (or-assoc (sameBytes (bytesAt l (q + 1) (getD l q 0)) x) (anyNameIs l ps x) (sameBytes (bytesAt l (p + 1) (getD l p 0)) x)))
 
 -- the heads one after another, from the k-th on
-module _ (l heads x : List ℕ) (h k : ℕ) (few : h ≤ length heads) (so : called l (take h heads) x ≡ called l (drop k (take h heads)) x) where
-  pub none-called : h ≤ k → false ≡ called l (take h heads) x
-  unfolding called
+module _ (l heads x : List ℕ) (h k : ℕ) (few : h ≤ length heads) (so : anyNameIs l (take h heads) x ≡ anyNameIs l (drop k (take h heads)) x) where
+  pub none-called : h ≤ k → false ≡ anyNameIs l (take h heads) x
+  unfolding anyNameIs
   none-called g = sym (so ∙ rw (drop-of-length-le (take h heads) {i = k} (omega (arith, length-take-le h heads few))) refl)
 
-  module _ (g : k < h) {b : Bool} (is : b ≡ same (part l (getD heads k 0 + 1) (getD l (getD heads k 0) 0)) x) where
-    next : called l (take h heads) x ≡ (b || called l (drop (k + 1) (take h heads)) x)
-    unfolding called
+  module _ (g : k < h) {b : Bool} (is : b ≡ sameBytes (bytesAt l (getD heads k 0 + 1) (getD l (getD heads k 0) 0)) x) where
+    next : anyNameIs l (take h heads) x ≡ (b || anyNameIs l (drop (k + 1) (take h heads)) x)
+    unfolding anyNameIs
     next = so ∙ rw (drop-cons (take h heads) k 0 (omega (arith, length-take-le h heads few)), getD-take h heads k 0 g, ← is, add-one) refl
 
-    pub one-called : b ≡ true → true ≡ called l (take h heads) x
+    pub one-called : b ≡ true → true ≡ anyNameIs l (take h heads) x
     one-called e = sym (next ∙ rw e refl)
 
-    pub other-called : b ≡ false → called l (take h heads) x ≡ called l (drop (k + 1) (take h heads)) x
+    pub other-called : b ≡ false → anyNameIs l (take h heads) x ≡ anyNameIs l (drop (k + 1) (take h heads)) x
     other-called e = next ∙ rw e refl
 
 -- ---- a host feature is a control point if its name resolves and none before has it
@@ -126,18 +126,18 @@ feature-warns sc i f h = by (resolved sc (f .name)) (mentioned (f .name) (take i
     by (some p) false e = absurd (false≢true (sym e))
 
 -- one more host feature f, the i-th
-module _ {s heads : List ℕ} {h : ℕ} (i : ℕ) (f : NamedFeature) (fs : List NamedFeature) (g : drop i (sceneOf (payload s) .features) ≡ f ∷ fs) (d : Heading s heads h (take i (sceneOf (payload s) .features))) where
+module _ {s heads : List ℕ} {h : ℕ} (i : ℕ) (f : NamedFeature) (fs : List NamedFeature) (g : drop i (sceneOf (payload s) .features) ≡ f ∷ fs) (d : ResolvedNames s heads h (take i (sceneOf (payload s) .features))) where
   abbrev before : List NamedFeature
   before = take i (sceneOf (payload s) .features)
 
-  here : (x : List ℕ) → mentioned x (take (suc i) (sceneOf (payload s) .features)) ≡ (mentioned x before || same (f .name) x)
+  here : (x : List ℕ) → mentioned x (take (suc i) (sceneOf (payload s) .features)) ≡ (mentioned x before || sameBytes (f .name) x)
   here x = rw (taken-more _ i f fs g .0) (mentioned-more x before f)
 
-  same-control : (x : List ℕ) → same (f .name) x ≡ true → {b : Bool} → isControl (featureEvent (sceneOf (payload s)) i f) ≡ b → (isSome (resolved (sceneOf (payload s)) x) && not (mentioned x before)) ≡ b
+  same-control : (x : List ℕ) → sameBytes (f .name) x ≡ true → {b : Bool} → isControl (featureEvent (sceneOf (payload s)) i f) ≡ b → (isSome (resolved (sceneOf (payload s)) x) && not (mentioned x before)) ≡ b
   same-control x e c = rw (← same-eq (f .name) x e) (sym (feature-control (sceneOf (payload s)) i f) ∙ c)
 
-  pub heading-same : isControl (featureEvent (sceneOf (payload s)) i f) ≡ false → Heading s heads h (take (suc i) (sceneOf (payload s) .features))
-  heading-same c = record { stands = d .stands; names = λ x. d .names x ∙ rw (here x) (by (isSome (resolved (sceneOf (payload s)) x)) (mentioned x before) (same (f .name) x) (λ e. same-control x e c)) }
+  pub heading-same : isControl (featureEvent (sceneOf (payload s)) i f) ≡ false → ResolvedNames s heads h (take (suc i) (sceneOf (payload s) .features))
+  heading-same c = record { stands = d .stands; names = λ x. d .names x ∙ rw (here x) (by (isSome (resolved (sceneOf (payload s)) x)) (mentioned x before) (sameBytes (f .name) x) (λ e. same-control x e c)) }
     where
       by : (p m t : Bool) → (t ≡ true → (p && not m) ≡ false) → (p && m) ≡ (p && (m || t))
       by false m t k = refl
@@ -145,22 +145,22 @@ module _ {s heads : List ℕ} {h : ℕ} (i : ℕ) (f : NamedFeature) (fs : List 
       by true false true k = absurd (false≢true (sym (k refl)))
       by true false false k = refl
 
-  pub heading-more : {at len : ℕ} → f .name ≡ part (payload s) at len → Headed (payload s) at len → at + len ≤ room s → h < length heads → isControl (featureEvent (sceneOf (payload s)) i f) ≡ true
-      → Heading s (set heads h (at - 1)) (h + 1) (take (suc i) (sceneOf (payload s) .features))
+  pub heading-more : {at len : ℕ} → f .name ≡ bytesAt (payload s) at len → LengthPrefixed (payload s) at len → at + len ≤ room s → h < length heads → isControl (featureEvent (sceneOf (payload s)) i f) ≡ true
+      → ResolvedNames s (set heads h (at - 1)) (h + 1) (take (suc i) (sceneOf (payload s) .features))
   heading-more {at} {len} n a w k c =
       record {
         stands = record { few = omega (arith, length-set heads h (at - 1)); within = λ j g. in-range j g (eqb j h) refl };
-        names = λ x. rw (add-one, take-suc-set heads h (at - 1) k, called-more (payload s) (take h heads) (at - 1) x, back, a .head, ← n, d .names x, here x) (by (isSome (resolved (sceneOf (payload s)) x)) (mentioned x before) (same (f .name) x) (λ e. resolves x e));
+        names = λ x. rw (add-one, take-suc-set heads h (at - 1) k, called-more (payload s) (take h heads) (at - 1) x, back, a .prefix, ← n, d .names x, here x) (by (isSome (resolved (sceneOf (payload s)) x)) (mentioned x before) (sameBytes (f .name) x) (λ e. resolves x e));
       }
     where
       back : at - 1 + 1 ≡ at
       back = omega (arith, a .behind)
 
-      resolves : (x : List ℕ) → same (f .name) x ≡ true → isSome (resolved (sceneOf (payload s)) x) ≡ true
+      resolves : (x : List ℕ) → sameBytes (f .name) x ≡ true → isSome (resolved (sceneOf (payload s)) x) ≡ true
       resolves x e = and-left (isSome (resolved (sceneOf (payload s)) x)) (not (mentioned x before)) (same-control x e c)
 
       in-range : (j : ℕ) → j < h + 1 → (b : Bool) → eqb j h ≡ b → getD (set heads h (at - 1)) j 0 + 1 + getD (payload s) (getD (set heads h (at - 1)) j 0) 0 ≤ room s
-      in-range j g true e = rw (eqb-true j h e, getD-set-same heads h (at - 1) 0 k) (omega (arith, a .head, back))
+      in-range j g true e = rw (eqb-true j h e, getD-set-same heads h (at - 1) 0 k) (omega (arith, a .prefix, back))
       in-range j g false e =
           let o : j ≢ h = eqb-false j h e in
           rw (getD-set-other heads h j (at - 1) 0 o) (d .stands .within j (omega (arith, o)))
@@ -183,16 +183,16 @@ lon-warns sc i name lon (some lat) {b} e h = rw e (by (resolved sc name) (mentio
     by (some p) true e = refl
     by (some p) false e = absurd (false≢true (sym e))
 
-module _ (v : Value) (c : Bool) where
-  pub kind-alone : not (v .some) ≡ true → 2 ≡ kindBy (valueBy v) c
+module _ (v : OptionalFloat) (c : Bool) where
+  pub kind-alone : not (v .some) ≡ true → 2 ≡ kindBy (maybeFloat v) c
   unfolding kindBy
   kind-alone h = rw (not-true (v .some) h) refl
 
   module _ (h : not (v .some) ≡ false) {b : Bool} (e : b ≡ c) where
-    pub kind-again : b ≡ true → 3 ≡ kindBy (valueBy v) c
+    pub kind-again : b ≡ true → 3 ≡ kindBy (maybeFloat v) c
     unfolding kindBy
     kind-again g = rw (not-false (v .some) h, ← e, g) refl
 
-    pub kind-lost : b ≡ false → 2 ≡ kindBy (valueBy v) c
+    pub kind-lost : b ≡ false → 2 ≡ kindBy (maybeFloat v) c
     unfolding kindBy
     kind-lost g = rw (not-false (v .some) h, ← e, g) refl

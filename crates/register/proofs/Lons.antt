@@ -9,9 +9,9 @@ use lib.Seq.{take-append-seam, drop-append-seam, take-append-add, length-take-le
 use borrow.Author.Tests.{not-true, not-false}
 use Rattle.stream.specs.Payload.{payload}
 use Rattle.stream.specs.Contracts.Payload.{room}
-use Rattle.records.specs.Records.{part}
+use Rattle.records.specs.Records.{bytesAt}
 use Rattle.records.specs.Laws.Tests.{and-left}
-use Rattle.scene.specs.Labels.{same}
+use Rattle.scene.specs.Labels.{sameBytes}
 use Rattle.scene.specs.Laws.Names.{same-lengths}
 use Rattle.scene.specs.Laws.Rising.{same-eq}
 use Rattle.register.specs.Register.{geo, suffixLon, suffixLat, stem, ending, isLon}
@@ -21,30 +21,30 @@ use Rattle.register.proofs.RunsNames.{part-split}
 -- ---- by the bytes of a payload
 module _ (s : List ℕ) (p n : ℕ) (h : p + n ≤ room s) where
   -- the last four bytes, and those before them
-  split : 4 ≤ n → part (payload s) p n ≡ part (payload s) p (n - 4) ++ part (payload s) (p + (n - 4)) 4
+  split : 4 ≤ n → bytesAt (payload s) p n ≡ bytesAt (payload s) p (n - 4) ++ bytesAt (payload s) (p + (n - 4)) 4
   split g =
       let d : n - 4 + 4 ≡ n = omega arith in
       rw d at (part-split (payload s) p (n - 4) 4)
 
-  front : length (part (payload s) p (n - 4)) ≡ length (part (payload s) p n) - 4
+  front : length (bytesAt (payload s) p (n - 4)) ≡ length (bytesAt (payload s) p n) - 4
   front = omega (arith, name-length s p n h, name-length s p (n - 4) (omega arith))
 
-  pub stem-at : 4 ≤ n → stem (part (payload s) p n) ≡ part (payload s) p (n - 4)
-  stem-at g = rw (← front, split g) (take-append-seam (part (payload s) p (n - 4)) _)
+  pub stem-at : 4 ≤ n → stem (bytesAt (payload s) p n) ≡ bytesAt (payload s) p (n - 4)
+  stem-at g = rw (← front, split g) (take-append-seam (bytesAt (payload s) p (n - 4)) _)
 
-  pub ending-at : {k : ℕ} → 4 ≤ n → k ≡ p + (n - 4) → ending (part (payload s) p n) ≡ part (payload s) k 4
-  ending-at g e = rw (← front, split g, e) (drop-append-seam (part (payload s) p (n - 4)) _)
+  pub ending-at : {k : ℕ} → 4 ≤ n → k ≡ p + (n - 4) → ending (bytesAt (payload s) p n) ≡ bytesAt (payload s) k 4
+  ending-at g e = rw (← front, split g, e) (drop-append-seam (bytesAt (payload s) p (n - 4)) _)
 
-  pub too-short : n < 4 → false ≡ isLon (part (payload s) p n)
+  pub too-short : n < 4 → false ≡ isLon (bytesAt (payload s) p n)
   unfolding isLon
-  too-short g = rw (same-lengths (ending (part (payload s) p n)) suffixLon (λ e. omega (arith, name-length s p n h, length-drop (length (part (payload s) p n) - 4) (part (payload s) p n)))) refl
+  too-short g = rw (same-lengths (ending (bytesAt (payload s) p n)) suffixLon (λ e. omega (arith, name-length s p n h, length-drop (length (bytesAt (payload s) p n) - 4) (bytesAt (payload s) p n)))) refl
 
-  module _ (g : 4 ≤ n) {t : Bool} (e : t ≡ same (part (payload s) (p + n - 4) 4) suffixLon) where
-    pub other-ending : not t ≡ true → false ≡ isLon (part (payload s) p n)
+  module _ (g : 4 ≤ n) {t : Bool} (e : t ≡ sameBytes (bytesAt (payload s) (p + n - 4) 4) suffixLon) where
+    pub other-ending : not t ≡ true → false ≡ isLon (bytesAt (payload s) p n)
     unfolding isLon
     other-ending k = rw (ending-at {k = p + n - 4} g (omega arith), ← e, not-true t k) refl
 
-    pub lon-ending : {u : Bool} → not t ≡ false → u ≡ same (part (payload s) p (n - 4)) geo → not u ≡ isLon (part (payload s) p n)
+    pub lon-ending : {u : Bool} → not t ≡ false → u ≡ sameBytes (bytesAt (payload s) p (n - 4)) geo → not u ≡ isLon (bytesAt (payload s) p n)
     unfolding isLon
     lon-ending k f = rw (ending-at {k = p + n - 4} g (omega arith), stem-at g, ← e, not-false t k, f) refl
 

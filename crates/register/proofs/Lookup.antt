@@ -12,7 +12,7 @@ use borrow.Author.Tests.{leb-true, leb-false}
 use Rattle.scene.specs.Scene.{NamedValue}
 use Rattle.scene.specs.Labels.{variableOf}
 use Rattle.scene.specs.Laws.Rising.{Rising, before-trans, before-some, lookup-on}
-use Rattle.register.specs.Contracts.Runs.{commonOf, runsOf, Passed}
+use Rattle.register.specs.Contracts.LatLookup.{commonPrefix, prefixStarts, Passed}
 use Rattle.register.specs.Laws.Names.{run-law, common-take}
 
 -- ---- the runs
@@ -27,16 +27,16 @@ module _ (runs : List ℕ) (c q : ℕ) (h : length runs ≡ 32) (k : c < 32) whe
   runs-head : length (take (c + 1) runs) ≡ c + 1
   runs-head = length-take-le (c + 1) runs (omega arith)
 
-  pub runs-length : length (runsOf runs c q) ≡ 32
-  unfolding runsOf
+  pub runs-length : length (prefixStarts runs c q) ≡ 32
+  unfolding prefixStarts
   runs-length = simp (length-append, length-replicate, runs-head) (omega arith)
 
-  runs-kept : (j : ℕ) → j ≤ c → getD (runsOf runs c q) j 0 ≡ getD runs j 0
-  unfolding runsOf
+  runs-kept : (j : ℕ) → j ≤ c → getD (prefixStarts runs c q) j 0 ≡ getD runs j 0
+  unfolding prefixStarts
   runs-kept j g = List·getD-append (take (c + 1) runs) (replicate (31 - c) q) 0 j (omega (arith, runs-head)) ∙ getD-take (c + 1) runs j 0 (omega arith)
 
-  runs-new : (j : ℕ) → c < j → j < 32 → getD (runsOf runs c q) j 0 ≡ q
-  unfolding runsOf
+  runs-new : (j : ℕ) → c < j → j < 32 → getD (prefixStarts runs c q) j 0 ≡ q
+  unfolding prefixStarts
   runs-new j g f =
       let e : j ≡ length (take (c + 1) runs) + (j - (c + 1)) = omega (arith, runs-head) in
       rw e (getD-append-add (take (c + 1) runs) (replicate (31 - c) q) (j - (c + 1)) 0 ∙ getD-replicate (31 - c) (j - (c + 1)) q 0 (omega arith))
@@ -56,22 +56,22 @@ module _ (vars : ℕ → List NamedValue) where
         runs-rise = λ j h. rw (getD-replicate {A = ℕ} 32 j 0 0 h) r;
       }
 
-  module _ {u runs : List ℕ} {q : ℕ} (p : Passed vars u runs q) (v : NamedValue) (next : ℕ) (e : vars q ≡ v ∷ vars next) {c : ℕ} (is : c ≡ commonOf u (v .name)) (h : c < 32) where
+  module _ {u runs : List ℕ} {q : ℕ} (p : Passed vars u runs q) (v : NamedValue) (next : ℕ) (e : vars q ≡ v ∷ vars next) {c : ℕ} (is : c ≡ commonPrefix u (v .name)) (h : c < 32) where
     first : Rising u (v ∷ vars next)
     first = rw e at (p .rising)
 
     module _ (j : ℕ) (g : j < 32) where
-      near-one : (name : List ℕ) → j ≤ length (v .name) → take j name ≡ take j (v .name) → (j ≤ c) ⊎ (c < j) → variableOf name (vars 0) ≡ variableOf name (vars (getD (runsOf runs c q) j 0))
+      near-one : (name : List ℕ) → j ≤ length (v .name) → take j name ≡ take j (v .name) → (j ≤ c) ⊎ (c < j) → variableOf name (vars 0) ≡ variableOf name (vars (getD (prefixStarts runs c q) j 0))
       near-one name i f (inl k) =
           let z : take j u ≡ take j (v .name) = common-take u (v .name) j (omega arith) in
           rw (runs-kept runs c q (p .sized) h j k) (p .near j name g (omega (arith, ap length z, length-take j u, length-take j (v .name))) (f ∙ sym z))
       near-one name i f (inr k) = rw (runs-new runs c q (p .sized) h j k g) (p .later name (run-law u (v .name) name j (first .0) (omega arith) i f))
 
-      rise-one : (j ≤ c) ⊎ (c < j) → Rising [] (vars (getD (runsOf runs c q) j 0))
+      rise-one : (j ≤ c) ⊎ (c < j) → Rising [] (vars (getD (prefixStarts runs c q) j 0))
       rise-one (inl k) = rw (runs-kept runs c q (p .sized) h j k) (p .runs-rise j g)
       rise-one (inr k) = rw (runs-new runs c q (p .sized) h j k g) (rising-any u (vars q) (p .rising))
 
-    pub one-passed : Passed vars (v .name) (runsOf runs c q) next
+    pub one-passed : Passed vars (v .name) (prefixStarts runs c q) next
     one-passed =
         record {
           sized = runs-length runs c q (p .sized) h;

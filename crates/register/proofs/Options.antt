@@ -7,11 +7,11 @@ use Prim.Native.Nat.{ℕ}
 use native.Mathlib.Omega.{arith}
 use lib.Ieee.{Float, binary64, mul, div, lt}
 use Rattle.scene.specs.Scene.{Maybe, some, given, Point, Scene, sceneOf}
-use Rattle.scene.specs.declared.numbers.Value.{Value}
-use Rattle.scene.specs.Contracts.Answers.{valueBy, variablesAt}
+use Rattle.scene.specs.declared.fields.OptionalFloat.{OptionalFloat}
+use Rattle.scene.specs.Contracts.Answers.{maybeFloat, variablesAt}
 use Rattle.register.specs.declared.declared.Geo.{Geo}
 use Rattle.register.specs.Register.{f0, orValue, isSome, var, bothOf, onlyOne, pxMode, declaredBearing, scaleValue, above0, effectiveScale}
-use Rattle.register.specs.Contracts.Survey.{Each, Says}
+use Rattle.register.specs.Contracts.Survey.{Each, Agrees}
 use Rattle.register.specs.Contracts.Outcome.{checkedOf, declaredOutcome}
 
 -- longitude and latitude, the first of them set
@@ -28,15 +28,15 @@ one-alone false true x y = refl
 one-alone false false x y = refl
 
 -- a value or its default
-pub or-given : (r : Value) (m : Maybe Float) (d v : Float) → valueBy r ≡ m → ((r .some ≡ true) × (v ≡ r .value)) ⊎ ((r .some ≡ false) × (v ≡ d)) → v ≡ orValue m d
+pub or-given : (r : OptionalFloat) (m : Maybe Float) (d v : Float) → maybeFloat r ≡ m → ((r .some ≡ true) × (v ≡ r .value)) ⊎ ((r .some ≡ false) × (v ≡ d)) → v ≡ orValue m d
 or-given r m d v e (inl w) = rw (← e, w .0, w .1)
 or-given r m d v e (inr w) = rw (← e, w .0, w .1)
 
 -- 13 does not hold: px is the mode of pixels, r the view's scale
-abbrev pub Seen : Value → Bool → Type 0
+abbrev pub Seen : OptionalFloat → Bool → Type 0
 Seen r px = ((px ≡ true) × (r .some ≡ true) × (lt f0 (r .value) ≡ true)) ⊎ (px ≡ false)
 
-module _ (sc : Scene) (r : Value) (px : Bool) (ex : px ≡ pxMode sc) (ev : valueBy r ≡ sc .viewScale) where
+module _ (sc : Scene) (r : OptionalFloat) (px : Bool) (ex : px ≡ pxMode sc) (ev : maybeFloat r ≡ sc .viewScale) where
   pub seen : Seen r px → pxMode sc && not (above0 (sc .viewScale)) ≡ false
   unfolding above0
   seen (inl w) = rw (← ex, ← ev, w .0, w .1, w .2)
@@ -56,6 +56,6 @@ unfolding declaredOutcome
 by-scale sc a o n v s t e h k es et = rw (← e, h, k, es, et)
 
 -- ---- what variables say, said of the scene's
-pub scene-says : (l : List ℕ) {g : Geo} → Says (variablesAt l 0) g → Each (λ name x. valueBy x ≡ var (sceneOf l) name) g
+pub scene-says : (l : List ℕ) {g : Geo} → Agrees (variablesAt l 0) g → Each (λ name x. maybeFloat x ≡ var (sceneOf l) name) g
 unfolding sceneOf
 scene-says l h = h

@@ -10,20 +10,20 @@ use lib.Ieee.{Float}
 use Rattle.stream.specs.Payload.{payload}
 use Rattle.records.specs.Layout.{before}
 use Rattle.scene.specs.Scene.{Maybe, none, some, Point, Scene, NamedFeature, NamedValue, sceneOf}
-use Rattle.scene.specs.Labels.{same}
+use Rattle.scene.specs.Labels.{sameBytes}
 use Rattle.scene.specs.Contracts.Answers.{featuresAt, variablesAt}
 use Rattle.scene.specs.Laws.Rising.{Rising, before-trans, before-itself, same-eq}
-use Rattle.register.specs.Register.{isSome, Event, resolved, mentioned, eventOf, suffixLon, suffixLat, var, stem, isLon, featureEvent, featureEvents, lonEvent, onto, variableEvents, controlsIn}
+use Rattle.register.specs.Register.{isSome, Event, resolved, mentioned, eventOf, suffixLon, suffixLat, var, stem, isLon, featureEvent, featureEvents, lonEvent, consIf, variableEvents, controlsIn}
 use Rattle.register.specs.Contracts.Mentions.{Mention, featureMentions, lonMention, lonMentions, eventWith, grownBy, eventsOf, mentionsAt, Follows}
 use Rattle.register.specs.declared.mentions.Cursor.{Cursor}
 use Rattle.similarity.specs.declared.fit.Control.{Control}
 use Rattle.register.specs.Contracts.Survey.{lonsIn}
 use Rattle.register.proofs.Lons.{lon-ends}
-use Rattle.register.proofs.Waiting.{same-self}
+use Rattle.register.proofs.Marks.{same-self}
 use Rattle.register.proofs.Reading.{events-length, events-append}
-use Rattle.register.proofs.Forgetting.{mentioned-snoc, grown-features}
+use Rattle.register.proofs.Known.{mentioned-snoc, grown-features}
 use Rattle.register.proofs.Counting.{feature-events, lon-events}
-use Rattle.register.specs.Contracts.Gathered.{numbersIn, named, among, nobody, featured, grownAll, partEvents, baseOf, batchEvents, Earlier}
+use Rattle.register.specs.Contracts.Gathered.{numbersIn, named, among, noName, amongFeatures, grownAll, partEvents, baseOf, batchEvents, Earlier}
 
 -- ---- names that were before, by equal functions
 grown-cong : (was was′ : List ℕ → Bool) (x : List ℕ) (lat : Maybe Float) → ((y : List ℕ) → was y ≡ was′ y) → (y : List ℕ) → grownBy was x lat y ≡ grownBy was′ x lat y
@@ -58,7 +58,7 @@ among-grown was (m ∷ ms) y h = by (m .lat) refl (named y m (m .lat)) refl (amo
     by : (lat : Maybe Float) → m .lat ≡ lat → (b : Bool) → named y m (m .lat) ≡ b → (among y ms ≡ true → grownAll (grownBy was (m .name) (m .lat)) ms y ≡ true) → grownAll (grownBy was (m .name) (m .lat)) ms y ≡ true
     by lat e false f g = g (rw f at h)
     by none e true f g = absurd (false≢true (rw e at f))
-    by (some lat) e true f g = was-stays _ ms y (rw e (or-true (was y) (same (m .name) y) (rw e at f)))
+    by (some lat) e true f g = was-stays _ ms y (rw e (or-true (was y) (sameBytes (m .name) y) (rw e at f)))
 
 -- ---- mentions that come to no control point
 module _ (sc : Scene) (again : ℕ) where
@@ -93,9 +93,9 @@ module _ (sc : Scene) where
       let t = features-are (grownBy was (f .name) (some (f .lat))) (suc i) (us ++ f ∷ []) fs (rw e (sym (append-assoc us (f ∷ []) fs))) (omega (arith, length-append us (f ∷ []))) (λ y. rw (w y) (sym (mentioned-snoc y us f))) in
       rw (z, w (f .name)) (ap (λ (x : List Event). eventOf (resolved sc (f .name)) (mentioned (f .name) us) (f .lon) (f .lat) (record { kind = 2; index = i }) (record { kind = 2; index = i }) ∷ x) t)
 
-  pub all-features : featureEvents sc 0 (sc .features) ≡ eventsOf sc 2 nobody (featureMentions 0 (sc .features))
+  pub all-features : featureEvents sc 0 (sc .features) ≡ eventsOf sc 2 noName (featureMentions 0 (sc .features))
   unfolding mentioned
-  all-features = features-are nobody 0 [] (sc .features) refl refl (λ y. refl)
+  all-features = features-are noName 0 [] (sc .features) refl refl (λ y. refl)
 
   mentions-take : (a i : ℕ) (fs : List NamedFeature) → take a (featureMentions i fs) ≡ featureMentions i (take a fs)
   unfolding featureMentions
@@ -104,15 +104,15 @@ module _ (sc : Scene) where
   mentions-take (suc a) i (f ∷ fs) = ap (λ (x : List Mention). record { name = f .name; lon = f .lon; lat = some (f .lat); index = i } ∷ x) (mentions-take a (suc i) fs)
 
   pub features-length : length (featureMentions 0 (sc .features)) ≡ length (sc .features)
-  features-length = sym (events-length sc 2 nobody (featureMentions 0 (sc .features))) ∙ ap length (sym all-features) ∙ feature-events sc 0 (sc .features)
+  features-length = sym (events-length sc 2 noName (featureMentions 0 (sc .features))) ∙ ap length (sym all-features) ∙ feature-events sc 0 (sc .features)
 
   -- a batch of k more
   features-batch : (a k : ℕ) → let ms = featureMentions 0 (sc .features) in
-      eventsOf sc 2 nobody (take (a + k) ms) ≡ eventsOf sc 2 nobody (take a ms) ++ eventsOf sc 2 (featured sc a) (take k (drop a ms))
+      eventsOf sc 2 noName (take (a + k) ms) ≡ eventsOf sc 2 noName (take a ms) ++ eventsOf sc 2 (amongFeatures sc a) (take k (drop a ms))
   features-batch a k =
       let ms = featureMentions 0 (sc .features) in
-      ap (eventsOf sc 2 nobody) (take-add a k ms) ∙ events-append sc 2 nobody (take a ms) (take k (drop a ms))
-      ∙ ap (λ (x : List Event). eventsOf sc 2 nobody (take a ms) ++ x) (events-cong sc 2 (grownAll nobody (take a ms)) (featured sc a) (take k (drop a ms)) (λ y. rw (mentions-take a 0 (sc .features)) (grown-features nobody 0 (take a (sc .features)) y)))
+      ap (eventsOf sc 2 noName) (take-add a k ms) ∙ events-append sc 2 noName (take a ms) (take k (drop a ms))
+      ∙ ap (λ (x : List Event). eventsOf sc 2 noName (take a ms) ++ x) (events-cong sc 2 (grownAll noName (take a ms)) (amongFeatures sc a) (take k (drop a ms)) (λ y. rw (mentions-take a 0 (sc .features)) (grown-features noName 0 (take a (sc .features)) y)))
 
 -- ---- `_lon` variables
 -- with no regard to each other
@@ -133,7 +133,7 @@ module _ (sc : Scene) where
   mention-events i [] = refl
   mention-events i (v ∷ vs) = rw (mention-events (suc i) vs) (by (isLon (v .name)) (lonMention sc i v) (lonMentions sc (suc i) vs))
     where
-      by : (b : Bool) (m : Mention) (ms : List Mention) → onto b (eventAt sc m) (eventsAt sc ms) ≡ eventsAt sc (cond b (m ∷ ms) ms)
+      by : (b : Bool) (m : Mention) (ms : List Mention) → consIf b (eventAt sc m) (eventsAt sc ms) ≡ eventsAt sc (cond b (m ∷ ms) ms)
       by true m ms = refl
       by false m ms = refl
 
@@ -149,10 +149,10 @@ module _ (sc : Scene) where
   lon-name : (name : List ℕ) → isLon name ≡ true → stem name ++ suffixLon ≡ name
   lon-name name h = rw (← (lon-ends name h)) (take-append-drop (length name - 4) name)
 
-  other-stem : (u name : List ℕ) → isLon u ≡ true → isLon name ≡ true → before u name ≡ true → same (stem u) (stem name) ≡ false
-  other-stem u name h k b = by (same (stem u) (stem name)) refl
+  other-stem : (u name : List ℕ) → isLon u ≡ true → isLon name ≡ true → before u name ≡ true → sameBytes (stem u) (stem name) ≡ false
+  other-stem u name h k b = by (sameBytes (stem u) (stem name)) refl
     where
-      by : (t : Bool) → same (stem u) (stem name) ≡ t → same (stem u) (stem name) ≡ false
+      by : (t : Bool) → sameBytes (stem u) (stem name) ≡ t → sameBytes (stem u) (stem name) ≡ false
       by false e = e
       by true e =
           let z : u ≡ name = sym (lon-name u h) ∙ ap (λ (x : List ℕ). x ++ suffixLon) (same-eq (stem u) (stem name) e) ∙ lon-name name k in
@@ -189,10 +189,10 @@ module _ (sc : Scene) where
 
   -- a batch of k more, behind the first a of them
   pub lons-batch : (a k : ℕ) (u : List ℕ) (i : ℕ) (vs : List NamedValue) (ms : List Mention) → drop a ms ≡ lonMentions sc i vs → Rising u vs
-      → eventsAt sc (take (a + k) ms) ≡ eventsAt sc (take a ms) ++ eventsOf sc 3 (featured sc (length (sc .features))) (take k (drop a ms))
+      → eventsAt sc (take (a + k) ms) ≡ eventsAt sc (take a ms) ++ eventsOf sc 3 (amongFeatures sc (length (sc .features))) (take k (drop a ms))
   lons-batch a k u i vs ms e r =
       ap (eventsAt sc) (take-add a k ms) ∙ at-append (take a ms) (take k (drop a ms))
-      ∙ ap (λ (x : List Event). eventsAt sc (take a ms) ++ x) (rw e (lons-apart (featured sc (length (sc .features))) u i k vs r (λ name l m. rw take-length refl)))
+      ∙ ap (λ (x : List Event). eventsAt sc (take a ms) ++ x) (rw e (lons-apart (amongFeatures sc (length (sc .features))) u i k vs r (λ name l m. rw take-length refl)))
 
 -- ---- a part of the names
 abbrev pub partMentions : Bool → Scene → List Mention
@@ -202,11 +202,11 @@ partMentions false sc = featureMentions 0 (sc .features)
 -- what its first mentions come to
 abbrev pub soFar : Bool → Scene → List Mention → List Event
 soFar true sc ms = eventsAt sc ms
-soFar false sc ms = eventsOf sc 2 nobody ms
+soFar false sc ms = eventsOf sc 2 noName ms
 
 pub so-far-length : (lons : Bool) (sc : Scene) (ms : List Mention) → length (soFar lons sc ms) ≡ length ms
 so-far-length true sc ms = at-length sc ms
-so-far-length false sc ms = events-length sc 2 nobody ms
+so-far-length false sc ms = events-length sc 2 noName ms
 
 pub part-whole : (lons : Bool) (sc : Scene) → soFar lons sc (partMentions lons sc) ≡ partEvents lons sc
 part-whole true sc = sym (mention-events sc 0 (sc .variables))
@@ -222,18 +222,18 @@ pub part-batch : (lons : Bool) (s : List ℕ) (c : Cursor) (runs : List ℕ) (a 
 part-batch true s c runs a k f e =
     let sc = sceneOf (payload s) in
     lons-batch sc a k _ (c .i) (variablesAt (payload s) (c .q)) (lonMentions sc 0 (sc .variables)) (sym e) (f .along refl .passed .rising)
-    ∙ ap (λ (x : List Mention). eventsAt sc (take a (lonMentions sc 0 (sc .variables))) ++ eventsOf sc 3 (featured sc (length (sc .features))) (take k x)) (sym e)
+    ∙ ap (λ (x : List Mention). eventsAt sc (take a (lonMentions sc 0 (sc .variables))) ++ eventsOf sc 3 (amongFeatures sc (length (sc .features))) (take k x)) (sym e)
 part-batch false s c runs a k f e =
     let sc = sceneOf (payload s) in
-    features-batch sc a k ∙ ap (λ (x : List Mention). eventsOf sc 2 nobody (take a (featureMentions 0 (sc .features))) ++ eventsOf sc 2 (featured sc a) (take k x)) (sym e)
-    ∙ ap (λ (b : ℕ). eventsOf sc 2 nobody (take a (featureMentions 0 (sc .features))) ++ eventsOf sc 2 (featured sc b) (take k (featureMentions (c .i) (featuresAt (payload s) (c .q))))) (none-before a)
+    features-batch sc a k ∙ ap (λ (x : List Mention). eventsOf sc 2 noName (take a (featureMentions 0 (sc .features))) ++ eventsOf sc 2 (amongFeatures sc a) (take k x)) (sym e)
+    ∙ ap (λ (b : ℕ). eventsOf sc 2 noName (take a (featureMentions 0 (sc .features))) ++ eventsOf sc 2 (amongFeatures sc b) (take k (featureMentions (c .i) (featuresAt (payload s) (c .q))))) (none-before a)
 
 -- the host features before it are done
 pub part-earlier : (lons : Bool) (sc : Scene) (a : ℕ) (cs : List Control) → Earlier sc lons 0 cs → Earlier sc lons (baseOf lons sc + a) (cs ++ controlsIn (soFar lons sc (take a (partMentions lons sc))))
 part-earlier true sc a cs h = omega (arith, h, length-append cs (controlsIn (eventsAt sc (take a (lonMentions sc 0 (sc .variables))))))
 part-earlier false sc a cs h =
-    let z = ap (λ (x : List Mention). length (controlsIn (eventsOf sc 2 nobody x))) (mentions-take sc a 0 (sc .features)) in
-    let o = ap (λ (b : ℕ). length (controlsIn (eventsOf sc 2 nobody (featureMentions 0 (take b (sc .features)))))) (none-before a) in
-    let k : length (controlsIn (eventsOf sc 2 nobody (featureMentions 0 (take (0 + a) (sc .features))))) ≤ length (cs ++ controlsIn (eventsOf sc 2 nobody (take a (featureMentions 0 (sc .features))))) =
-    omega (arith, o, z, length-append cs (controlsIn (eventsOf sc 2 nobody (take a (featureMentions 0 (sc .features)))))) in
+    let z = ap (λ (x : List Mention). length (controlsIn (eventsOf sc 2 noName x))) (mentions-take sc a 0 (sc .features)) in
+    let o = ap (λ (b : ℕ). length (controlsIn (eventsOf sc 2 noName (featureMentions 0 (take b (sc .features)))))) (none-before a) in
+    let k : length (controlsIn (eventsOf sc 2 noName (featureMentions 0 (take (0 + a) (sc .features))))) ≤ length (cs ++ controlsIn (eventsOf sc 2 noName (take a (featureMentions 0 (sc .features))))) =
+    omega (arith, o, z, length-append cs (controlsIn (eventsOf sc 2 noName (take a (featureMentions 0 (sc .features)))))) in
     k

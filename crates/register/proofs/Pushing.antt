@@ -10,19 +10,19 @@ use borrow.Author.Tests.{le-leb, lt-leb, leb-true, not-true, not-false}
 use Rattle.records.specs.Laws.Tests.{and-right}
 use Rattle.scene.specs.Scene.{some, given, Scene}
 use Rattle.register.specs.declared.declared.Declared.{Declared}
-use Rattle.register.specs.declared.warnings.Warned.{Warned}
+use Rattle.register.specs.declared.warnings.WarningCursor.{WarningCursor}
 use Rattle.register.specs.Register.{Warning, Event, control, warn, warningsIn, isSome, ignored, ignoredWith, anyDeclared, anchorOf}
 use Rattle.register.specs.Contracts.Survey.{Declares}
-use Rattle.register.specs.Contracts.Warned.{Sheet, pushed, allPushed}
+use Rattle.register.specs.Contracts.Warnings.{WarningSlice, pushed, allPushed}
 
-abbrev pub sheet : List ℕ → Warned → Sheet
-sheet out w = record { out = out; said = w }
+abbrev pub sheet : List ℕ → WarningCursor → WarningSlice
+sheet out w = record { out = out; cursor = w }
 
-pub sheets : {out out′ : List ℕ} {w w′ : Warned} → out ≡ out′ → w ≡ w′ → sheet out w ≡ sheet out′ w′
+pub sheets : {out out′ : List ℕ} {w w′ : WarningCursor} → out ≡ out′ → w ≡ w′ → sheet out w ≡ sheet out′ w′
 sheets e f = cc
 
 -- ---- one more
-module _ (out : List ℕ) (w : Warned) (v : Warning) where
+module _ (out : List ℕ) (w : WarningCursor) (v : Warning) where
   pub push-shut : not (w .ok) ≡ true → sheet out w ≡ pushed v (sheet out w)
   unfolding pushed
   push-shut e = rw (not-true (w .ok) e) refl
@@ -37,56 +37,56 @@ module _ (out : List ℕ) (w : Warned) (v : Warning) where
     push-more f = rw (not-false (w .ok) e, le-leb (w .used + 2) (length out) (omega arith)) refl
 
 -- ---- a sheet that is used no further than it goes
-abbrev pub Fits : Sheet → Type 0
-Fits t = t .said .used ≤ length (t .out)
+abbrev pub Fits : WarningSlice → Type 0
+Fits t = t .cursor .used ≤ length (t .out)
 
-pub one-kept : (v : Warning) (t : Sheet) (b : Bool) → (t .said .ok && leb (t .said .used + 2) (length (t .out))) ≡ b → length (pushed v t .out) ≡ length (t .out)
+pub one-kept : (v : Warning) (t : WarningSlice) (b : Bool) → (t .cursor .ok && leb (t .cursor .used + 2) (length (t .out))) ≡ b → length (pushed v t .out) ≡ length (t .out)
 unfolding pushed
 one-kept v t true e = rw (e, length-set, length-set) refl
 one-kept v t false e = rw e refl
 
-one-fits : (v : Warning) (t : Sheet) (b : Bool) → (t .said .ok && leb (t .said .used + 2) (length (t .out))) ≡ b → Fits t → Fits (pushed v t)
+one-fits : (v : Warning) (t : WarningSlice) (b : Bool) → (t .cursor .ok && leb (t .cursor .used + 2) (length (t .out))) ≡ b → Fits t → Fits (pushed v t)
 unfolding pushed
-one-fits v t true e h = rw (e, length-set, length-set) (leb-true _ _ (and-right (t .said .ok) _ e))
+one-fits v t true e h = rw (e, length-set, length-set) (leb-true _ _ (and-right (t .cursor .ok) _ e))
 one-fits v t false e h = rw e h
 
-pub push-fits : (v : Warning) (t : Sheet) {t′ : Sheet} → t′ ≡ pushed v t → Fits t → Fits t′
+pub push-fits : (v : Warning) (t : WarningSlice) {t′ : WarningSlice} → t′ ≡ pushed v t → Fits t → Fits t′
 push-fits v t e h = rw e (one-fits v t _ refl h)
 
-all-kept : (ws : List Warning) (t : Sheet) → length (allPushed ws t .out) ≡ length (t .out)
+all-kept : (ws : List Warning) (t : WarningSlice) → length (allPushed ws t .out) ≡ length (t .out)
 unfolding allPushed
 all-kept [] t = refl
 all-kept (w ∷ ws) t = all-kept ws (pushed w t) ∙ one-kept w t _ refl
 
-pub pushed-append : (vs ws : List Warning) (t : Sheet) → allPushed (vs ++ ws) t ≡ allPushed ws (allPushed vs t)
+pub pushed-append : (vs ws : List Warning) (t : WarningSlice) → allPushed (vs ++ ws) t ≡ allPushed ws (allPushed vs t)
 unfolding allPushed
 pushed-append [] ws t = refl
 pushed-append (v ∷ vs) ws t = pushed-append vs ws (pushed v t)
 
 -- ---- these warnings are written
-abbrev pub Written : List Warning → Sheet → Sheet → Type 0
+abbrev pub Written : List Warning → WarningSlice → WarningSlice → Type 0
 Written ws t t′ = (t′ ≡ allPushed ws t) × Fits t′
 
-written-kept : (ws : List Warning) (t t′ : Sheet) → Written ws t t′ → length (t′ .out) ≡ length (t .out)
+written-kept : (ws : List Warning) (t t′ : WarningSlice) → Written ws t t′ → length (t′ .out) ≡ length (t .out)
 written-kept ws t t′ f = rw (f .0) (all-kept ws t)
 
-pub none-written : (ws : List Warning) (t t′ : Sheet) → ws ≡ [] → t′ ≡ t → Fits t → Written ws t t′
+pub none-written : (ws : List Warning) (t t′ : WarningSlice) → ws ≡ [] → t′ ≡ t → Fits t → Written ws t t′
 unfolding allPushed
 none-written ws t t′ e f h = (rw e f, rw f h)
 
-pub one-written : (ws : List Warning) (v : Warning) (t t′ : Sheet) → ws ≡ v ∷ [] → t′ ≡ pushed v t → Fits t → Written ws t t′
+pub one-written : (ws : List Warning) (v : Warning) (t t′ : WarningSlice) → ws ≡ v ∷ [] → t′ ≡ pushed v t → Fits t → Written ws t t′
 unfolding allPushed
 one-written ws v t t′ e f h = (rw e f, push-fits v t f h)
 
 -- the same, whichever scene declares d
-module _ (d : Declared) (ws : Scene → List Warning) (t : Sheet) where
+module _ (d : Declared) (ws : Scene → List Warning) (t : WarningSlice) where
   pub each-none : ((sc : Scene) → Declares sc d → ws sc ≡ []) → Fits t → ((sc : Scene) → Declares sc d → t ≡ allPushed (ws sc) t) × Fits t
   each-none e h = (λ sc x. none-written (ws sc) t t (e sc x) refl h .0, h)
 
-  pub each-one : (v : Warning) (t′ : Sheet) → ((sc : Scene) → Declares sc d → ws sc ≡ v ∷ []) → t′ ≡ pushed v t → Fits t → ((sc : Scene) → Declares sc d → t′ ≡ allPushed (ws sc) t) × Fits t′
+  pub each-one : (v : Warning) (t′ : WarningSlice) → ((sc : Scene) → Declares sc d → ws sc ≡ v ∷ []) → t′ ≡ pushed v t → Fits t → ((sc : Scene) → Declares sc d → t′ ≡ allPushed (ws sc) t) × Fits t′
   each-one v t′ e f h = (λ sc x. one-written (ws sc) v t t′ (e sc x) f h .0, push-fits v t f h)
 
-both-written : (us vs ws : List Warning) (t t′ t″ : Sheet) → ws ≡ us ++ vs → Written us t t′ → Written vs t′ t″ → Written ws t t″
+both-written : (us vs ws : List Warning) (t t′ t″ : WarningSlice) → ws ≡ us ++ vs → Written us t t′ → Written vs t′ t″ → Written ws t t″
 both-written us vs ws t t′ t″ e f g = (rw (e, pushed-append us vs t, ← f .0) (g .0), g .1)
 
 pub warnings-append : (es fs : List Event) → warningsIn (es ++ fs) ≡ warningsIn es ++ warningsIn fs
@@ -107,17 +107,17 @@ some-given true x = refl
 some-given false x = refl
 
 -- whether something is declared is told first, whichever scene declares d
-pub record Declaring (n : ℕ) (d : Declared) (t t′ : Sheet) : Type 0 where
+pub record Declaring (n : ℕ) (d : Declared) (t t′ : WarningSlice) : Type 0 where
   pub told : Bool
   pub is : (sc : Scene) → Declares sc d → (leb 2 n && anyDeclared sc) ≡ told
   pub written : Written (ignored told) t t′
 
 -- then the anchor, or not
-module _ {n : ℕ} {d : Declared} {t t′ : Sheet} (f : Declaring n d t t′) (z : n ≡ 0 → ⊥) (b : Bool) (e : d .anchor .some ≡ b) where
+module _ {n : ℕ} {d : Declared} {t t′ : WarningSlice} (f : Declaring n d t t′) (z : n ≡ 0 → ⊥) (b : Bool) (e : d .anchor .some ≡ b) where
   split : (sc : Scene) → Declares sc d → ignoredWith n sc ≡ ignored (f .told) ++ ignored b
   split sc x = ignored-split n sc z ∙ rw (f .is sc x, ← x .anchor, e, some-given) refl
 
-  pub ignored-told : {t″ : Sheet} → Written (ignored b) t′ t″ → (((sc : Scene) → Declares sc d → t″ ≡ allPushed (ignoredWith n sc) t) × Fits t″) × (length (t″ .out) ≡ length (t .out))
+  pub ignored-told : {t″ : WarningSlice} → Written (ignored b) t′ t″ → (((sc : Scene) → Declares sc d → t″ ≡ allPushed (ignoredWith n sc) t) × Fits t″) × (length (t″ .out) ≡ length (t .out))
   ignored-told {t″} w =
       let v : Written (ignored (f .told) ++ ignored b) t t″ = both-written _ _ _ t t′ t″ refl (f .written) w in
       ((λ sc x. v .0 ∙ ap (λ (ws : List Warning). allPushed ws t) (sym (split sc x)), v .1), written-kept _ t t″ v)

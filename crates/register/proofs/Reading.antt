@@ -12,20 +12,20 @@ use lib.Seq.{take-nil}
 use lib.Ieee.{Float, nan}
 use borrow.Author.Tests.{eq-eqb, ne-eqb, leb-true, leb-false, not-true, not-false}
 use Rattle.stream.specs.Payload.{payload}
-use Rattle.records.specs.Records.{part}
-use Rattle.scene.specs.declared.numbers.Value.{Value}
+use Rattle.records.specs.Records.{bytesAt}
+use Rattle.scene.specs.declared.fields.OptionalFloat.{OptionalFloat}
 use Rattle.scene.specs.Scene.{Maybe, none, some, Point, Scene, sceneOf}
-use Rattle.scene.specs.Contracts.Answers.{valueBy}
+use Rattle.scene.specs.Contracts.Answers.{maybeFloat}
 use Rattle.similarity.specs.declared.fit.Control.{Control}
-use Rattle.names.specs.Contracts.Table.{markOf, Table, In}
-use Rattle.names.specs.Contracts.Batch.{spotOf}
+use Rattle.names.specs.Contracts.Table.{markOf, Table, Contains}
+use Rattle.names.specs.Contracts.Batch.{slotPoint}
 use Rattle.register.specs.declared.controls.Tally.{Tally}
 use Rattle.register.specs.declared.mentions.Cursor.{Cursor}
 use Rattle.register.specs.declared.mentions.Mention as code-mention
 use Rattle.register.specs.Register.{isSome, Warning, Event, control, warn, resolved, eventOf, controlsIn}
 use Rattle.register.specs.Contracts.Mentions.{Mention, eventWith, grownBy, eventsOf, mentionsAt, moreOf, mentionBy, Follows, Asked}
-use Rattle.register.specs.Contracts.Gathered.{numbersIn, Holds, among, named, Taken, Waits, Ready, againOf, grownAll, Read, pointIn}
-use Rattle.register.proofs.Waiting.{same-self, fewer-trans, in-stays, waits-by, taken-fewer, taken-waits}
+use Rattle.register.specs.Contracts.Gathered.{numbersIn, Holds, among, named, Taken, MarksTell, BeforeRead, againOf, grownAll, AfterRead, pointIn}
+use Rattle.register.proofs.Marks.{same-self, fewer-trans, in-stays, waits-by, taken-fewer, taken-waits}
 use Rattle.register.proofs.Holding.{holds-as}
 
 -- ---- of lists of events, one behind the other
@@ -64,7 +64,7 @@ events-append sc again was (m ∷ ms) ns = ap (λ (es : List Event). eventWith s
 
 -- ---- a batch is read: some mentions, then more
 pub read-nothing : {l : List ℕ} {lons : Bool} {t : List ℕ} {n : ℕ} {spots : List Float} (j : ℕ) {ms : List Mention} {g : Tally} {flat : List Float} {kept : List ℕ}
-    → (h : Ready l lons ms t n spots g flat kept) → Read l lons [] t t n spots j (h .was) (h .b) (h .cs) (h .js) g flat kept
+    → (h : BeforeRead l lons ms t n spots g flat kept) → AfterRead l lons [] t t n spots j (h .was) (h .b) (h .cs) (h .js) g flat kept
 unfolding grownAll controlsIn numbersIn eventsOf
 read-nothing j h =
     record {
@@ -76,9 +76,9 @@ read-nothing j h =
     }
 
 module _ {l : List ℕ} {lons : Bool} {ms ns : List Mention} {t t′ t″ : List ℕ} {n : ℕ} {spots : List Float} {j : ℕ} {was : List ℕ → Bool} {b : Bool} {cs : List Control} {js : List ℕ} {g g′ : Tally} {flat flat′ : List Float} {kept kept′ : List ℕ} where
-  pub read-more : Read l lons ms t t′ n spots j was b cs js g flat kept
-      → Read l lons ns t′ t″ n spots (j + length ms) (grownAll was ms) b (cs ++ controlsIn (eventsOf (sceneOf l) (againOf lons) was ms)) (js ++ numbersIn j (eventsOf (sceneOf l) (againOf lons) was ms)) g′ flat′ kept′
-      → Read l lons (ms ++ ns) t t″ n spots j was b cs js g′ flat′ kept′
+  pub read-more : AfterRead l lons ms t t′ n spots j was b cs js g flat kept
+      → AfterRead l lons ns t′ t″ n spots (j + length ms) (grownAll was ms) b (cs ++ controlsIn (eventsOf (sceneOf l) (againOf lons) was ms)) (js ++ numbersIn j (eventsOf (sceneOf l) (againOf lons) was ms)) g′ flat′ kept′
+      → AfterRead l lons (ms ++ ns) t t″ n spots j was b cs js g′ flat′ kept′
   read-more d e =
       let es = eventsOf (sceneOf l) (againOf lons) was ms in
       let fs = eventsOf (sceneOf l) (againOf lons) (grownAll was ms) ns in
@@ -95,11 +95,11 @@ module _ {l : List ℕ} {lons : Bool} {ms ns : List Mention} {t t′ t″ : List
 
 -- one mention more of those that are ready
 module _ {l : List ℕ} {lons : Bool} {all ms : List Mention} {m : Mention} {t t′ t″ : List ℕ} {n : ℕ} {spots : List Float} {j : ℕ} {g g′ g″ : Tally} {flat flat′ flat″ : List Float} {kept kept′ kept″ : List ℕ}
-    (h : Ready l lons all t n spots g flat kept) where
+    (h : BeforeRead l lons all t n spots g flat kept) where
   pub read-on : ((x : List ℕ) → among x (m ∷ []) ≡ true → among x all ≡ true)
-      → Read l lons ms t t′ n spots j (h .was) (h .b) (h .cs) (h .js) g′ flat′ kept′
-      → ((k : Ready l lons (m ∷ []) t′ n spots g′ flat′ kept′) → Read l lons (m ∷ []) t′ t″ n spots (j + length ms) (k .was) (k .b) (k .cs) (k .js) g″ flat″ kept″)
-      → Read l lons (ms ++ m ∷ []) t t″ n spots j (h .was) (h .b) (h .cs) (h .js) g″ flat″ kept″
+      → AfterRead l lons ms t t′ n spots j (h .was) (h .b) (h .cs) (h .js) g′ flat′ kept′
+      → ((k : BeforeRead l lons (m ∷ []) t′ n spots g′ flat′ kept′) → AfterRead l lons (m ∷ []) t′ t″ n spots (j + length ms) (k .was) (k .b) (k .cs) (k .js) g″ flat″ kept″)
+      → AfterRead l lons (ms ++ m ∷ []) t t″ n spots j (h .was) (h .b) (h .cs) (h .js) g″ flat″ kept″
   read-on one d f =
       read-more d
       (f
@@ -120,7 +120,7 @@ here : {x : List ℕ} {lat : Float} (m : Mention) → m .name ≡ x → m .lat �
 unfolding among
 here {x} m e f = rw (f, e, same-self x) refl
 
-module _ {l : List ℕ} {lons : Bool} {m : Mention} {t : List ℕ} {n : ℕ} {spots : List Float} {g : Tally} {flat : List Float} {kept : List ℕ} (h : Ready l lons (m ∷ []) t n spots g flat kept) (j : ℕ) where
+module _ {l : List ℕ} {lons : Bool} {m : Mention} {t : List ℕ} {n : ℕ} {spots : List Float} {g : Tally} {flat : List Float} {kept : List ℕ} (h : BeforeRead l lons (m ∷ []) t n spots g flat kept) (j : ℕ) where
   abbrev event : Event
   event = eventWith (sceneOf l) (againOf lons) (h .was (m .name)) m (m .lat)
 
@@ -138,7 +138,7 @@ module _ {l : List ℕ} {lons : Bool} {m : Mention} {t : List ℕ} {n : ℕ} {sp
     warn-holds = rw (warn-controls, warn-numbers, append-nil (h .cs), append-nil (h .js)) (h .holds)
 
   -- no latitude
-  pub read-lost : m .lat ≡ none → Read l lons (m ∷ []) t t n spots j (h .was) (h .b) (h .cs) (h .js) g flat kept
+  pub read-lost : m .lat ≡ none → AfterRead l lons (m ∷ []) t t n spots j (h .was) (h .b) (h .cs) (h .js) g flat kept
   unfolding grownAll
   read-lost f =
       record {
@@ -150,12 +150,12 @@ module _ {l : List ℕ} {lons : Bool} {m : Mention} {t : List ℕ} {n : ℕ} {sp
       }
 
   module _ {lat : Float} (f : m .lat ≡ some lat) {t′ : List ℕ} {r : ℕ} (k : Taken (moreOf lons) l t t′ n (m .name) r) where
-    now-waits : Waits (sceneOf l) (moreOf lons) l t′ n spots (grownAll (h .was) (m ∷ []))
+    now-waits : MarksTell (sceneOf l) (moreOf lons) l t′ n spots (grownAll (h .was) (m ∷ []))
     unfolding grownAll
     now-waits = waits-by (λ y. rw f refl) (taken-waits k (h .waits))
 
     -- no mark
-    pub read-again : r ≡ 0 → Read l lons (m ∷ []) t t′ n spots j (h .was) (h .b) (h .cs) (h .js) g flat kept
+    pub read-again : r ≡ 0 → AfterRead l lons (m ∷ []) t t′ n spots j (h .was) (h .b) (h .cs) (h .js) g flat kept
     unfolding eventOf
     read-again z =
         record {
@@ -166,7 +166,7 @@ module _ {l : List ℕ} {lons : Bool} {m : Mention} {t : List ℕ} {n : ℕ} {sp
           counted = omega (arith, rw (eq-eqb r 0 z) at (k .counted));
         }
       where
-        d : In (moreOf lons) l t n (m .name)
+        d : Contains (moreOf lons) l t n (m .name)
         d = h .inside (m .name) (here m refl f)
 
         warns : (p : Maybe Point) → resolved (sceneOf l) (m .name) ≡ p → (b : Bool) → h .was (m .name) ≡ b → (isSome (resolved (sceneOf l) (m .name)) ≡ false) ⊎ (h .was (m .name) ≡ true)
@@ -178,7 +178,7 @@ module _ {l : List ℕ} {lons : Bool} {m : Mention} {t : List ℕ} {n : ℕ} {sp
 
     -- a mark: a control point
     module _ (z : 1 ≤ r) where
-      first : In (moreOf lons) l t n (m .name)
+      first : Contains (moreOf lons) l t n (m .name)
       first = k .from z
 
       mark : markOf (getD t (first .at) 0) ≡ r
@@ -190,7 +190,7 @@ module _ {l : List ℕ} {lons : Bool} {m : Mention} {t : List ℕ} {n : ℕ} {sp
       found : isSome (resolved (sceneOf l) (m .name)) ≡ true
       found = rw (first .is) at (h .waits .resolves (first .at) (first .within) (omega (arith, mark)))
 
-      at-spot : r ≤ 64 → resolved (sceneOf l) (m .name) ≡ some (spotOf spots r nan)
+      at-spot : r ≤ 64 → resolved (sceneOf l) (m .name) ≡ some (slotPoint spots r nan)
       at-spot q = rw (first .is, mark) at (h .waits .spot (first .at) (first .within) (omega (arith, mark)) (omega (arith, mark)) nan)
 
       unknown : 64 < r → (b : Bool) → h .b ≡ b → h .b ≡ false
@@ -214,7 +214,7 @@ module _ {l : List ℕ} {lons : Bool} {m : Mention} {t : List ℕ} {n : ℕ} {sp
         unfolding numbersIn
         numbers-are = rw events-are refl
 
-        module _ (c : Control) (a : c .lon ≡ m .lon) (o : c .lat ≡ lat) (s : r ≤ 64 → pointIn c ≡ spotOf spots r nan) {g′ : Tally} {flat′ : List Float} {kept′ : List ℕ}
+        module _ (c : Control) (a : c .lon ≡ m .lon) (o : c .lat ≡ lat) (s : r ≤ 64 → pointIn c ≡ slotPoint spots r nan) {g′ : Tally} {flat′ : List Float} {kept′ : List ℕ}
             (y : Holds (h .b) (h .cs ++ c ∷ []) (h .js ++ j ∷ []) g′ flat′ kept′) where
           known : r ≤ 64 → p ≡ pointIn c
           known q =
@@ -225,7 +225,7 @@ module _ {l : List ℕ} {lons : Bool} {m : Mention} {t : List ℕ} {n : ℕ} {sp
           is-point true q = rw (known (leb-true r 64 q), ← a, ← o) y
           is-point false q = holds-as (h .cs) c point (unknown (leb-false r 64 q) (h .b) refl) a o y
 
-          read-point : Read l lons (m ∷ []) t t′ n spots j (h .was) (h .b) (h .cs) (h .js) g′ flat′ kept′
+          read-point : AfterRead l lons (m ∷ []) t t′ n spots j (h .was) (h .b) (h .cs) (h .js) g′ flat′ kept′
           read-point =
               record {
                 names = k .names;
@@ -235,26 +235,26 @@ module _ {l : List ℕ} {lons : Bool} {m : Mention} {t : List ℕ} {n : ℕ} {sp
                 counted = omega (arith, rw (ne-eqb r 0 (λ q. omega arith)) at (k .counted), ap length controls-are);
               }
 
-      pub read-first : (c : Control) → c .lon ≡ m .lon → c .lat ≡ lat → (r ≤ 64 → pointIn c ≡ spotOf spots r nan) → {g′ : Tally} {flat′ : List Float} {kept′ : List ℕ}
+      pub read-first : (c : Control) → c .lon ≡ m .lon → c .lat ≡ lat → (r ≤ 64 → pointIn c ≡ slotPoint spots r nan) → {g′ : Tally} {flat′ : List Float} {kept′ : List ℕ}
           → Holds (h .b) (h .cs ++ c ∷ []) (h .js ++ j ∷ []) g′ flat′ kept′
-          → Read l lons (m ∷ []) t t′ n spots j (h .was) (h .b) (h .cs) (h .js) g′ flat′ kept′
+          → AfterRead l lons (m ∷ []) t t′ n spots j (h .was) (h .b) (h .cs) (h .js) g′ flat′ kept′
       read-first c a o s {g′} {flat′} {kept′} y = by (resolved (sceneOf l) (m .name)) refl
         where
-          by : (p : Maybe Point) → resolved (sceneOf l) (m .name) ≡ p → Read l lons (m ∷ []) t t′ n spots j (h .was) (h .b) (h .cs) (h .js) g′ flat′ kept′
+          by : (p : Maybe Point) → resolved (sceneOf l) (m .name) ≡ p → AfterRead l lons (m ∷ []) t t′ n spots j (h .was) (h .b) (h .cs) (h .js) g′ flat′ kept′
           by none e = absurd (false≢true (rw e at found))
           by (some p) e = read-point p e c a o s y
 
 -- what the code says of its latitude
-module _ (v : Value) where
-  pub no-latitude : not (v .some) ≡ true → valueBy v ≡ none
+module _ (v : OptionalFloat) where
+  pub no-latitude : not (v .some) ≡ true → maybeFloat v ≡ none
   no-latitude h = rw (not-true (v .some) h) refl
 
-  pub a-latitude : not (v .some) ≡ false → valueBy v ≡ some (v .value)
+  pub a-latitude : not (v .some) ≡ false → maybeFloat v ≡ some (v .value)
   a-latitude h = rw (not-false (v .some) h) refl
 
 -- and of its name, behind the length at p
 pub taken-name : {more : ℕ} {l t t′ : List ℕ} {n r : ℕ} (lons : Bool) (m : code-mention.Mention) → 1 ≤ m .at → more ≡ moreOf lons
-    → Taken more l t t′ n (part l (m .at - 1 + 1) (m .len)) r → Taken (moreOf lons) l t t′ n (mentionBy l m .name) r
+    → Taken more l t t′ n (bytesAt l (m .at - 1 + 1) (m .len)) r → Taken (moreOf lons) l t t′ n (mentionBy l m .name) r
 taken-name lons m h e k =
     let f : m .at - 1 + 1 ≡ m .at = omega arith in
     rw (e, f) at k
@@ -306,8 +306,8 @@ pub record Going (s : List ℕ) (lons : Bool) (t₀ : List ℕ) (n : ℕ) (spots
   pub t-kept : length t ≡ length t₀
   pub runs-kept : length runs ≡ length runs₀
   pub rest : drop k (mentionsAt (payload s) lons c) ≡ mentionsAt (payload s) lons at
-  pub so-far : (h : Ready (payload s) lons (take count (mentionsAt (payload s) lons c)) t₀ n spots g flat₀ kept₀)
-      → Read (payload s) lons (take k (mentionsAt (payload s) lons c)) t₀ t n spots base (h .was) (h .b) (h .cs) (h .js) all flat kept
+  pub so-far : (h : BeforeRead (payload s) lons (take count (mentionsAt (payload s) lons c)) t₀ n spots g flat₀ kept₀)
+      → AfterRead (payload s) lons (take k (mentionsAt (payload s) lons c)) t₀ t n spots base (h .was) (h .b) (h .cs) (h .js) all flat kept
 
 pub go-begin : {s : List ℕ} {lons : Bool} {t : List ℕ} {n : ℕ} {spots : List Float} {runs : List ℕ} (count base : ℕ) {flat : List Float} {kept : List ℕ} {g : Tally} {c : Cursor}
     → (base + count < 4294967296) × (length spots ≡ 128) × (length flat ≡ 256) × (length kept ≡ 64) × Follows s lons c runs × Table (moreOf lons) (payload s) t n
@@ -331,24 +331,24 @@ go-begin count base p =
 
 module _ {s : List ℕ} {lons : Bool} {t₀ : List ℕ} {n : ℕ} {spots : List Float} {runs₀ : List ℕ} {count base : ℕ} {flat₀ : List Float} {kept₀ : List ℕ} {g : Tally} {c : Cursor} {t runs : List ℕ} {flat : List Float} {kept : List ℕ} {all : Tally} {at : Cursor} {k : ℕ}
     (d : Going s lons t₀ n spots runs₀ count base flat₀ kept₀ g c t runs flat kept all at k) where
-  pub go-end : count ≤ k → (h : Ready (payload s) lons (take count (mentionsAt (payload s) lons c)) t₀ n spots g flat₀ kept₀)
-      → Read (payload s) lons (take count (mentionsAt (payload s) lons c)) t₀ t n spots base (h .was) (h .b) (h .cs) (h .js) all flat kept
+  pub go-end : count ≤ k → (h : BeforeRead (payload s) lons (take count (mentionsAt (payload s) lons c)) t₀ n spots g flat₀ kept₀)
+      → AfterRead (payload s) lons (take count (mentionsAt (payload s) lons c)) t₀ t n spots base (h .was) (h .b) (h .cs) (h .js) all flat kept
   go-end e h =
       let f : k ≡ count = omega (arith, d .within) in
       rw f at (d .so-far h)
 
   module _ (m : code-mention.Mention) {runs′ : List ℕ} (a : Asked s lons at m runs′) where
     -- no mention is left
-    pub go-none : not (m .some) ≡ true → (h : Ready (payload s) lons (take count (mentionsAt (payload s) lons c)) t₀ n spots g flat₀ kept₀)
-        → Read (payload s) lons (take count (mentionsAt (payload s) lons c)) t₀ t n spots base (h .was) (h .b) (h .cs) (h .js) all flat kept
+    pub go-none : not (m .some) ≡ true → (h : BeforeRead (payload s) lons (take count (mentionsAt (payload s) lons c)) t₀ n spots g flat₀ kept₀)
+        → AfterRead (payload s) lons (take count (mentionsAt (payload s) lons c)) t₀ t n spots base (h .was) (h .b) (h .cs) (h .js) all flat kept
     go-none e h =
         let f : drop k (mentionsAt (payload s) lons c) ≡ [] = d .rest ∙ a .lists ∙ rw (not-true (m .some) e) refl in
         rw (none-left (mentionsAt (payload s) lons c) k count f (d .within)) at (d .so-far h)
 
     -- one more
     pub go-on : not (m .some) ≡ false → k < count → {t′ : List ℕ} {flat′ : List Float} {kept′ : List ℕ} {all′ : Tally}
-        → ((h : Ready (payload s) lons (mentionBy (payload s) m ∷ []) t n spots all flat kept)
-        → Read (payload s) lons (mentionBy (payload s) m ∷ []) t t′ n spots (base + k) (h .was) (h .b) (h .cs) (h .js) all′ flat′ kept′)
+        → ((h : BeforeRead (payload s) lons (mentionBy (payload s) m ∷ []) t n spots all flat kept)
+        → AfterRead (payload s) lons (mentionBy (payload s) m ∷ []) t t′ n spots (base + k) (h .was) (h .b) (h .cs) (h .js) all′ flat′ kept′)
         → Table (moreOf lons) (payload s) t′ n
         → length t′ ≡ length t → length runs′ ≡ length runs → length flat′ ≡ length flat → length kept′ ≡ length kept
         → Going s lons t₀ n spots runs₀ count base flat₀ kept₀ g c t′ runs′ flat′ kept′ all′ (m .next) (k + 1)

@@ -8,11 +8,11 @@ use lib.ListN.{length, drop, length-append}
 use lib.Seq.{take-add, drop-drop}
 use lib.Dec.{eqb}
 use borrow.Author.Tests.{not-true, not-false, le-ltb}
-use Rattle.records.specs.Records.{part}
+use Rattle.records.specs.Records.{bytesAt}
 use Rattle.records.specs.Layout.{before}
-use Rattle.scene.specs.declared.sections.Variable.{Variable}
+use Rattle.scene.specs.declared.readers.Variable.{Variable}
 use Rattle.scene.specs.Scene.{none, some, NamedValue}
-use Rattle.scene.specs.Labels.{same, variableOf}
+use Rattle.scene.specs.Labels.{sameBytes, variableOf}
 use Rattle.scene.specs.Contracts.Answers.{variablesAt, variablesBy}
 use Rattle.records.specs.Laws.Names.{part-length}
 use Rattle.scene.specs.Laws.Names.{same-lengths}
@@ -21,33 +21,33 @@ use Rattle.scene.specs.Laws.Rising.{Rising, rising-from, not-among}
 use Rattle.register.specs.Register.{suffixLon, suffixLat}
 
 -- ---- a name and its last four bytes
-pub same-append : (a b c d : List ℕ) → length c ≡ length d → same (a ++ c) (b ++ d) ≡ (same a b && same c d)
-unfolding same
+pub same-append : (a b c d : List ℕ) → length c ≡ length d → sameBytes (a ++ c) (b ++ d) ≡ (sameBytes a b && sameBytes c d)
+unfolding sameBytes
 same-append [] [] c d h = refl
 same-append [] (y ∷ ys) c d h = same-lengths c (y ∷ ys ++ d) (λ e. omega (arith, length-append ys d))
 same-append (x ∷ xs) [] c d h = same-lengths (x ∷ xs ++ c) d (λ e. omega (arith, length-append xs c))
 same-append (x ∷ xs) (y ∷ ys) c d h = rw (same-append xs ys c d h, and-assoc) refl
 
-pub part-split : (l : List ℕ) (q m k : ℕ) → part l q (m + k) ≡ part l q m ++ part l (q + m) k
-unfolding part
+pub part-split : (l : List ℕ) (q m k : ℕ) → bytesAt l q (m + k) ≡ bytesAt l q m ++ bytesAt l (q + m) k
+unfolding bytesAt
 part-split l q m k = take-add m k (drop q l) ∙ rw (drop-drop m q l) refl
 
 module _ (l : List ℕ) (q m : ℕ) (x ends : List ℕ) (fits : q + m ≤ length l) (four : length ends ≡ 4) where
-  pub too-short : m < 4 → false ≡ same (part l q m) (x ++ ends)
-  too-short h = sym (same-lengths (part l q m) (x ++ ends) (λ e. omega (arith, part-length l q m fits, length-append x ends)))
+  pub too-short : m < 4 → false ≡ sameBytes (bytesAt l q m) (x ++ ends)
+  too-short h = sym (same-lengths (bytesAt l q m) (x ++ ends) (λ e. omega (arith, part-length l q m fits, length-append x ends)))
 
-  pub name-ends : 4 ≤ m → same (part l q m) (x ++ ends) ≡ (same (part l q (m - 4)) x && same (part l (q + m - 4) 4) ends)
+  pub name-ends : 4 ≤ m → sameBytes (bytesAt l q m) (x ++ ends) ≡ (sameBytes (bytesAt l q (m - 4)) x && sameBytes (bytesAt l (q + m - 4) 4) ends)
   name-ends h =
       let a : m - 4 + 4 ≡ m = omega arith in
       let b : q + (m - 4) ≡ q + m - 4 = omega arith in
-      let e : part l q m ≡ part l q (m - 4) ++ part l (q + m - 4) 4 = rw (a, b) at (part-split l q (m - 4) 4) in
-      rw e (same-append (part l q (m - 4)) x (part l (q + m - 4) 4) ends (omega (arith, part-length l (q + m - 4) 4 (omega arith))))
+      let e : bytesAt l q m ≡ bytesAt l q (m - 4) ++ bytesAt l (q + m - 4) 4 = rw (a, b) at (part-split l q (m - 4) 4) in
+      rw e (same-append (bytesAt l q (m - 4)) x (bytesAt l (q + m - 4) 4) ends (omega (arith, part-length l (q + m - 4) 4 (omega arith))))
 
-  module _ (h : 4 ≤ m) {t : Bool} (f : t ≡ same (part l q (m - 4)) x) where
-    pub begins-else : not t ≡ true → false ≡ same (part l q m) (x ++ ends)
+  module _ (h : 4 ≤ m) {t : Bool} (f : t ≡ sameBytes (bytesAt l q (m - 4)) x) where
+    pub begins-else : not t ≡ true → false ≡ sameBytes (bytesAt l q m) (x ++ ends)
     begins-else k = rw (name-ends h, ← f, not-true t k) refl
 
-    pub begins-so : {r : Bool} → not t ≡ false → r ≡ same (part l (q + m - 4) 4) ends → r ≡ same (part l q m) (x ++ ends)
+    pub begins-so : {r : Bool} → not t ≡ false → r ≡ sameBytes (bytesAt l (q + m - 4) 4) ends → r ≡ sameBytes (bytesAt l q m) (x ++ ends)
     begins-so k e = rw (name-ends h, ← f, not-false t k) e
 
 -- ---- `<L>_lat` does not come after `<L>_lon`
@@ -58,7 +58,7 @@ lon-first (y ∷ x) = rw (le-ltb y y (omega arith), lon-first x) (and-false (eqb
 
 -- ---- the variable of a name among those from q on
 abbrev foundBy : List ℕ → Variable → NamedValue
-foundBy l c = record { name = part l (c .at) (c .len); value = c .value }
+foundBy l c = record { name = bytesAt l (c .at) (c .len); value = c .value }
 
 module _ (name l : List ℕ) (q : ℕ) (c : Variable) (e : variablesAt l q ≡ variablesBy l c) where
   pub no-more : not (c .some) ≡ true → variableOf name (variablesAt l q) ≡ none
@@ -72,7 +72,7 @@ module _ (name l : List ℕ) (q : ℕ) (c : Variable) (e : variablesAt l q ≡ v
     pub rises-on : Rising [] (variablesAt l q) → Rising [] (variablesAt l (c .next))
     rises-on r = rising-from [] (foundBy l c) (variablesAt l (c .next)) (risen r)
 
-    module _ {t : Bool} (s : t ≡ same (part l (c .at) (c .len)) name) where
+    module _ {t : Bool} (s : t ≡ sameBytes (bytesAt l (c .at) (c .len)) name) where
       pub this-one : t ≡ true → some (c .value) ≡ variableOf name (variablesAt l q)
       unfolding variableOf
       this-one h = rw (e, not-false (c .some) n, ← s, h) refl
@@ -82,7 +82,7 @@ module _ (name l : List ℕ) (q : ℕ) (c : Variable) (e : variablesAt l q ≡ v
       later-one h = rw (e, not-false (c .some) n, ← s, h) refl
 
     -- at `<L>_lon` itself there is no `<L>_lat` any more
-    pub none-behind : (at m : ℕ) → Rising [] (variablesAt l q) → part l (at + m) 4 ≡ suffixLon → c .at ≡ at → c .len ≡ m + 4 → variableOf (part l at m ++ suffixLat) (variablesAt l (c .next)) ≡ none
+    pub none-behind : (at m : ℕ) → Rising [] (variablesAt l q) → bytesAt l (at + m) 4 ≡ suffixLon → c .at ≡ at → c .len ≡ m + 4 → variableOf (bytesAt l at m ++ suffixLat) (variablesAt l (c .next)) ≡ none
     none-behind at m r lon a b =
-        let is : part l (c .at) (c .len) ≡ part l at m ++ suffixLon = rw (a, b, part-split l at m 4, lon) refl in
-        not-among (part l at m ++ suffixLon) (part l at m ++ suffixLat) (variablesAt l (c .next)) (subst (λ (u : List ℕ). Rising u (variablesAt l (c .next))) is (risen r .1)) (lon-first (part l at m))
+        let is : bytesAt l (c .at) (c .len) ≡ bytesAt l at m ++ suffixLon = rw (a, b, part-split l at m 4, lon) refl in
+        not-among (bytesAt l at m ++ suffixLon) (bytesAt l at m ++ suffixLat) (variablesAt l (c .next)) (subst (λ (u : List ℕ). Rising u (variablesAt l (c .next))) is (risen r .1)) (lon-first (bytesAt l at m))

@@ -1,7 +1,7 @@
 -- Words in which contracts of the parts are said. What a host is promised is not said in them.
-pub mod Runs
+pub mod LatLookup
 pub mod Mentions
 pub mod Gathered
 pub mod Survey
 pub mod Outcome
-pub mod Warned
+pub mod Warnings

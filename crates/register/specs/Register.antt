@@ -9,7 +9,7 @@ use lib.Ieee.Scale.{finite}
 use Rattle.float.specs.Functions.{absOf}
 use Rattle.stream.specs.Conditions.{Condition}
 use Rattle.scene.specs.Scene.{Maybe, none, some, Point, NamedFeature, NamedValue, Scene}
-use Rattle.scene.specs.Labels.{same, variableOf, orElse, pointOfLabel}
+use Rattle.scene.specs.Labels.{sameBytes, variableOf, orElse, pointOfLabel}
 use Rattle.similarity.specs.declared.fit.Control.{Control}
 use Rattle.similarity.specs.declared.fit.Fit.{Fit}
 use Rattle.similarity.specs.declared.projection.Registration.{Registration}
@@ -115,7 +115,7 @@ controlAt p lon lat = control (record { x = p .x; y = p .y; lon = lon; lat = lat
 -- whether one of these features has the name
 unfoldable pub mentioned : List ℕ → List NamedFeature → Bool
 mentioned name [] = false
-mentioned name (f ∷ fs) = same (f .name) name || mentioned name fs
+mentioned name (f ∷ fs) = sameBytes (f .name) name || mentioned name fs
 
 -- A name that resolves is a control point, unless a host feature has it already: that one resolved as well, and stays. Of what is none there is a warning: one where nothing has the name, another where a host feature has it.
 unfoldable pub eventOf : Maybe Point → Bool → Float → Float → Warning → Warning → Event
@@ -143,22 +143,22 @@ ending name = drop (length name - 4) name
 
 -- `<L>_lon`, L other than geo
 unfoldable pub isLon : List ℕ → Bool
-isLon name = same (ending name) suffixLon && not (same (stem name) geo)
+isLon name = sameBytes (ending name) suffixLon && not (sameBytes (stem name) geo)
 
 unfoldable pub lonEvent : Scene → ℕ → List ℕ → Float → Maybe Float → Event
 lonEvent sc i name lon none = warn (record { kind = 2; index = i })
 lonEvent sc i name lon (some lat) =
     eventOf (resolved sc name) (mentioned name (sc .features)) lon lat (record { kind = 2; index = i }) (record { kind = 3; index = i })
 
-abbrev pub onto : Bool → Event → List Event → List Event
-onto true e es = e ∷ es
-onto false e es = es
+abbrev pub consIf : Bool → Event → List Event → List Event
+consIf true e es = e ∷ es
+consIf false e es = es
 
 -- the variables vs, the first of them the i-th
 unfoldable pub variableEvents : Scene → ℕ → List NamedValue → List Event
 variableEvents sc i [] = []
 variableEvents sc i (v ∷ vs) =
-    onto (isLon (v .name)) (lonEvent sc i (stem (v .name)) (v .value) (var sc (stem (v .name) ++ suffixLat))) (variableEvents sc (suc i) vs)
+    consIf (isLon (v .name)) (lonEvent sc i (stem (v .name)) (v .value) (var sc (stem (v .name) ++ suffixLat))) (variableEvents sc (suc i) vs)
 
 unfoldable pub events : Scene → List Event
 events sc = featureEvents sc 0 (sc .features) ++ variableEvents sc 0 (sc .variables)
@@ -194,16 +194,16 @@ unfoldable pub halfAnchor : Scene → Bool
 halfAnchor sc = not (isSome (sc .anchor)) && onlyOne (isSome (var sc geoLon)) (isSome (var sc geoLat))
 
 -- ---- condition 8
-unfoldable pub placed : Float → Float → Bool
-placed lon lat = le (absOf lat) f85·06 && le (absOf lon) f180
+unfoldable pub withinLimits : Float → Float → Bool
+withinLimits lon lat = le (absOf lat) f85·06 && le (absOf lon) f180
 
-unfoldable pub allPlaced : List Control → Bool
-allPlaced [] = true
-allPlaced (c ∷ cs) = placed (c .lon) (c .lat) && allPlaced cs
+unfoldable pub allWithinLimits : List Control → Bool
+allWithinLimits [] = true
+allWithinLimits (c ∷ cs) = withinLimits (c .lon) (c .lat) && allWithinLimits cs
 
-unfoldable pub anchorPlaced : Maybe Point → Bool
-anchorPlaced none = true
-anchorPlaced (some p) = placed (p .x) (p .y)
+unfoldable pub anchorWithinLimits : Maybe Point → Bool
+anchorWithinLimits none = true
+anchorWithinLimits (some p) = withinLimits (p .x) (p .y)
 
 -- ---- the registration
 -- the declared scale, in metres an inch of the canvas
@@ -260,7 +260,7 @@ ofRegistration sc =
     let few = ltb (length cs) 2 in
     let r = registrationOf sc in
     (7, not (isMercator (sc .frame) (var sc geoFrame)))
-    ∷ (8, not (allPlaced cs && anchorPlaced (anchorOf sc)))
+    ∷ (8, not (allWithinLimits cs && anchorWithinLimits (anchorOf sc)))
     ∷ (9, ltb 64 (length cs))
     ∷ (10, eqb (length cs) 0 && not (isSome (anchorOf sc)))
     ∷ (11, not few && not (fitOf cs .some))

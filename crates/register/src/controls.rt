@@ -10,16 +10,16 @@ ghost use lib.ListN.{length, take};
 ghost use lib.Ieee.{nan};
 ghost use Rattle.stream.specs.Payload.{payload};
 ghost use Rattle.stream.specs.Contracts.Payload.{room};
-ghost use Rattle.records.specs.Records.{part};
+ghost use Rattle.records.specs.Records.{bytesAt};
 ghost use Rattle.records.specs.Layout.{laidOut};
 ghost use Rattle.scene.specs.Scene.{sceneOf};
 ghost use Rattle.similarity.specs.declared.fit.Control.{Control};
 ghost use Rattle.names.specs.Contracts.Table.{Table};
-ghost use Rattle.names.specs.Contracts.Batch.{spotOf};
-ghost use Rattle.register.specs.Register.{placed, controlsIn};
+ghost use Rattle.names.specs.Contracts.Batch.{slotPoint};
+ghost use Rattle.register.specs.Register.{withinLimits, controlsIn};
 ghost use Rattle.register.specs.Contracts.Survey.{Surveyed};
-ghost use Rattle.register.specs.Contracts.Mentions.{mentionsAt, mentionBy, moreOf, Follows, Heads};
-ghost use Rattle.register.specs.Contracts.Gathered.{numbersIn, Holds, Gathers, Added, Filling, Batch, Taken, Forgotten, Ready, Read, pointIn, partEvents, baseOf, beforeOf, batchEvents, Earlier, firstCursor};
+ghost use Rattle.register.specs.Contracts.Mentions.{mentionsAt, mentionBy, moreOf, Follows, MentionFits};
+ghost use Rattle.register.specs.Contracts.Gathered.{numbersIn, Holds, Gathers, Added, Filling, Batch, Taken, KnownCleared, BeforeRead, AfterRead, pointIn, partEvents, baseOf, beforeOf, batchEvents, Earlier, firstCursor};
 use crate::mentions::Cursor;
 use crate::mentions::Mention;
 use crate::mentions::next_mention;
@@ -27,7 +27,7 @@ use crate::survey::Survey;
 use float::abs;
 use names::find_name;
 use names::insert;
-use names::note_labels;
+use names::match_labels;
 use names::unmark;
 use scene::next_name;
 use similarity::Control;
@@ -36,27 +36,27 @@ pub struct Tally {
     // how many there are, 65 for more than 64
     pub n: usize,
     // whether all of them are within condition 8's limits
-    pub placed: bool,
+    pub within: bool,
 }
 
 // Condition 8's limits.
-pub fn is_placed(lon: f64, lat: f64) -> bool
-    ensures { λ r. ⌜ r ≡ placed lon lat ⌝ }
+pub fn is_within_limits(lon: f64, lat: f64) -> bool
+    ensures { λ r. ⌜ r ≡ withinLimits lon lat ⌝ }
 {
     abs(lat) <= 85.06 && abs(lon) <= 180.0
 }
 
 // One more control point, of the j-th name.
-fn put(flat: &mut [f64], kept: &mut [u32], g: Tally, j: usize, c: Control) -> Tally
+fn put_control(flat: &mut [f64], kept: &mut [u32], g: Tally, j: usize, c: Control) -> Tally
     requires { ⌜ (j < 4294967296) × (length (now flat) ≡ 256) × (length (now kept) ≡ 64) ⌝ }
     ensures { λ r. ⌜ ((b : Bool) (cs : List Control) (js : List ℕ)
         → Holds b cs js g (now (flat .entry)) (now (kept .entry))
         → Holds b (cs ++ c ∷ []) (js ++ j ∷ []) r (now (flat .exit)) (now (kept .exit))) ⌝ }
 {
-    let ok = g.placed && is_placed(c.lon, c.lat);
+    let ok = g.within && is_within_limits(c.lon, c.lat);
     let n = g.n;
     if n >= 64 {
-        return Tally { n: 65, placed: ok };
+        return Tally { n: 65, within: ok };
     }
     kept[n] = j as u32;
     flat[4 * n] = c.x;
@@ -65,7 +65,7 @@ fn put(flat: &mut [f64], kept: &mut [u32], g: Tally, j: usize, c: Control) -> Ta
     flat[4 * n + 3] = c.lat;
     Tally {
         n: n + 1,
-        placed: ok,
+        within: ok,
     }
 }
 
@@ -77,7 +77,7 @@ fn more_of(lons: bool) -> u64
 }
 
 // How many entries a batch has, how many mentions it is, and where the next begins.
-pub struct Filled {
+pub struct FilledBatch {
     pub n: usize,
     pub count: usize,
     pub next: Cursor,
@@ -86,7 +86,7 @@ pub struct Filled {
 // The name of a mention becomes an entry, if there is a latitude.
 fn add_name(s: &[u8], t: &mut [u32], n: usize, m: Mention, more: u64) -> usize
     requires { ⌜ (room (now s) < 33554432) × (n < length (now t)) × Table more (payload (now s)) (now t) n
-        × Heads (now s) more m ⌝ }
+        × MentionFits (now s) more m ⌝ }
     ensures { λ r. ⌜ Added more (payload (now (s .entry))) (now (t .entry)) (now (t .exit)) n r
         (mentionBy (payload (now (s .entry))) m) ⌝ }
 {
@@ -98,7 +98,7 @@ fn add_name(s: &[u8], t: &mut [u32], n: usize, m: Mention, more: u64) -> usize
 }
 
 // The names from c on, up to as many as the table holds.
-fn fill(s: &[u8], lons: bool, t: &mut [u32], c: Cursor, runs: &mut [usize]) -> Filled
+fn fill_batch(s: &[u8], lons: bool, t: &mut [u32], c: Cursor, runs: &mut [usize]) -> FilledBatch
     requires { ⌜ (room (now s) < 33554432) × Follows (now s) lons c (now runs) ⌝ }
     ensures { λ r. ⌜ Batch (now (s .entry)) lons c r (now (t .exit)) (now (runs .exit)) ⌝ }
 {
@@ -110,7 +110,7 @@ fn fill(s: &[u8], lons: bool, t: &mut [u32], c: Cursor, runs: &mut [usize]) -> F
         let m = next_mention(s, lons, at, runs);
         at = m.next;
         if !m.some {
-            return Filled {
+            return FilledBatch {
                 n: n,
                 count: count,
                 next: at,
@@ -119,7 +119,7 @@ fn fill(s: &[u8], lons: bool, t: &mut [u32], c: Cursor, runs: &mut [usize]) -> F
         n = add_name(s, t, n, m, more);
         count += 1;
     }
-    Filled {
+    FilledBatch {
         n: n,
         count: count,
         next: at,
@@ -131,7 +131,7 @@ fn take_mark(s: &[u8], t: &mut [u32], count: usize, p: usize, n: usize, more: u6
     requires { ⌜ (p + 9 + n ≤ room (now s)) × (n + more ≤ 255)
         × Table more (payload (now s)) (now t) count ⌝ }
     ensures { λ r. ⌜ Taken more (payload (now (s .entry))) (now (t .entry)) (now (t .exit)) count
-        (part (payload (now (s .entry))) (p + 1) n) r ⌝ }
+        (bytesAt (payload (now (s .entry))) (p + 1) n) r ⌝ }
 {
     let e = find_name(s, t, count, p, n, more);
     if !e.some {
@@ -141,9 +141,9 @@ fn take_mark(s: &[u8], t: &mut [u32], count: usize, p: usize, n: usize, more: u6
 }
 
 // The names of the first i host features are known: their entries lose their marks.
-fn forget(s: &[u8], t: &mut [u32], n: usize, i: usize, more: u64)
+fn clear_known(s: &[u8], t: &mut [u32], n: usize, i: usize, more: u64)
     requires { ⌜ (more ≤ 4) × Table more (payload (now s)) (now t) n ⌝ }
-    ensures { λ r. ⌜ Forgotten (payload (now (s .entry))) more (now (t .entry)) (now (t .exit)) n i ⌝ }
+    ensures { λ r. ⌜ KnownCleared (payload (now (s .entry))) more (now (t .entry)) (now (t .exit)) n i ⌝ }
 {
     let mut q = 0usize;
     let mut k = 0usize;
@@ -162,7 +162,7 @@ fn forget(s: &[u8], t: &mut [u32], n: usize, i: usize, more: u64)
 fn control_of(spots: &[f64], mark: usize, lon: f64, lat: f64) -> Control
     requires { ⌜ (1 ≤ mark) × (length (now spots) ≡ 128) ⌝ }
     ensures { λ r. ⌜ (r .lon ≡ lon) × (r .lat ≡ lat)
-        × (mark ≤ 64 → pointIn r ≡ spotOf (now (spots .entry)) mark nan) ⌝ }
+        × (mark ≤ 64 → pointIn r ≡ slotPoint (now (spots .entry)) mark nan) ⌝ }
 {
     if mark > 64 {
         return Control {
@@ -181,7 +181,7 @@ fn control_of(spots: &[f64], mark: usize, lon: f64, lat: f64) -> Control
 }
 
 // One mention of a batch, the j-th name of all.
-fn read_one(
+fn read_mention(
     s: &[u8],
     lons: bool,
     t: &mut [u32],
@@ -195,10 +195,10 @@ fn read_one(
 ) -> Tally
     requires { ⌜ (j < 4294967296) × (length (now spots) ≡ 128) × (length (now flat) ≡ 256)
         × (length (now kept) ≡ 64)
-        × Table (moreOf lons) (payload (now s)) (now t) n × Heads (now s) (moreOf lons) m ⌝ }
-    ensures { λ r. ⌜ ((h : Ready (payload (now (s .entry))) lons (mentionBy (payload (now (s .entry))) m ∷ [])
+        × Table (moreOf lons) (payload (now s)) (now t) n × MentionFits (now s) (moreOf lons) m ⌝ }
+    ensures { λ r. ⌜ ((h : BeforeRead (payload (now (s .entry))) lons (mentionBy (payload (now (s .entry))) m ∷ [])
         (now (t .entry)) n (now (spots .entry)) g (now (flat .entry)) (now (kept .entry)))
-        → Read (payload (now (s .entry))) lons (mentionBy (payload (now (s .entry))) m ∷ [])
+        → AfterRead (payload (now (s .entry))) lons (mentionBy (payload (now (s .entry))) m ∷ [])
         (now (t .entry)) (now (t .exit)) n (now (spots .entry)) j (h .was) (h .b) (h .cs) (h .js) r (now (flat .exit))
         (now (kept .exit))) ⌝ }
     ensures { λ r. ⌜ Table (moreOf lons) (payload (now (s .entry))) (now (t .exit)) n ⌝ }
@@ -211,11 +211,11 @@ fn read_one(
     if mark == 0 {
         return g;
     }
-    put(flat, kept, g, j, control_of(spots, mark, m.lon, lat.value))
+    put_control(flat, kept, g, j, control_of(spots, mark, m.lon, lat.value))
 }
 
 // The mentions of a batch from c on, in their order, the first of them being the base-th name of all.
-fn read(
+fn read_batch(
     s: &[u8],
     lons: bool,
     t: &mut [u32],
@@ -232,10 +232,10 @@ fn read(
     requires { ⌜ (base + count < 4294967296) × (length (now spots) ≡ 128) × (length (now flat) ≡ 256)
         × (length (now kept) ≡ 64) × Follows (now s) lons c (now runs)
         × Table (moreOf lons) (payload (now s)) (now t) n ⌝ }
-    ensures { λ r. ⌜ ((h : Ready (payload (now (s .entry))) lons
+    ensures { λ r. ⌜ ((h : BeforeRead (payload (now (s .entry))) lons
         (take count (mentionsAt (payload (now (s .entry))) lons c)) (now (t .entry)) n (now (spots .entry)) g
         (now (flat .entry)) (now (kept .entry)))
-        → Read (payload (now (s .entry))) lons (take count (mentionsAt (payload (now (s .entry))) lons c))
+        → AfterRead (payload (now (s .entry))) lons (take count (mentionsAt (payload (now (s .entry))) lons c))
         (now (t .entry)) (now (t .exit)) n (now (spots .entry)) base (h .was) (h .b) (h .cs) (h .js) r
         (now (flat .exit)) (now (kept .exit))) ⌝ }
 {
@@ -247,7 +247,7 @@ fn read(
         if !m.some {
             return all;
         }
-        all = read_one(s, lons, t, n, spots, m, base + k, flat, kept, all);
+        all = read_mention(s, lons, t, n, spots, m, base + k, flat, kept, all);
         at = m.next;
         k += 1;
     }
@@ -287,7 +287,7 @@ fn gather_batch(
     v: Survey,
     lons: bool,
     t: &mut [u32],
-    f: Filled,
+    f: FilledBatch,
     c: Cursor,
     runs: &mut [usize],
     base: usize,
@@ -312,12 +312,12 @@ fn gather_batch(
     let mut spots = [0.0f64; 128];
     let more = more_of(lons);
     let n = f.n;
-    let used = note_labels(s, v.labels, t, n, more, &mut keys, &mut spots);
+    let used = match_labels(s, v.labels, t, n, more, &mut keys, &mut spots);
     if used == 0 {
         return g;
     }
-    forget(s, t, n, features_before(lons, v.names - v.lons, base), more);
-    read(s, lons, t, n, &spots, c, runs, f.count, base, flat, kept, g)
+    clear_known(s, t, n, features_before(lons, v.names - v.lons, base), more);
+    read_batch(s, lons, t, n, &spots, c, runs, f.count, base, flat, kept, g)
 }
 
 // All batches of a part of the names, behind the control points that g counts.
@@ -347,7 +347,7 @@ fn gather_part(
     let mut base = features_before(lons, v.names - v.lons, 0);
     loop {
         let mut back = runs;
-        let f = fill(s, lons, t, c, &mut runs);
+        let f = fill_batch(s, lons, t, c, &mut runs);
         if f.n == 0 {
             return all;
         }
@@ -363,7 +363,7 @@ fn gather_names(s: &[u8], v: Survey, t: &mut [u32], flat: &mut [f64], kept: &mut
         × (1 ≤ length (now t)) × (length (now flat) ≡ 256) × (length (now kept) ≡ 64) ⌝ }
     ensures { λ r. ⌜ Gathers (sceneOf (payload (now (s .entry)))) r (now (flat .exit)) (now (kept .exit)) ⌝ }
 {
-    let none = Tally { n: 0, placed: true };
+    let none = Tally { n: 0, within: true };
     let g = gather_part(s, v, false, t, flat, kept, none);
     if v.lons == 0 {
         return g;

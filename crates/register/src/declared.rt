@@ -4,20 +4,20 @@ ghost use mathlib.Core.Bool.{not, _&&_};
 ghost use Rattle.stream.specs.Payload.{payload};
 ghost use Rattle.scene.specs.Scene.{sceneOf};
 ghost use Rattle.scene.specs.Labels.{orElse};
-ghost use Rattle.scene.specs.Contracts.Answers.{valueBy, spotBy, variablesAt};
+ghost use Rattle.scene.specs.Contracts.Answers.{maybeFloat, maybePoint, variablesAt};
 ghost use Rattle.register.specs.Register.{isSome, isMercator, var, geoFrame, notZero, bothOf, onlyOne};
-ghost use Rattle.register.specs.Contracts.Survey.{Says, Declares};
-use scene::Spot;
-use scene::Value;
+ghost use Rattle.register.specs.Contracts.Survey.{Agrees, Declares};
+use scene::OptionalPoint;
+use scene::OptionalFloat;
 
 // The variables geo_frame, geo_px and so on.
 pub struct Geo {
-    pub frame: Value,
-    pub px: Value,
-    pub scale: Value,
-    pub bearing: Value,
-    pub lon: Value,
-    pub lat: Value,
+    pub frame: OptionalFloat,
+    pub px: OptionalFloat,
+    pub scale: OptionalFloat,
+    pub bearing: OptionalFloat,
+    pub lon: OptionalFloat,
+    pub lat: OptionalFloat,
 }
 
 pub struct Declared {
@@ -25,18 +25,18 @@ pub struct Declared {
     pub mercator: bool,
     // lengths are pixels
     pub px: bool,
-    pub scale: Value,
-    pub bearing: Value,
-    pub anchor: Spot,
+    pub scale: OptionalFloat,
+    pub bearing: OptionalFloat,
+    pub anchor: OptionalPoint,
     // one of geo_lon and geo_lat is set without the other, and no option
     pub half: bool,
-    pub view: Value,
+    pub view: OptionalFloat,
     pub rescale: f64,
 }
 
 // The frame is Mercator, by the option, else by the variable.
-fn is_mercator(s: &[u8], frame: Value) -> bool
-    requires { ⌜ valueBy frame ≡ var (sceneOf (payload (now s))) geoFrame ⌝ }
+fn is_mercator(s: &[u8], frame: OptionalFloat) -> bool
+    requires { ⌜ maybeFloat frame ≡ var (sceneOf (payload (now s))) geoFrame ⌝ }
     ensures { λ r. ⌜ r ≡ isMercator (sceneOf (payload (now (s .entry))) .frame)
         (var (sceneOf (payload (now (s .entry)))) geoFrame) ⌝ }
 {
@@ -50,8 +50,8 @@ fn is_mercator(s: &[u8], frame: Value) -> bool
     frame.value == 1.0
 }
 
-fn is_set(v: Value) -> bool
-    ensures { λ r. ⌜ r ≡ notZero (valueBy v) ⌝ }
+fn is_set(v: OptionalFloat) -> bool
+    ensures { λ r. ⌜ r ≡ notZero (maybeFloat v) ⌝ }
 {
     if !v.some {
         return false;
@@ -59,28 +59,28 @@ fn is_set(v: Value) -> bool
     v.value != 0.0
 }
 
-fn or_value(a: Value, b: Value) -> Value
-    ensures { λ r. ⌜ valueBy r ≡ orElse (valueBy a) (valueBy b) ⌝ }
+fn or_value(a: OptionalFloat, b: OptionalFloat) -> OptionalFloat
+    ensures { λ r. ⌜ maybeFloat r ≡ orElse (maybeFloat a) (maybeFloat b) ⌝ }
 {
     if a.some { a } else { b }
 }
 
-fn anchor_of(option: Spot, lon: Value, lat: Value) -> Spot
-    ensures { λ r. ⌜ spotBy r ≡ orElse (spotBy option) (bothOf (valueBy lon) (valueBy lat)) ⌝ }
+fn anchor_of(option: OptionalPoint, lon: OptionalFloat, lat: OptionalFloat) -> OptionalPoint
+    ensures { λ r. ⌜ maybePoint r ≡ orElse (maybePoint option) (bothOf (maybeFloat lon) (maybeFloat lat)) ⌝ }
 {
     if option.some {
         return option;
     }
-    Spot {
+    OptionalPoint {
         some: lon.some && lat.some,
         x: lon.value,
         y: lat.value,
     }
 }
 
-fn is_half(option: Spot, lon: Value, lat: Value) -> bool
-    ensures { λ r. ⌜ r ≡ not (isSome (spotBy option)) && onlyOne (isSome (valueBy lon))
-        (isSome (valueBy lat)) ⌝ }
+fn is_half(option: OptionalPoint, lon: OptionalFloat, lat: OptionalFloat) -> bool
+    ensures { λ r. ⌜ r ≡ not (isSome (maybePoint option)) && onlyOne (isSome (maybeFloat lon))
+        (isSome (maybeFloat lat)) ⌝ }
 {
     if option.some {
         return false;
@@ -90,7 +90,7 @@ fn is_half(option: Spot, lon: Value, lat: Value) -> bool
 
 // With what the variables say.
 pub fn read_declared(s: &[u8], g: Geo) -> Declared
-    requires { ⌜ Says (variablesAt (payload (now s)) 0) g ⌝ }
+    requires { ⌜ Agrees (variablesAt (payload (now s)) 0) g ⌝ }
     ensures { λ r. ⌜ Declares (sceneOf (payload (now (s .entry)))) r ⌝ }
 {
     let anchor = scene::anchor(s);

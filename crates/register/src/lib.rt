@@ -3,7 +3,7 @@ mod controls;
 mod declared;
 mod mentions;
 mod outcome;
-mod runs;
+mod lat_lookup;
 mod survey;
 mod warnings;
 
@@ -12,5 +12,5 @@ pub use outcome::refuse;
 pub use outcome::register;
 pub use survey::Survey;
 pub use survey::survey_stream;
-pub use warnings::Warned;
+pub use warnings::WarningCursor;
 pub use warnings::write_warnings;

@@ -5,14 +5,14 @@ ghost use mathlib.Core.List.{List};
 ghost use Prim.Native.Nat.{ℕ, _+_, _≤_};
 ghost use Rattle.stream.specs.Payload.{payload};
 ghost use Rattle.stream.specs.Contracts.Payload.{room};
-ghost use Rattle.records.specs.Records.{part};
+ghost use Rattle.records.specs.Records.{bytesAt};
 ghost use Rattle.register.specs.Register.{isLon};
 ghost use Rattle.register.specs.Contracts.Mentions.{Follows, Asked};
-use crate::runs::common;
-use crate::runs::lat_of;
-use crate::runs::set_runs;
-use scene::Value;
-use scene::is_named;
+use crate::lat_lookup::common_prefix;
+use crate::lat_lookup::lat_of;
+use crate::lat_lookup::set_prefix_starts;
+use scene::OptionalFloat;
+use scene::name_is;
 use scene::next_feature;
 use scene::next_variable;
 
@@ -31,7 +31,7 @@ pub struct Mention {
     pub at: usize,
     pub len: usize,
     pub lon: f64,
-    pub lat: Value,
+    pub lat: OptionalFloat,
     pub index: usize,
     pub next: Cursor,
 }
@@ -39,7 +39,7 @@ pub struct Mention {
 fn no_mention(c: Cursor) -> Mention
     ensures { λ r. ⌜ (r .some ≡ false) × (r .next ≡ c) ⌝ }
 {
-    let none = Value {
+    let none = OptionalFloat {
         some: false,
         value: 0.0,
     };
@@ -54,7 +54,7 @@ fn no_mention(c: Cursor) -> Mention
     }
 }
 
-fn next_featured(s: &[u8], c: Cursor) -> Mention
+fn next_feature_name(s: &[u8], c: Cursor) -> Mention
     requires { ⌜ c .i ≤ c .q ⌝ }
     ensures { λ r. ⌜ ((runs : List ℕ) → Asked (now (s .entry)) false c r runs) ⌝ }
 {
@@ -62,7 +62,7 @@ fn next_featured(s: &[u8], c: Cursor) -> Mention
     if !f.some {
         return no_mention(c);
     }
-    let lat = Value {
+    let lat = OptionalFloat {
         some: true,
         value: f.lat,
     };
@@ -86,15 +86,15 @@ fn next_featured(s: &[u8], c: Cursor) -> Mention
 // Whether the name of n bytes at `at` is `<L>_lon`, L other than geo.
 pub fn is_lon(s: &[u8], at: usize, n: usize) -> bool
     requires { ⌜ at + n ≤ room (now s) ⌝ }
-    ensures { λ r. ⌜ r ≡ isLon (part (payload (now (s .entry))) at n) ⌝ }
+    ensures { λ r. ⌜ r ≡ isLon (bytesAt (payload (now (s .entry))) at n) ⌝ }
 {
     if n < 4 {
         return false;
     }
-    if !is_named(s, at + n - 4, 4, b"_lon") {
+    if !name_is(s, at + n - 4, 4, b"_lon") {
         return false;
     }
-    !is_named(s, at, n - 4, b"geo")
+    !name_is(s, at, n - 4, b"geo")
 }
 
 fn next_lon(s: &[u8], c: Cursor, runs: &mut [usize]) -> Mention
@@ -116,8 +116,8 @@ fn next_lon(s: &[u8], c: Cursor, runs: &mut [usize]) -> Mention
             };
             return no_mention(end);
         }
-        let alike = common(s, at, len, v.at, v.len);
-        set_runs(runs, alike, q);
+        let alike = common_prefix(s, at, len, v.at, v.len);
+        set_prefix_starts(runs, alike, q);
         at = v.at;
         len = v.len;
         q = v.next;
@@ -152,5 +152,5 @@ pub fn next_mention(s: &[u8], lons: bool, c: Cursor, runs: &mut [usize]) -> Ment
     if lons {
         return next_lon(s, c, runs);
     }
-    next_featured(s, c)
+    next_feature_name(s, c)
 }

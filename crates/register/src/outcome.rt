@@ -11,11 +11,11 @@ ghost use Rattle.register.specs.Contracts.Survey.{Declares, Surveyed};
 ghost use Rattle.register.specs.Contracts.Gathered.{controlIn, controlsBy, Kept};
 ghost use Rattle.register.specs.Contracts.Outcome.{refusedBy, outcomeOf, checkedOf, declaredOutcome, fittedOutcome};
 use crate::controls::gather;
-use crate::controls::is_placed;
+use crate::controls::is_within_limits;
 use crate::declared::Declared;
 use crate::survey::Survey;
 use float::is_finite;
-use scene::Spot;
+use scene::OptionalPoint;
 use similarity::Control;
 use similarity::Registration;
 use similarity::fit_points;
@@ -66,7 +66,7 @@ fn check_scale(r: Registration) -> Outcome
 }
 
 // 12 to 14: by what is declared, about an anchor, with an origin.
-fn declare(d: Declared, anchor: Spot, origin: Spot, n: u32) -> Outcome
+fn declare(d: Declared, anchor: OptionalPoint, origin: OptionalPoint, n: u32) -> Outcome
     ensures { λ o. ⌜ ((sc : Scene) → Declares sc d → o
         ≡ declaredOutcome sc (record { x = anchor .x; y = anchor .y })
         (record { x = origin .x; y = origin .y }) n) ⌝ }
@@ -159,11 +159,11 @@ pub fn register(s: &[u8], v: Survey, kept: &mut [u32]) -> Outcome
     let mut flat = [0.0f64; 256];
     let g = gather(s, v, &mut flat, kept);
     let a = d.anchor;
-    if !g.placed {
+    if !g.within {
         return refuse(8);
     }
     if a.some {
-        if !is_placed(a.x, a.y) {
+        if !is_within_limits(a.x, a.y) {
             return refuse(8);
         }
     }
@@ -176,12 +176,12 @@ pub fn register(s: &[u8], v: Survey, kept: &mut [u32]) -> Outcome
     }
     if n == 1 {
         let c = control_at(&flat, 0);
-        let anchor = Spot {
+        let anchor = OptionalPoint {
             some: true,
             x: c.lon,
             y: c.lat,
         };
-        let origin = Spot {
+        let origin = OptionalPoint {
             some: true,
             x: c.x,
             y: c.y,
@@ -191,7 +191,7 @@ pub fn register(s: &[u8], v: Survey, kept: &mut [u32]) -> Outcome
     if !a.some {
         return refuse(10);
     }
-    let origin = Spot {
+    let origin = OptionalPoint {
         some: true,
         x: 0.0,
         y: 0.0,

@@ -3,15 +3,15 @@ ghost use mathlib.Core.Path.{_≡_};
 ghost use Prim.Native.Nat.{_+_, _≤_};
 ghost use Rattle.stream.specs.Payload.{payload};
 ghost use Rattle.stream.specs.Contracts.Payload.{room};
-ghost use Rattle.records.specs.Records.{part};
-ghost use Rattle.register.specs.Contracts.Survey.{keptOf, notedOf, Numbered, Surveyed};
+ghost use Rattle.records.specs.Records.{bytesAt};
+ghost use Rattle.register.specs.Contracts.Survey.{firstValue, recordedGeo, Numbered, Surveyed};
 use crate::declared::Declared;
 use crate::declared::Geo;
 use crate::declared::read_declared;
 use crate::mentions::is_lon;
-use scene::Value;
+use scene::OptionalFloat;
 use scene::Variable;
-use scene::is_named;
+use scene::name_is;
 use scene::next_name;
 use scene::next_variable;
 
@@ -26,32 +26,32 @@ pub struct Survey {
 }
 
 // The value looked for by a name, after the variable v: the first one stays.
-fn keep(s: &[u8], old: Value, v: Variable, name: &[u8]) -> Value
+fn first_value(s: &[u8], old: OptionalFloat, v: Variable, name: &[u8]) -> OptionalFloat
     requires { ⌜ v .at + v .len ≤ room (now s) ⌝ }
     ensures { λ r. ⌜ r
-        ≡ keptOf (part (payload (now (s .entry))) (v .at) (v .len)) (v .value) (now (name .entry)) old ⌝ }
+        ≡ firstValue (bytesAt (payload (now (s .entry))) (v .at) (v .len)) (v .value) (now (name .entry)) old ⌝ }
 {
     if old.some {
         return old;
     }
-    Value {
-        some: is_named(s, v.at, v.len, name),
+    OptionalFloat {
+        some: name_is(s, v.at, v.len, name),
         value: v.value,
     }
 }
 
 // All of them after the variable v.
-fn note(s: &[u8], g: Geo, v: Variable) -> Geo
+fn record_geo(s: &[u8], g: Geo, v: Variable) -> Geo
     requires { ⌜ v .at + v .len ≤ room (now s) ⌝ }
-    ensures { λ r. ⌜ r ≡ notedOf (part (payload (now (s .entry))) (v .at) (v .len)) (v .value) g ⌝ }
+    ensures { λ r. ⌜ r ≡ recordedGeo (bytesAt (payload (now (s .entry))) (v .at) (v .len)) (v .value) g ⌝ }
 {
     Geo {
-        frame: keep(s, g.frame, v, b"geo_frame"),
-        px: keep(s, g.px, v, b"geo_px"),
-        scale: keep(s, g.scale, v, b"geo_scale"),
-        bearing: keep(s, g.bearing, v, b"geo_bearing"),
-        lon: keep(s, g.lon, v, b"geo_lon"),
-        lat: keep(s, g.lat, v, b"geo_lat"),
+        frame: first_value(s, g.frame, v, b"geo_frame"),
+        px: first_value(s, g.px, v, b"geo_px"),
+        scale: first_value(s, g.scale, v, b"geo_scale"),
+        bearing: first_value(s, g.bearing, v, b"geo_bearing"),
+        lon: first_value(s, g.lon, v, b"geo_lon"),
+        lat: first_value(s, g.lat, v, b"geo_lat"),
     }
 }
 
@@ -79,7 +79,7 @@ fn count_features(s: &[u8]) -> FeatureCount
 pub fn survey_stream(s: &[u8]) -> Survey
     ensures { λ r. ⌜ Surveyed (payload (now (s .entry))) r ⌝ }
 {
-    let none = Value {
+    let none = OptionalFloat {
         some: false,
         value: 0.0,
     };
@@ -107,7 +107,7 @@ pub fn survey_stream(s: &[u8]) -> Survey
                 labels: v.next,
             };
         }
-        geo = note(s, geo, v);
+        geo = record_geo(s, geo, v);
         if is_lon(s, v.at, v.len) {
             names += 1;
             lons += 1;

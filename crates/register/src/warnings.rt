@@ -6,52 +6,52 @@ ghost use lib.ListN.{length, take, drop};
 ghost use Rattle.stream.specs.Payload.{payload};
 ghost use Rattle.stream.specs.Contracts.Payload.{room};
 ghost use Rattle.records.specs.Layout.{laidOut};
-ghost use Rattle.records.specs.Records.{part};
+ghost use Rattle.records.specs.Records.{bytesAt};
 ghost use Rattle.scene.specs.Scene.{Scene, sceneOf};
-ghost use Rattle.scene.specs.Contracts.Answers.{valueBy};
+ghost use Rattle.scene.specs.Contracts.Answers.{maybeFloat};
 ghost use Rattle.register.specs.Register.{featureEvents, variableEvents, events, warningsIn, controlsOf, viewWarnings, halfWarnings, anyDeclared, ignoredWith, registerWarnings};
 ghost use Rattle.register.specs.Contracts.Survey.{Declares, Surveyed};
 ghost use Rattle.register.specs.Contracts.Gathered.{numbersIn, Kept};
-ghost use Rattle.register.specs.Contracts.Warned.{pushed, allPushed, firstIs, called, Stands, Behind, kindBy};
+ghost use Rattle.register.specs.Contracts.Warnings.{pushed, allPushed, firstIs, anyNameIs, NamesFit, AfterFeatures, kindBy};
 use crate::declared::Declared;
 use crate::mentions::Cursor;
 use crate::mentions::Mention;
 use crate::mentions::next_mention;
 use crate::survey::Survey;
-use scene::is_called;
+use scene::name_at_equals;
 use scene::next_name;
 
 // How far the slice is used, in numbers, and whether everything fitted.
 #[repr(C)]
-pub struct Warned {
+pub struct WarningCursor {
     pub ok: bool,
     pub used: usize,
 }
 
 // One more warning.
-fn push(out: &mut [u32], w: Warned, kind: u32, index: u32) -> Warned
+fn push(out: &mut [u32], w: WarningCursor, kind: u32, index: u32) -> WarningCursor
     requires { ⌜ w .used ≤ length (now out) ⌝ }
-    ensures { λ r. ⌜ record { out = now (out .exit); said = r }
-        ≡ pushed (record { kind = kind; index = index }) (record { out = now (out .entry); said = w }) ⌝ }
+    ensures { λ r. ⌜ record { out = now (out .exit); cursor = r }
+        ≡ pushed (record { kind = kind; index = index }) (record { out = now (out .entry); cursor = w }) ⌝ }
 {
     let n = w.used;
     if !w.ok {
         return w;
     }
     if out.len() - n < 2 {
-        return Warned { ok: false, used: n };
+        return WarningCursor { ok: false, used: n };
     }
     out[n] = kind;
     out[n + 1] = index;
-    Warned {
+    WarningCursor {
         ok: true,
         used: n + 2,
     }
 }
 
 // What the walk over the host features comes to: how many there are, and how many of them are control points.
-pub struct Featured {
-    pub warned: Warned,
+pub struct FeatureWarnings {
+    pub warned: WarningCursor,
     pub count: usize,
     pub controls: usize,
 }
@@ -74,16 +74,16 @@ fn warn_features(
     n: usize,
     heads: &mut [u32],
     out: &mut [u32],
-    w: Warned,
-) -> Featured
+    w: WarningCursor,
+) -> FeatureWarnings
     requires { ⌜ (room (now s) < 33554432) × (w .used ≤ length (now out)) × (n ≤ 64)
         × (length (now kept) ≡ 64)
         × (length (now heads) ≡ 64) × (take n (now kept) ≡ numbersIn 0 (events (sceneOf (payload (now s))))) ⌝ }
-    ensures { λ r. ⌜ record { out = now (out .exit); said = r .warned }
+    ensures { λ r. ⌜ record { out = now (out .exit); cursor = r .warned }
         ≡ allPushed (warningsIn (featureEvents (sceneOf (payload (now (s .entry)))) 0
-        (sceneOf (payload (now (s .entry))) .features))) (record { out = now (out .entry); said = w }) ⌝ }
+        (sceneOf (payload (now (s .entry))) .features))) (record { out = now (out .entry); cursor = w }) ⌝ }
     ensures { λ r. ⌜ (r .warned .used ≤ length (now (out .exit)))
-        × Behind (now (s .entry)) (now (kept .entry)) n (now (heads .exit)) (r .controls) (r .count) ⌝ }
+        × AfterFeatures (now (s .entry)) (now (kept .entry)) n (now (heads .exit)) (r .controls) (r .count) ⌝ }
 {
     let mut warned = w;
     let mut h = 0usize;
@@ -92,7 +92,7 @@ fn warn_features(
     loop {
         let f = next_name(s, q);
         if !f.some {
-            return Featured {
+            return FeatureWarnings {
                 warned: warned,
                 count: i,
                 controls: h,
@@ -110,14 +110,14 @@ fn warn_features(
 }
 
 // Whether one of the first h heads is that of the n bytes at `at`.
-fn is_headed(s: &[u8], heads: &[u32], h: usize, at: usize, n: usize) -> bool
-    requires { ⌜ Stands (now s) (now heads) h × (at + n ≤ room (now s)) ⌝ }
-    ensures { λ r. ⌜ r ≡ called (payload (now (s .entry))) (take h (now (heads .entry)))
-        (part (payload (now (s .entry))) at n) ⌝ }
+fn is_feature_name(s: &[u8], heads: &[u32], h: usize, at: usize, n: usize) -> bool
+    requires { ⌜ NamesFit (now s) (now heads) h × (at + n ≤ room (now s)) ⌝ }
+    ensures { λ r. ⌜ r ≡ anyNameIs (payload (now (s .entry))) (take h (now (heads .entry)))
+        (bytesAt (payload (now (s .entry))) at n) ⌝ }
 {
     let mut k = 0usize;
     while k < h {
-        if is_called(s, heads[k] as usize, at, n) {
+        if name_at_equals(s, heads[k] as usize, at, n) {
             return true;
         }
         k += 1;
@@ -127,16 +127,16 @@ fn is_headed(s: &[u8], heads: &[u32], h: usize, at: usize, n: usize) -> bool
 
 // The warning of a mention that is no control point: 3 where a host feature has its name and resolves, else 2.
 fn kind_of(s: &[u8], heads: &[u32], h: usize, m: Mention) -> u32
-    requires { ⌜ Stands (now s) (now heads) h × (m .at + m .len ≤ room (now s)) ⌝ }
-    ensures { λ r. ⌜ r ≡ kindBy (valueBy (m .lat))
-        (called (payload (now (s .entry))) (take h (now (heads .entry)))
-        (part (payload (now (s .entry))) (m .at) (m .len))) ⌝ }
+    requires { ⌜ NamesFit (now s) (now heads) h × (m .at + m .len ≤ room (now s)) ⌝ }
+    ensures { λ r. ⌜ r ≡ kindBy (maybeFloat (m .lat))
+        (anyNameIs (payload (now (s .entry))) (take h (now (heads .entry)))
+        (bytesAt (payload (now (s .entry))) (m .at) (m .len))) ⌝ }
 {
     let lat = m.lat;
     if !lat.some {
         return 2;
     }
-    if is_headed(s, heads, h, m.at, m.len) {
+    if is_feature_name(s, heads, h, m.at, m.len) {
         return 3;
     }
     2
@@ -152,14 +152,14 @@ fn warn_lons(
     h: usize,
     features: usize,
     out: &mut [u32],
-    w: Warned,
-) -> Warned
+    w: WarningCursor,
+) -> WarningCursor
     requires { ⌜ (room (now s) < 33554432) × (laidOut (payload (now s)) ≡ true) × (w .used ≤ length (now out))
         × Surveyed (payload (now s)) v × (n ≤ 64) × (length (now kept) ≡ 64)
-        × Behind (now s) (now kept) n (now heads) h features ⌝ }
-    ensures { λ r. ⌜ record { out = now (out .exit); said = r }
+        × AfterFeatures (now s) (now kept) n (now heads) h features ⌝ }
+    ensures { λ r. ⌜ record { out = now (out .exit); cursor = r }
         ≡ allPushed (warningsIn (variableEvents (sceneOf (payload (now (s .entry)))) 0
-        (sceneOf (payload (now (s .entry))) .variables))) (record { out = now (out .entry); said = w }) ⌝ }
+        (sceneOf (payload (now (s .entry))) .variables))) (record { out = now (out .entry); cursor = w }) ⌝ }
     ensures { λ r. ⌜ r .used ≤ length (now (out .exit)) ⌝ }
 {
     let mut warned = w;
@@ -188,13 +188,13 @@ fn warn_lons(
 }
 
 // Of all names. Where each has come to one of the n control points, no look is taken.
-fn warn_names(s: &[u8], v: Survey, kept: &[u32], out: &mut [u32], w: Warned, n: u32) -> Warned
+fn warn_names(s: &[u8], v: Survey, kept: &[u32], out: &mut [u32], w: WarningCursor, n: u32) -> WarningCursor
     requires { ⌜ (room (now s) < 33554432) × (laidOut (payload (now s)) ≡ true) × (w .used ≤ length (now out))
         × Surveyed (payload (now s)) v × (n ≡ length (controlsOf (sceneOf (payload (now s))))) × (n ≤ 64)
         × (length (now kept) ≡ 64) × Kept (sceneOf (payload (now s))) (now kept) ⌝ }
-    ensures { λ r. ⌜ record { out = now (out .exit); said = r }
+    ensures { λ r. ⌜ record { out = now (out .exit); cursor = r }
         ≡ allPushed (warningsIn (events (sceneOf (payload (now (s .entry))))))
-        (record { out = now (out .entry); said = w }) ⌝ }
+        (record { out = now (out .entry); cursor = w }) ⌝ }
     ensures { λ r. ⌜ r .used ≤ length (now (out .exit)) ⌝ }
 {
     let n = n as usize;
@@ -211,10 +211,10 @@ fn warn_names(s: &[u8], v: Survey, kept: &[u32], out: &mut [u32], w: Warned, n: 
 }
 
 // 1: a view_scale without geo_px.
-fn warn_view(d: Declared, out: &mut [u32], w: Warned) -> Warned
+fn warn_view(d: Declared, out: &mut [u32], w: WarningCursor) -> WarningCursor
     requires { ⌜ w .used ≤ length (now out) ⌝ }
-    ensures { λ r. ⌜ ((sc : Scene) → Declares sc d → record { out = now (out .exit); said = r }
-        ≡ allPushed (viewWarnings sc) (record { out = now (out .entry); said = w })) ⌝ }
+    ensures { λ r. ⌜ ((sc : Scene) → Declares sc d → record { out = now (out .exit); cursor = r }
+        ≡ allPushed (viewWarnings sc) (record { out = now (out .entry); cursor = w })) ⌝ }
     ensures { λ r. ⌜ r .used ≤ length (now (out .exit)) ⌝ }
 {
     let view = d.view;
@@ -228,10 +228,10 @@ fn warn_view(d: Declared, out: &mut [u32], w: Warned) -> Warned
 }
 
 // 2: half an anchor.
-fn warn_half(d: Declared, out: &mut [u32], w: Warned) -> Warned
+fn warn_half(d: Declared, out: &mut [u32], w: WarningCursor) -> WarningCursor
     requires { ⌜ w .used ≤ length (now out) ⌝ }
-    ensures { λ r. ⌜ ((sc : Scene) → Declares sc d → record { out = now (out .exit); said = r }
-        ≡ allPushed (halfWarnings sc) (record { out = now (out .entry); said = w })) ⌝ }
+    ensures { λ r. ⌜ ((sc : Scene) → Declares sc d → record { out = now (out .exit); cursor = r }
+        ≡ allPushed (halfWarnings sc) (record { out = now (out .entry); cursor = w })) ⌝ }
     ensures { λ r. ⌜ r .used ≤ length (now (out .exit)) ⌝ }
 {
     if !d.half {
@@ -256,10 +256,10 @@ fn declares(d: Declared) -> bool
 }
 
 // 4: what is ignored with n control points.
-fn warn_ignored(d: Declared, out: &mut [u32], w: Warned, n: u32) -> Warned
+fn warn_ignored(d: Declared, out: &mut [u32], w: WarningCursor, n: u32) -> WarningCursor
     requires { ⌜ w .used ≤ length (now out) ⌝ }
-    ensures { λ r. ⌜ ((sc : Scene) → Declares sc d → record { out = now (out .exit); said = r }
-        ≡ allPushed (ignoredWith n sc) (record { out = now (out .entry); said = w })) ⌝ }
+    ensures { λ r. ⌜ ((sc : Scene) → Declares sc d → record { out = now (out .exit); cursor = r }
+        ≡ allPushed (ignoredWith n sc) (record { out = now (out .entry); cursor = w })) ⌝ }
     ensures { λ r. ⌜ r .used ≤ length (now (out .exit)) ⌝ }
 {
     if n == 0 {
@@ -279,15 +279,15 @@ fn warn_ignored(d: Declared, out: &mut [u32], w: Warned, n: u32) -> Warned
 }
 
 // All warnings of the registration of a stream that is laid out, with n control points, of the names that are kept.
-pub fn write_warnings(s: &[u8], v: Survey, kept: &[u32], out: &mut [u32], n: u32) -> Warned
+pub fn write_warnings(s: &[u8], v: Survey, kept: &[u32], out: &mut [u32], n: u32) -> WarningCursor
     requires { ⌜ (room (now s) < 33554432) × (laidOut (payload (now s)) ≡ true) × Surveyed (payload (now s)) v
         × (n ≡ length (controlsOf (sceneOf (payload (now s))))) × (n ≤ 64) × (length (now kept) ≡ 64)
         × Kept (sceneOf (payload (now s))) (now kept) ⌝ }
-    ensures { λ r. ⌜ record { out = now (out .exit); said = r }
+    ensures { λ r. ⌜ record { out = now (out .exit); cursor = r }
         ≡ allPushed (registerWarnings (sceneOf (payload (now (s .entry)))))
-        (record { out = now (out .entry); said = record { ok = true; used = 0 } }) ⌝ }
+        (record { out = now (out .entry); cursor = record { ok = true; used = 0 } }) ⌝ }
 {
-    let none = Warned { ok: true, used: 0 };
+    let none = WarningCursor { ok: true, used: 0 };
     let d = v.declared;
     let view = warn_view(d, out, none);
     let all = warn_names(s, v, kept, out, view, n);

@@ -7,7 +7,7 @@ use native.Mathlib.Omega.{arith}
 use lib.Dec.{T, ltb, ltb→lt, nltb→le}
 use mir.Val.{boolByte}
 use Rattle.root.specs.Laws.Whole.{IsRoot, sq-le-root, sq-lt-back}
-use Rattle.root.specs.Contracts.Blocks.{Remains, Guess, Ready}
+use Rattle.root.specs.Contracts.Blocks.{IsRemainder, Guess, BlockInput}
 
 -- ---- the root is `top`, or one less where `have` is below `need`
 pub record Settled (top have need over root : ℕ) : Type 0 where
@@ -46,7 +46,7 @@ square-le c rem b s C N h = le-of-mul-le-mul-right (le-trans left (le-trans (mul
     right : rem * b * (rem * b) ≤ c * b * (c * c)
     right = omega (arith, mul-le-mul-right b N)
 
-module _ {a rem b d : ℕ} (R : Ready a rem b d) where
+module _ {a rem b d : ℕ} (R : BlockInput a rem b d) where
   abbrev t : ℕ
   t = rem * b + d / b
 
@@ -99,21 +99,21 @@ module _ {a rem b d : ℕ} (R : Ready a rem b d) where
 
 -- ---- from block to block
 -- the same number, written otherwise
-pub renamed : {n k r e : ℕ} → n ≡ k → Remains n r e → Remains k r e
+pub renamed : {n k r e : ℕ} → n ≡ k → IsRemainder n r e → IsRemainder k r e
 renamed p v = record { is = sym p ∙ v .is; little = v .little }
 
-pub whole-of : {n r e : ℕ} → Remains n r e → IsRoot n r
+pub whole-of : {n r e : ℕ} → IsRemainder n r e → IsRoot n r
 whole-of v = let s = v .is in record { least = omega arith; most = omega arith }
 
 -- a guess of 14 digits at most can be made exact: a block of none
-pub ready-guess : {n r e : ℕ} → Guess n r e → n < 2 ^ 28 → Ready r e 1 0
+pub ready-guess : {n r e : ℕ} → Guess n r e → n < 2 ^ 28 → BlockInput r e 1 0
 ready-guess {n} {r} {e} v h =
     let s = v .is in
     let high : r < 2 ^ 14 = sq-lt-back r (2 ^ 14) (omega arith) in
     record { near = v .near; room = omega (arith, v .some); digits = omega arith; root-lt = omega arith; rem-lt = omega arith; b-le = omega arith }
 
 -- a root of at least s can be followed by a block b of at most 2 * s
-pub ready : {n r e b d : ℕ} (s : ℕ) → Remains n r e → s * s ≤ n → n < 2 ^ 54 → b ≤ 2 * s → b ≤ 2 ^ 27 → d < b * b → Ready r e b d
+pub ready : {n r e b d : ℕ} (s : ℕ) → IsRemainder n r e → s * s ≤ n → n < 2 ^ 54 → b ≤ 2 * s → b ≤ 2 ^ 27 → d < b * b → BlockInput r e b d
 ready {n} {r} {e} {b} {d} s v l h k w f =
     let low : s ≤ r = sq-le-root s (whole-of v) l in
     let high : r < 2 ^ 27 = sq-lt-back r (2 ^ 27) (lt-of-le-of-lt (whole-of v .least) h) in

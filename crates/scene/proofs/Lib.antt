@@ -1,5 +1,5 @@
 pub mod Values
-pub mod Agreeing
+pub mod Searches
 pub mod Keys
 pub mod Means
 pub mod Reading

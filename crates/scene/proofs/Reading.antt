@@ -15,11 +15,11 @@ use Rattle.stream.specs.Laws.Numbers.{u16-drop, u32-drop}
 use Rattle.stream.specs.Payload.{payload}
 use Rattle.stream.specs.Contracts.Payload.{room}
 use Rattle.records.specs.declared.search.Hit.{Hit}
-use Rattle.records.specs.Records.{part}
+use Rattle.records.specs.Records.{bytesAt}
 use Rattle.records.specs.Laws.Search.{standing-tells}
-use Rattle.scene.specs.declared.sections.FeatureName.{FeatureName}
-use Rattle.scene.specs.declared.sections.Path.{Path}
-use Rattle.scene.specs.Scene.{numberAt, pointAt, pointsAt, featureAt, variableAt, placeAt, formAt, pathAt}
+use Rattle.scene.specs.declared.readers.FeatureName.{FeatureName}
+use Rattle.scene.specs.declared.readers.Path.{Path}
+use Rattle.scene.specs.Scene.{floatValueAt, pointAt, pointsAt, featureAt, variableAt, placeAt, formAt, pathAt}
 use Rattle.scene.specs.Contracts.Answers.{Within, PathWithin, featuresAt, featuresBy, featureBy, variablesAt, placesAt, pointsFrom, pointsBy, pathsFrom, pathsBy}
 use Rattle.scene.specs.Laws.Shift.{part-drop, number-drop, point-drop, points-drop, cubics-drop}
 use Rattle.scene.specs.Laws.Found.{nothing, One, Named, one-listed, one-first, points-end, cubics-end, polyline-ends}
@@ -41,16 +41,16 @@ module _ {s : List ℕ} {p n : ℕ} {h : Hit} where
       let j : h .at + 2 + n + 8 ≡ h .at + 10 + n = omega arith in
       (one-listed (f .one) featureAt (rw (j, f .is) (simp (getD-drop, part-drop, number-drop, add-assoc))), λ _. record { name = omega arith; more = omega arith; fits = omega arith })
 
-  pub variable-found : (f : Named s p 4 h 10 n) {x : Float} → x ≡ numberAt (payload s) (h .at + 2 + n)
-      → (variablesAt (payload s) p ≡ record { name = part (payload s) (h .at + 2) n; value = x } ∷ variablesAt (payload s) (h .next)) × Lies f
+  pub variable-found : (f : Named s p 4 h 10 n) {x : Float} → x ≡ floatValueAt (payload s) (h .at + 2 + n)
+      → (variablesAt (payload s) p ≡ record { name = bytesAt (payload s) (h .at + 2) n; value = x } ∷ variablesAt (payload s) (h .next)) × Lies f
   unfolding variableAt
   variable-found f a = (one-listed (f .one) variableAt (rw (a, f .is) (simp (getD-drop, part-drop, number-drop, add-assoc))), lies f (omega arith))
 
-  pub place-found : (f : Named s p 5 h 27 n) {x y : Float} {b line col : ℕ} → x ≡ numberAt (payload s) (h .at + 2 + n) → y ≡ numberAt (payload s) (h .at + 10 + n)
+  pub place-found : (f : Named s p 5 h 27 n) {x y : Float} {b line col : ℕ} → x ≡ floatValueAt (payload s) (h .at + 2 + n) → y ≡ floatValueAt (payload s) (h .at + 10 + n)
       → b ≡ getD (payload s) (h .at + 18 + n) 0
       → line ≡ u32At (payload s) (h .at + 19 + n)
       → col ≡ u32At (payload s) (h .at + 23 + n)
-      → (placesAt (payload s) p ≡ record { label = part (payload s) (h .at + 2) n; at = record { x = x; y = y }; nested = eqb b 1; line = line; col = col } ∷ placesAt (payload s) (h .next)) × Lies f
+      → (placesAt (payload s) p ≡ record { label = bytesAt (payload s) (h .at + 2) n; at = record { x = x; y = y }; nested = eqb b 1; line = line; col = col } ∷ placesAt (payload s) (h .next)) × Lies f
   unfolding placeAt pointAt
   place-found f a b c d e =
       let j : h .at + 10 + n ≡ h .at + 2 + n + 8 = omega arith in
@@ -61,8 +61,8 @@ module _ (s : List ℕ) (p : ℕ) (f : FeatureName) (e : featuresAt (payload s) 
   pub feature-none : not (f .some) ≡ true → featuresAt (payload s) p ≡ []
   feature-none n = rw (e, not-true (f .some) n) refl
 
-  pub feature-read : not (f .some) ≡ false → {x y : Float} → x ≡ numberAt (payload s) (f .at + f .len) → y ≡ numberAt (payload s) (f .at + f .len + 8)
-      → featuresAt (payload s) p ≡ record { name = part (payload s) (f .at) (f .len); lon = x; lat = y } ∷ featuresAt (payload s) (f .next)
+  pub feature-read : not (f .some) ≡ false → {x y : Float} → x ≡ floatValueAt (payload s) (f .at + f .len) → y ≡ floatValueAt (payload s) (f .at + f .len + 8)
+      → featuresAt (payload s) p ≡ record { name = bytesAt (payload s) (f .at) (f .len); lon = x; lat = y } ∷ featuresAt (payload s) (f .next)
   feature-read n a b = rw (e, not-false (f .some) n, a, b) refl
 
 -- ---- points and paths

@@ -5,12 +5,12 @@ use mathlib.Core.List.{List}
 use Prim.Native.Nat.{ℕ, suc, _-_}
 use native.Mathlib.Omega.{arith}
 use borrow.Author.Tests.{not-true, not-false}
-use Rattle.scene.specs.declared.sections.Item.{Item}
-use Rattle.scene.specs.declared.sections.Path.{Path}
-use Rattle.scene.specs.declared.sections.Points.{Points}
+use Rattle.scene.specs.declared.readers.Item.{Item}
+use Rattle.scene.specs.declared.readers.Path.{Path}
+use Rattle.scene.specs.declared.readers.Points.{Points}
 use Rattle.scene.specs.Scene.{Maybe, none, some, Point, pointAt, pointsAt, DrawnPath}
 use Rattle.scene.specs.Labels.{startOf, firstStart, meanPoint, meanOrStart, referencePoint}
-use Rattle.scene.specs.Contracts.Answers.{spotBy, pointsFrom, pointsBy, pathsFrom, pathsBy, itemBy}
+use Rattle.scene.specs.Contracts.Answers.{maybePoint, pointsFrom, pointsBy, pathsFrom, pathsBy, itemBy}
 
 -- ---- the first path's start
 module _ (l : List ℕ) (p : ℕ) (c : Path) (e : pathsFrom l p 0 ≡ pathsBy l 0 c) where
@@ -52,7 +52,7 @@ module _ (l : List ℕ) (p : ℕ) (c : Points) (e : pointsFrom l p 0 ≡ pointsB
 
 -- ---- where the item is, or that
 module _ (l : List ℕ) (it : Item) where
-  pub own-point : it .at .some ≡ true → spotBy (it .at) ≡ referencePoint (itemBy l it)
+  pub own-point : it .at .some ≡ true → maybePoint (it .at) ≡ referencePoint (itemBy l it)
   unfolding itemBy referencePoint
   own-point e = rw e refl
 

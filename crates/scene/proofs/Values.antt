@@ -12,18 +12,18 @@ use Rattle.stream.specs.Contracts.Payload.{rest}
 use Rattle.stream.specs.Numbers.{floatAt}
 use Rattle.stream.specs.declared.Float64.{Float64}
 use Rattle.stream.specs.declared.Float64.the-variants.{Finite, NotFinite}
-use Rattle.scene.specs.Scene.{none, some, given, valueOf, numberAt, bit, Point, pointAt}
+use Rattle.scene.specs.Scene.{none, some, given, valueOf, floatValueAt, bit, Point, pointAt}
 
 module _ (s : List ℕ) (p : ℕ) {f : Float64} (e : f ≡ floatAt (rest s 0) p) where
-  pub number-finite : {v : Float} → f ≡ Finite v → v ≡ numberAt (payload s) p
-  unfolding rest numberAt valueOf
+  pub number-finite : {v : Float} → f ≡ Finite v → v ≡ floatValueAt (payload s) p
+  unfolding rest floatValueAt valueOf
   number-finite g = rw (← e, g) refl
 
-  pub number-other : f ≡ NotFinite → ofBits binary64 0 ≡ numberAt (payload s) p
-  unfolding rest numberAt valueOf
+  pub number-other : f ≡ NotFinite → ofBits binary64 0 ≡ floatValueAt (payload s) p
+  unfolding rest floatValueAt valueOf
   number-other g = rw (← e, g) refl
 
-pub point-is : (l : List ℕ) (p : ℕ) {x y : Float} → x ≡ numberAt l p → y ≡ numberAt l (p + 8) → _≡_ {A = Point} (record { x = x; y = y }) (pointAt l p)
+pub point-is : (l : List ℕ) (p : ℕ) {x y : Float} → x ≡ floatValueAt l p → y ≡ floatValueAt l (p + 8) → _≡_ {A = Point} (record { x = x; y = y }) (pointAt l p)
 unfolding pointAt
 point-is l p e g = rw (e, g) refl
 

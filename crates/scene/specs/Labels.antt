@@ -9,11 +9,11 @@ use lib.Ieee.{Float, binary64, ofBits, ofInt, add, div}
 use Rattle.scene.specs.Scene.{Maybe, none, some, Point, Form, curve, polyline, DrawnPath, NamedValue, NamedPlace, DrawnItem}
 
 -- ---- a variable by its name
-unfoldable pub same : List ℕ → List ℕ → Bool
-same [] [] = true
-same [] (y ∷ ys) = false
-same (x ∷ xs) [] = false
-same (x ∷ xs) (y ∷ ys) = eqb x y && same xs ys
+unfoldable pub sameBytes : List ℕ → List ℕ → Bool
+sameBytes [] [] = true
+sameBytes [] (y ∷ ys) = false
+sameBytes (x ∷ xs) [] = false
+sameBytes (x ∷ xs) (y ∷ ys) = eqb x y && sameBytes xs ys
 
 abbrev pub pick : {A : Type 0} → Bool → A → A → A
 pick true a b = a
@@ -22,7 +22,7 @@ pick false a b = b
 -- `var` of register.rs
 unfoldable pub variableOf : List ℕ → List NamedValue → Maybe Float
 variableOf name [] = none
-variableOf name (v ∷ vs) = pick (same (v .name) name) (some (v .value)) (variableOf name vs)
+variableOf name (v ∷ vs) = pick (sameBytes (v .name) name) (some (v .value)) (variableOf name vs)
 
 -- ---- reference_point
 -- a coordinate of the points added up, from a on
@@ -102,19 +102,19 @@ unfoldable pub bestPlace : List ℕ → ℕ → List NamedPlace → Maybe Best �
 bestPlace name i [] b = b
 bestPlace name i (p ∷ ps) b =
     bestPlace name (suc i) ps
-    (pick (same (p .label) name) (consider b (placeKey p i) (p .at)) b)
+    (pick (sameBytes (p .label) name) (consider b (placeKey p i) (p .at)) b)
 
--- an item without a label carries none, not even the empty one
-unfoldable pub carries : Maybe (List ℕ) → List ℕ → Bool
-carries none name = false
-carries (some l) name = same l name
+-- an item without a label labelIs none, not even the empty one
+unfoldable pub labelIs : Maybe (List ℕ) → List ℕ → Bool
+labelIs none name = false
+labelIs (some l) name = sameBytes l name
 
 -- the items of that label that have a reference point
 unfoldable pub bestItem : List ℕ → ℕ → List DrawnItem → Maybe Best → Maybe Best
 bestItem name i [] b = b
 bestItem name i (it ∷ its) b =
     bestItem name (suc i) its
-    (pick (carries (it .label) name) (considerAt b (itemKey it i) (referencePoint it)) b)
+    (pick (labelIs (it .label) name) (considerAt b (itemKey it i) (referencePoint it)) b)
 
 abbrev pub pointOf : Maybe Best → Maybe Point
 pointOf none = none

@@ -8,7 +8,7 @@ use lib.Ieee.{Float, binary64, ofBits}
 use Rattle.stream.specs.Numbers.{u16At, u32At, floatAt}
 use Rattle.stream.specs.declared.Float64.{Float64}
 use Rattle.stream.specs.declared.Float64.the-variants.{Finite, NotFinite}
-use Rattle.records.specs.Records.{valuesWidth, part}
+use Rattle.records.specs.Records.{valuesWidth, bytesAt}
 use Rattle.records.specs.Walk.{Entry, entries}
 use Rattle.records.specs.Search.{recordsOf}
 use Rattle.records.specs.Values.{flattenIn}
@@ -33,8 +33,8 @@ unfoldable pub valueOf : Float64 → Float
 valueOf (Finite v) = v
 valueOf NotFinite = ofBits binary64 0
 
-unfoldable pub numberAt : List ℕ → ℕ → Float
-numberAt l p = valueOf (floatAt l p)
+unfoldable pub floatValueAt : List ℕ → ℕ → Float
+floatValueAt l p = valueOf (floatAt l p)
 
 -- whether the bit of weight k is set
 unfoldable pub bit : ℕ → ℕ → Bool
@@ -47,7 +47,7 @@ pub record Point : Type 0 where
   pub y : Float
 
 unfoldable pub pointAt : List ℕ → ℕ → Point
-pointAt l p = record { x = numberAt l p; y = numberAt l (p + 8) }
+pointAt l p = record { x = floatValueAt l p; y = floatValueAt l (p + 8) }
 
 -- n of them from p on
 unfoldable pub pointsAt : List ℕ → ℕ → ℕ → List Point
@@ -74,7 +74,7 @@ pub record NamedFeature : Type 0 where
   pub lat : Float
 
 unfoldable pub featureAt : List ℕ → NamedFeature
-featureAt l = let n = getD l 1 0 in record { name = part l 2 n; lon = numberAt l (2 + n); lat = numberAt l (10 + n) }
+featureAt l = let n = getD l 1 0 in record { name = bytesAt l 2 n; lon = floatValueAt l (2 + n); lat = floatValueAt l (10 + n) }
 
 -- ---- tag 4: a variable
 pub record NamedValue : Type 0 where
@@ -82,7 +82,7 @@ pub record NamedValue : Type 0 where
   pub value : Float
 
 unfoldable pub variableAt : List ℕ → NamedValue
-variableAt l = let n = getD l 1 0 in record { name = part l 2 n; value = numberAt l (2 + n) }
+variableAt l = let n = getD l 1 0 in record { name = bytesAt l 2 n; value = floatValueAt l (2 + n) }
 
 -- ---- tag 5: a place. Line and column are 0 where it has no span.
 pub record NamedPlace : Type 0 where
@@ -95,7 +95,7 @@ pub record NamedPlace : Type 0 where
 unfoldable pub placeAt : List ℕ → NamedPlace
 placeAt l =
     let n = getD l 1 0 in
-    record { label = part l 2 n; at = pointAt l (2 + n); nested = eqb (getD l (18 + n) 0) 1; line = u32At l (19 + n); col = u32At l (23 + n) }
+    record { label = bytesAt l 2 n; at = pointAt l (2 + n); nested = eqb (getD l (18 + n) 0) 1; line = u32At l (19 + n); col = u32At l (23 + n) }
 
 -- ---- tags 6 to 8: an item with the points and paths that follow it
 -- a path: cubics from a start, or points
@@ -135,12 +135,12 @@ pub record DrawnItem : Type 0 where
   pub paths : List DrawnPath
   pub fillPaths : List DrawnPath
 
--- the records behind the first
-abbrev pub behind : List Entry → List Entry
-behind [] = []
-behind (e ∷ es) = es
+-- the records tail the first
+abbrev pub tail : List Entry → List Entry
+tail [] = []
+tail (e ∷ es) = es
 
--- n is the label's length, m the presence byte, es what stands behind the item: a value stands behind those of lower bits
+-- n is the label's length, m the presence byte, es what stands tail the item: a value stands tail those of lower bits
 unfoldable pub itemWith : List ℕ → ℕ → ℕ → List Entry → DrawnItem
 itemWith l n m es =
     record {
@@ -150,14 +150,14 @@ itemWith l n m es =
       closed = bit (getD l 2 0) 4;
       fill = bit (getD l 2 0) 8;
       screen = bit (getD l 2 0) 16;
-      label = given (ltb 0 n) (part l 4 n);
+      label = given (ltb 0 n) (bytesAt l 4 n);
       line = u32At l (4 + n);
       col = u32At l (8 + n);
       at = given (bit m 1) (pointAt l (13 + n));
-      w = given (bit m 2) (numberAt l (13 + n + valuesWidth (m % 2)));
-      h = given (bit m 4) (numberAt l (13 + n + valuesWidth (m % 4)));
-      r = given (bit m 8) (numberAt l (13 + n + valuesWidth (m % 8)));
-      rad = given (bit m 16) (numberAt l (13 + n + valuesWidth (m % 16)));
+      w = given (bit m 2) (floatValueAt l (13 + n + valuesWidth (m % 2)));
+      h = given (bit m 4) (floatValueAt l (13 + n + valuesWidth (m % 4)));
+      r = given (bit m 8) (floatValueAt l (13 + n + valuesWidth (m % 8)));
+      rad = given (bit m 16) (floatValueAt l (13 + n + valuesWidth (m % 16)));
       points = first (λ b. pointsAt b 4 (u16At b 2)) (recordsOf 7 0 es);
       fillPoints = first (λ b. pointsAt b 4 (u16At b 2)) (recordsOf 7 1 es);
       paths = map pathAt (recordsOf 8 0 es);
@@ -165,7 +165,7 @@ itemWith l n m es =
     }
 
 unfoldable pub itemAt : List ℕ → DrawnItem
-itemAt l = itemWith l (getD l 3 0) (getD l (12 + getD l 3 0) 0) (behind (entries l 0))
+itemAt l = itemWith l (getD l 3 0) (getD l (12 + getD l 3 0) 0) (tail (entries l 0))
 
 -- ---- the whole
 pub record Scene : Type 0 where
@@ -187,13 +187,13 @@ unfoldable pub sceneOf : List ℕ → Scene
 sceneOf l =
     let es = entries l 0 in
     record {
-      rescale = numberAt l 1;
+      rescale = floatValueAt l 1;
       frame = first (λ b. getD b 2 0) (recordsOf 2 1 es);
       anchor = first (λ b. pointAt b 2) (recordsOf 2 2 es);
-      scale = first (λ b. numberAt b 2) (recordsOf 2 3 es);
-      bearing = first (λ b. numberAt b 2) (recordsOf 2 4 es);
+      scale = first (λ b. floatValueAt b 2) (recordsOf 2 3 es);
+      bearing = first (λ b. floatValueAt b 2) (recordsOf 2 4 es);
       flatten = valueOf (flattenIn l);
-      viewScale = first (λ b. numberAt b 2) (recordsOf 2 6 es);
+      viewScale = first (λ b. floatValueAt b 2) (recordsOf 2 6 es);
       features = map featureAt (recordsOf 3 0 es);
       variables = map variableAt (recordsOf 4 0 es);
       places = map placeAt (recordsOf 5 0 es);

@@ -4,21 +4,21 @@ ghost use mathlib.Core.Bool.{true, false};
 ghost use Prim.Native.Nat.{_+_, _*_, _≤_};
 ghost use Rattle.stream.specs.Payload.{payload};
 ghost use Rattle.stream.specs.Contracts.Payload.{room};
-ghost use Rattle.records.specs.Records.{part};
+ghost use Rattle.records.specs.Records.{bytesAt};
 ghost use Rattle.scene.specs.Scene.{some, none, pointsAt};
 ghost use Rattle.scene.specs.Labels.{meanPoint, firstStart, meanOrStart, referencePoint, greater, consider, considerAt, itemKey, bestPlace, bestItem, pointOfLabel};
-ghost use Rattle.scene.specs.Contracts.Answers.{considerPlace, considerItem, pointBy, spotBy, keyBy, bestBy, pointsFrom, pathsFrom, placesAt, itemsAt, itemBy};
-use crate::names::bears;
-use crate::names::is_called;
-use crate::numbers::Point;
-use crate::numbers::Spot;
-use crate::numbers::point_at;
-use crate::numbers::spot_if;
-use crate::sections::Item;
-use crate::sections::next_item;
-use crate::sections::next_path;
-use crate::sections::next_place;
-use crate::sections::points_of;
+ghost use Rattle.scene.specs.Contracts.Answers.{considerPlace, considerItem, pointBy, maybePoint, keyBy, bestBy, pointsFrom, pathsFrom, placesAt, itemsAt, itemBy};
+use crate::names::label_at_equals;
+use crate::names::name_at_equals;
+use crate::fields::Point;
+use crate::fields::OptionalPoint;
+use crate::fields::point_at;
+use crate::fields::point_if;
+use crate::readers::Item;
+use crate::readers::next_item;
+use crate::readers::next_path;
+use crate::readers::next_place;
+use crate::readers::points_of;
 use records::find;
 use records::seek;
 use records::wide16;
@@ -40,7 +40,7 @@ pub struct Best {
 }
 
 // The best of the places, and where the items are asked for: behind the places.
-pub struct Placed {
+pub struct BestPlace {
     pub best: Best,
     pub end: usize,
 }
@@ -62,12 +62,12 @@ fn mean(s: &[u8], at: usize, count: u16) -> Point
 }
 
 // The start of the first path among what follows an item.
-fn first_start(s: &[u8], p: usize) -> Spot
-    ensures { λ r. ⌜ spotBy r ≡ firstStart (pathsFrom (payload (now (s .entry))) p 0) ⌝ }
+fn first_start(s: &[u8], p: usize) -> OptionalPoint
+    ensures { λ r. ⌜ maybePoint r ≡ firstStart (pathsFrom (payload (now (s .entry))) p 0) ⌝ }
 {
     let c = next_path(s, p, 0);
     if !c.some {
-        return Spot {
+        return OptionalPoint {
             some: false,
             x: 0.0,
             y: 0.0,
@@ -75,18 +75,18 @@ fn first_start(s: &[u8], p: usize) -> Spot
     }
     if !c.curve {
         if c.count == 0 {
-            return Spot {
+            return OptionalPoint {
                 some: false,
                 x: 0.0,
                 y: 0.0,
             };
         }
     }
-    spot_if(s, true, c.start)
+    point_if(s, true, c.start)
 }
 
-fn mean_or_start(s: &[u8], p: usize) -> Spot
-    ensures { λ r. ⌜ spotBy r ≡ meanOrStart (pointsFrom (payload (now (s .entry))) p 0)
+fn mean_or_start(s: &[u8], p: usize) -> OptionalPoint
+    ensures { λ r. ⌜ maybePoint r ≡ meanOrStart (pointsFrom (payload (now (s .entry))) p 0)
         (pathsFrom (payload (now (s .entry))) p 0) ⌝ }
 {
     let ps = points_of(s, p, 0);
@@ -97,7 +97,7 @@ fn mean_or_start(s: &[u8], p: usize) -> Spot
         return first_start(s, p);
     }
     let m = mean(s, ps.at, ps.count);
-    Spot {
+    OptionalPoint {
         some: true,
         x: m.x,
         y: m.y,
@@ -105,8 +105,8 @@ fn mean_or_start(s: &[u8], p: usize) -> Spot
 }
 
 // A point that stands for the item: where it is, else the mean of its points, else the start of its first path.
-pub fn reference_point(s: &[u8], it: Item) -> Spot
-    ensures { λ r. ⌜ spotBy r ≡ referencePoint (itemBy (payload (now (s .entry))) it) ⌝ }
+pub fn reference_point(s: &[u8], it: Item) -> OptionalPoint
+    ensures { λ r. ⌜ maybePoint r ≡ referencePoint (itemBy (payload (now (s .entry))) it) ⌝ }
 {
     let at = it.at;
     if at.some {
@@ -167,9 +167,9 @@ pub fn consider_place(s: &[u8], b: Best, q: usize, i: usize) -> Best
 }
 
 // The best of the places from p on, the name having n bytes at `at`. Only those that carry it are read whole.
-fn best_place(s: &[u8], p: usize, at: usize, n: usize) -> Placed
+fn best_place(s: &[u8], p: usize, at: usize, n: usize) -> BestPlace
     requires { ⌜ at + n ≤ room (now s) ⌝ }
-    ensures { λ r. ⌜ bestBy (r .best) ≡ bestPlace (part (payload (now (s .entry))) at n) 0
+    ensures { λ r. ⌜ bestBy (r .best) ≡ bestPlace (bytesAt (payload (now (s .entry))) at n) 0
         (placesAt (payload (now (s .entry))) p) none ⌝ }
     ensures { λ r. ⌜ itemsAt (payload (now (s .entry))) p ≡ itemsAt (payload (now (s .entry))) (r .end) ⌝ }
 {
@@ -189,9 +189,9 @@ fn best_place(s: &[u8], p: usize, at: usize, n: usize) -> Placed
     loop {
         let h = seek(s, q, 5, 0);
         if !h.some {
-            return Placed { best: b, end: h.at };
+            return BestPlace { best: b, end: h.at };
         }
-        if is_called(s, h.at + 1, at, n) {
+        if name_at_equals(s, h.at + 1, at, n) {
             b = consider_place(s, b, h.at, i);
         }
         q = h.next;
@@ -231,7 +231,7 @@ pub fn consider_item(s: &[u8], b: Best, q: usize, i: usize) -> Best
 // The best of these and of the items from p on.
 fn best_item(s: &[u8], p: usize, at: usize, n: usize, best: Best) -> Best
     requires { ⌜ at + n ≤ room (now s) ⌝ }
-    ensures { λ r. ⌜ bestBy r ≡ bestItem (part (payload (now (s .entry))) at n) 0
+    ensures { λ r. ⌜ bestBy r ≡ bestItem (bytesAt (payload (now (s .entry))) at n) 0
         (itemsAt (payload (now (s .entry))) p) (bestBy best) ⌝ }
 {
     let mut b = best;
@@ -242,7 +242,7 @@ fn best_item(s: &[u8], p: usize, at: usize, n: usize, best: Best) -> Best
         if !h.some {
             return b;
         }
-        if bears(s, h.at + 3, at, n) {
+        if label_at_equals(s, h.at + 3, at, n) {
             b = consider_item(s, b, h.at, i);
         }
         q = h.next;
@@ -251,15 +251,15 @@ fn best_item(s: &[u8], p: usize, at: usize, n: usize, best: Best) -> Best
 }
 
 // The point that the label of n bytes at `at` names, among the places and items from p on.
-pub fn point_of_label(s: &[u8], p: usize, at: usize, n: usize) -> Spot
+pub fn point_of_label(s: &[u8], p: usize, at: usize, n: usize) -> OptionalPoint
     requires { ⌜ at + n ≤ room (now s) ⌝ }
-    ensures { λ r. ⌜ spotBy r ≡ pointOfLabel (part (payload (now (s .entry))) at n)
+    ensures { λ r. ⌜ maybePoint r ≡ pointOfLabel (bytesAt (payload (now (s .entry))) at n)
         (placesAt (payload (now (s .entry))) p) (itemsAt (payload (now (s .entry))) p) ⌝ }
 {
     let placed = best_place(s, p, at, n);
     let places = placed.best;
     let b = best_item(s, placed.end, at, n, places);
-    Spot {
+    OptionalPoint {
         some: b.some,
         x: b.x,
         y: b.y,

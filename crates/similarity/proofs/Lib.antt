@@ -1,4 +1,4 @@
 -- What the functions' proofs share.
 pub mod Again
 pub mod Lent
-pub mod Marking
+pub mod Projecting

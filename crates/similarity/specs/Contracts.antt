@@ -1,4 +1,4 @@
 -- Words in which contracts of the parts are said. What a host is promised is not said in them.
 pub mod Fours
-pub mod Marks
+pub mod Projected
 pub mod Stages

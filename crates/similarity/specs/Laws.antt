@@ -3,5 +3,5 @@ pub mod Project
 pub mod Bearing
 pub mod Fitted
 pub mod Fours
-pub mod Marks
+pub mod Projected
 pub mod Projects

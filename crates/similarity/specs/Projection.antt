@@ -37,8 +37,8 @@ projectionOf r =
     let a = mercatorForwardOf (anchorOf r) in
     record { registration = r; sin = sinOf b; cos = cosOf b; east = a .x; north = a .y }
 
-unfoldable pub projectOf : Projection → Float → Float → LonLat
-projectOf p x y =
+unfoldable pub toLonLatBy : Projection → Float → Float → LonLat
+toLonLatBy p x y =
     let r = p .registration in
     let dx = mul binary64 (sub binary64 x (r .x)) (r .scale) in
     let dy = mul binary64 (sub binary64 y (r .y)) (r .scale) in
@@ -57,4 +57,4 @@ unfoldable pub geoOf : Registration → Float → Float → LonLat
 geoOf r x y = let p = toLonLatOf r x y in record { lon = round9Of (p .lon); lat = round9Of (p .lat) }
 
 unfoldable pub geoBy : Projection → Float → Float → LonLat
-geoBy t x y = let p = projectOf t x y in record { lon = round9Of (p .lon); lat = round9Of (p .lat) }
+geoBy t x y = let p = toLonLatBy t x y in record { lon = round9Of (p .lon); lat = round9Of (p .lat) }

@@ -2,9 +2,9 @@
 ghost use mathlib.Core.Path.{_≡_};
 ghost use Prim.Native.Nat.{_+_, _*_, _≤_};
 ghost use lib.ListN.{length, take, drop};
-ghost use Rattle.similarity.specs.Fit.{markOf, noSums, added, meansOf, dividedBy, noMoments, momented, momentsOf};
-ghost use Rattle.similarity.specs.Fit.{degenerate, fitAt, solvedOf, roundOf, fitMarks, fitOf};
-ghost use Rattle.similarity.specs.Contracts.Marks.{markIn, marksIn, withMark, marked};
+ghost use Rattle.similarity.specs.Fit.{projectedOf, noSums, added, meansOf, dividedBy, noMoments, momented, momentsOf};
+ghost use Rattle.similarity.specs.Fit.{degenerate, fitAt, solvedOf, roundOf, fitProjected, fitOf};
+ghost use Rattle.similarity.specs.Contracts.Projected.{projectedIn, allProjectedIn, withProjected, projectedFrom};
 use elementary::atan2;
 use elementary::hypot;
 use elementary::to_degrees;
@@ -23,7 +23,7 @@ pub struct Control {
 }
 
 // The same with its position projected: east and north. Sums and means of such take this form too.
-pub struct Mark {
+pub struct ProjectedControl {
     pub x: f64,
     pub y: f64,
     pub e: f64,
@@ -48,15 +48,15 @@ pub struct Fit {
     pub bearing: f64,
 }
 
-fn mark_of(c: Control) -> Mark
-    ensures { λ r. ⌜ r ≡ markOf c ⌝ }
+fn project_control(c: Control) -> ProjectedControl
+    ensures { λ r. ⌜ r ≡ projectedOf c ⌝ }
 {
     let p = LonLat {
         lon: c.lon,
         lat: c.lat,
     };
     let m = mercator_forward(p);
-    Mark {
+    ProjectedControl {
         x: c.x,
         y: c.y,
         e: m.x,
@@ -65,10 +65,10 @@ fn mark_of(c: Control) -> Mark
 }
 
 // One more point in the sums, about the anchor a.
-fn add_mark(a: Metres, s: Mark, m: Mark) -> Mark
+fn add_control(a: Metres, s: ProjectedControl, m: ProjectedControl) -> ProjectedControl
     ensures { λ r. ⌜ r ≡ added a s m ⌝ }
 {
-    Mark {
+    ProjectedControl {
         x: s.x + m.x,
         y: s.y + m.y,
         e: s.e + (m.e - a.x),
@@ -76,10 +76,10 @@ fn add_mark(a: Metres, s: Mark, m: Mark) -> Mark
     }
 }
 
-fn divide(s: Mark, k: f64) -> Mark
+fn divide(s: ProjectedControl, k: f64) -> ProjectedControl
     ensures { λ r. ⌜ r ≡ dividedBy s k ⌝ }
 {
-    Mark {
+    ProjectedControl {
         x: s.x / k,
         y: s.y / k,
         e: s.e / k,
@@ -88,7 +88,7 @@ fn divide(s: Mark, k: f64) -> Mark
 }
 
 // One more point in the moments, about the anchor a and the centroids c.
-fn add_moment(a: Metres, c: Mark, s: Moments, m: Mark) -> Moments
+fn add_moment(a: Metres, c: ProjectedControl, s: Moments, m: ProjectedControl) -> Moments
     ensures { λ r. ⌜ r ≡ momented a c s m ⌝ }
 {
     let dx = m.x - c.x;
@@ -117,7 +117,7 @@ fn no_fit() -> Fit
 }
 
 // The similarity by its two numbers.
-fn fit_at(a: Metres, c: Mark, p: f64, q: f64) -> Fit
+fn fit_at(a: Metres, c: ProjectedControl, p: f64, q: f64) -> Fit
     ensures { λ r. ⌜ r ≡ fitAt a c p q ⌝ }
 {
     let scale = hypot(p, q);
@@ -143,7 +143,7 @@ fn fit_at(a: Metres, c: Mark, p: f64, q: f64) -> Fit
     }
 }
 
-fn solve(a: Metres, c: Mark, s: Moments) -> Fit
+fn solve(a: Metres, c: ProjectedControl, s: Moments) -> Fit
     ensures { λ r. ⌜ r ≡ solvedOf a c s ⌝ }
 {
     if s.den <= 0.0 {
@@ -155,10 +155,10 @@ fn solve(a: Metres, c: Mark, s: Moments) -> Fit
     fit_at(a, c, s.a / s.den, s.b / s.den)
 }
 
-fn no_sums() -> Mark
+fn no_sums() -> ProjectedControl
     ensures { λ r. ⌜ r ≡ noSums ⌝ }
 {
-    Mark {
+    ProjectedControl {
         x: 0.0,
         y: 0.0,
         e: 0.0,
@@ -176,101 +176,101 @@ fn no_moments() -> Moments
     }
 }
 
-// The k-th of the marks in a slice, which are four numbers each.
-fn mark_at(marks: &[f64], k: usize) -> Mark
-    requires { ⌜ 4 * k + 4 ≤ length (now marks) ⌝ }
-    ensures { λ r. ⌜ r ≡ markIn (now (marks .entry)) k ⌝ }
+// The k-th of the projected in a slice, which are four numbers each.
+fn projected_at(projected: &[f64], k: usize) -> ProjectedControl
+    requires { ⌜ 4 * k + 4 ≤ length (now projected) ⌝ }
+    ensures { λ r. ⌜ r ≡ projectedIn (now (projected .entry)) k ⌝ }
 {
-    Mark {
-        x: marks[4 * k],
-        y: marks[4 * k + 1],
-        e: marks[4 * k + 2],
-        n: marks[4 * k + 3],
+    ProjectedControl {
+        x: projected[4 * k],
+        y: projected[4 * k + 1],
+        e: projected[4 * k + 2],
+        n: projected[4 * k + 3],
     }
 }
 
 // The point's mark, as the k-th.
-fn put_mark(marks: &mut [f64], k: usize, c: Control)
-    requires { ⌜ 4 * k + 4 ≤ length (now marks) ⌝ }
-    ensures { λ _. ⌜ now (marks .exit) ≡ withMark (now (marks .entry)) k (markOf c) ⌝ }
+fn put_projected(projected: &mut [f64], k: usize, c: Control)
+    requires { ⌜ 4 * k + 4 ≤ length (now projected) ⌝ }
+    ensures { λ _. ⌜ now (projected .exit) ≡ withProjected (now (projected .entry)) k (projectedOf c) ⌝ }
 {
-    let m = mark_of(c);
-    marks[4 * k] = m.x;
-    marks[4 * k + 1] = m.y;
-    marks[4 * k + 2] = m.e;
-    marks[4 * k + 3] = m.n;
+    let m = project_control(c);
+    projected[4 * k] = m.x;
+    projected[4 * k + 1] = m.y;
+    projected[4 * k + 2] = m.e;
+    projected[4 * k + 3] = m.n;
 }
 
-// The marks of the control points from i on: each is projected once.
-pub fn marks_from(controls: &[Control], i: usize, marks: &mut [f64])
-    requires { ⌜ (length (now controls) ≤ 64) × (4 * length (now controls) ≤ length (now marks)) ⌝ }
-    ensures { λ _. ⌜ now (marks .exit) ≡ marked (now (marks .entry)) i (drop i (now (controls .entry))) ⌝ }
+// The projected of the control points from i on: each is projected once.
+pub fn project_from(controls: &[Control], i: usize, projected: &mut [f64])
+    requires { ⌜ (length (now controls) ≤ 64) × (4 * length (now controls) ≤ length (now projected)) ⌝ }
+    ensures { λ _. ⌜ now (projected .exit) ≡ projectedFrom (now (projected .entry)) i (drop i (now (controls .entry))) ⌝ }
 {
     if i < controls.len() {
         let c = controls[i];
-        put_mark(marks, i, c);
-        marks_from(controls, i + 1, marks);
+        put_projected(projected, i, c);
+        project_from(controls, i + 1, projected);
         return;
     } else {
         return;
     }
 }
 
-// The marks of the first n of an array of control points.
-fn marks_of(at: [Control; 64], n: usize, marks: &mut [f64])
-    requires { ⌜ (n ≤ 64) × (4 * n ≤ length (now marks)) ⌝ }
-    ensures { λ _. ⌜ now (marks .exit) ≡ marked (now (marks .entry)) 0 (take n at) ⌝ }
+// The projected of the first n of an array of control points.
+fn project_controls(at: [Control; 64], n: usize, projected: &mut [f64])
+    requires { ⌜ (n ≤ 64) × (4 * n ≤ length (now projected)) ⌝ }
+    ensures { λ _. ⌜ now (projected .exit) ≡ projectedFrom (now (projected .entry)) 0 (take n at) ⌝ }
 {
-    marks_from(&at[..n], 0, marks)
+    project_from(&at[..n], 0, projected)
 }
 
-// The centroids of n marks, about the anchor a.
-fn means_of(a: Metres, marks: &[f64], n: usize) -> Mark
-    requires { ⌜ (n ≤ 64) × (4 * n ≤ length (now marks)) ⌝ }
-    ensures { λ r. ⌜ r ≡ meansOf a (marksIn (now (marks .entry)) n) ⌝ }
+// The centroids of n projected, about the anchor a.
+fn means_of(a: Metres, projected: &[f64], n: usize) -> ProjectedControl
+    requires { ⌜ (n ≤ 64) × (4 * n ≤ length (now projected)) ⌝ }
+    ensures { λ r. ⌜ r ≡ meansOf a (allProjectedIn (now (projected .entry)) n) ⌝ }
 {
     let mut s = no_sums();
     let mut k = 0usize;
     while k < n {
-        s = add_mark(a, s, mark_at(marks, k));
+        s = add_control(a, s, projected_at(projected, k));
         k += 1;
     }
     divide(s, n as f64)
 }
 
-// The moments of n marks, about the anchor a and the centroids c.
-fn moments_of(a: Metres, c: Mark, marks: &[f64], n: usize) -> Moments
-    requires { ⌜ 4 * n ≤ length (now marks) ⌝ }
-    ensures { λ r. ⌜ r ≡ momentsOf a c (marksIn (now (marks .entry)) n) noMoments ⌝ }
+// The moments of n projected, about the anchor a and the centroids c.
+fn moments_of(a: Metres, c: ProjectedControl, projected: &[f64], n: usize) -> Moments
+    requires { ⌜ 4 * n ≤ length (now projected) ⌝ }
+    ensures { λ r. ⌜ r ≡ momentsOf a c (allProjectedIn (now (projected .entry)) n) noMoments ⌝ }
 {
     let mut s = no_moments();
     let mut k = 0usize;
     while k < n {
-        s = add_moment(a, c, s, mark_at(marks, k));
+        s = add_moment(a, c, s, projected_at(projected, k));
         k += 1;
     }
     s
 }
 
 // One round, about the anchor a.
-fn fit_about(a: Metres, marks: &[f64], n: usize) -> Fit
-    requires { ⌜ (n ≤ 64) × (4 * n ≤ length (now marks)) ⌝ }
-    ensures { λ r. ⌜ r ≡ roundOf a (marksIn (now (marks .entry)) n) ⌝ }
+fn fit_about(a: Metres, projected: &[f64], n: usize) -> Fit
+    requires { ⌜ (n ≤ 64) × (4 * n ≤ length (now projected)) ⌝ }
+    ensures { λ r. ⌜ r ≡ roundOf a (allProjectedIn (now (projected .entry)) n) ⌝ }
 {
-    let c = means_of(a, marks, n);
-    solve(a, c, moments_of(a, c, marks, n))
+    let c = means_of(a, projected, n);
+    solve(a, c, moments_of(a, c, projected, n))
 }
 
 // Both rounds: the first is about the first point's position.
-fn fit_marks(marks: &[f64], n: usize) -> Fit
-    requires { ⌜ (n ≤ 64) × (4 * n ≤ length (now marks)) ⌝ }
-    ensures { λ r. ⌜ r ≡ fitMarks (marksIn (now (marks .entry)) n) ⌝ }
+fn fit_projected(projected: &[f64], n: usize) -> Fit
+    requires { ⌜ (n ≤ 64) × (4 * n ≤ length (now projected)) ⌝ }
+    ensures { λ r. ⌜ r ≡ fitProjected (allProjectedIn (now (projected .entry)) n) ⌝ }
 {
     if n == 0 {
         return no_fit();
     }
-    let m = mark_at(marks, 0);
-    let f = fit_about(Metres { x: m.e, y: m.n }, marks, n);
+    let m = projected_at(projected, 0);
+    let f = fit_about(Metres { x: m.e, y: m.n }, projected, n);
     if !f.some {
         return no_fit();
     }
@@ -278,7 +278,7 @@ fn fit_marks(marks: &[f64], n: usize) -> Fit
         lon: f.lon,
         lat: f.lat,
     };
-    fit_about(mercator_forward(at), marks, n)
+    fit_about(mercator_forward(at), projected, n)
 }
 
 // The fit to the first n of an array of control points.
@@ -286,7 +286,7 @@ pub fn fit_points(at: [Control; 64], n: usize) -> Fit
     requires { ⌜ n ≤ 64 ⌝ }
     ensures { λ r. ⌜ r ≡ fitOf (take n at) ⌝ }
 {
-    let mut marks = [0.0f64; 256];
-    marks_of(at, n, &mut marks);
-    fit_marks(&marks, n)
+    let mut projected = [0.0f64; 256];
+    project_controls(at, n, &mut projected);
+    fit_projected(&projected, n)
 }

@@ -1,7 +1,7 @@
 // Canvas points to the Earth.
 ghost use mathlib.Core.Path.{_≡_};
-ghost use Rattle.similarity.specs.Projection.{projectionOf, projectOf, round9Of, geoBy};
-ghost use Rattle.similarity.specs.Contracts.Stages.{planeOf, stretchedOf, latitudeOf};
+ghost use Rattle.similarity.specs.Projection.{projectionOf, toLonLatBy, round9Of, geoBy};
+ghost use Rattle.similarity.specs.Contracts.Stages.{planePositionOf, expStageOf, roundedLatitudeOf};
 ghost use Rattle.elementary.specs.Contracts.Stages.{atanThird};
 use elementary::atan_third;
 use elementary::cos;
@@ -13,8 +13,8 @@ use geodesy::Metres;
 use geodesy::longitude;
 use geodesy::mercator_forward;
 use geodesy::mercator_inverse;
-use geodesy::north;
-use geodesy::stretched;
+use geodesy::latitude;
+use geodesy::exp_ordinate;
 
 // A canvas point p goes to the anchor's plane: p less the origin, times the scale, turned so that the canvas's y axis points to the bearing.
 #[repr(C)]
@@ -62,8 +62,8 @@ pub fn projection_of(r: Registration) -> Projection
 }
 
 // The point's position on the plane.
-fn plane(p: Projection, x: f64, y: f64) -> Metres
-    ensures { λ m. ⌜ m ≡ planeOf p x y ⌝ }
+fn plane_position(p: Projection, x: f64, y: f64) -> Metres
+    ensures { λ m. ⌜ m ≡ planePositionOf p x y ⌝ }
 {
     let r = p.registration;
     let dx = (x - r.x) * r.scale;
@@ -77,10 +77,10 @@ fn plane(p: Projection, x: f64, y: f64) -> Metres
 }
 
 // The source's `to_lonlat`, for the registration that the projection is of.
-pub fn project(p: Projection, x: f64, y: f64) -> LonLat
-    ensures { λ r. ⌜ r ≡ projectOf p x y ⌝ }
+pub fn to_lonlat(p: Projection, x: f64, y: f64) -> LonLat
+    ensures { λ r. ⌜ r ≡ toLonLatBy p x y ⌝ }
 {
-    let m = plane(p, x, y);
+    let m = plane_position(p, x, y);
     mercator_inverse(m)
 }
 
@@ -95,7 +95,7 @@ fn round9(v: f64) -> f64
 pub fn geo(p: Projection, x: f64, y: f64) -> LonLat
     ensures { λ r. ⌜ r ≡ geoBy p x y ⌝ }
 {
-    let at = project(p, x, y);
+    let at = to_lonlat(p, x, y);
     LonLat {
         lon: round9(at.lon),
         lat: round9(at.lat),
@@ -103,19 +103,19 @@ pub fn geo(p: Projection, x: f64, y: f64) -> LonLat
 }
 
 // `geo` in stages, for a line of points: the longitude that is given out, and the exponential of the ordinate where the latitude will stand.
-pub fn stretch(p: Projection, x: f64, y: f64) -> LonLat
-    ensures { λ r. ⌜ r ≡ stretchedOf p x y ⌝ }
+pub fn exp_stage(p: Projection, x: f64, y: f64) -> LonLat
+    ensures { λ r. ⌜ r ≡ expStageOf p x y ⌝ }
 {
-    let m = plane(p, x, y);
+    let m = plane_position(p, x, y);
     LonLat {
         lon: round9(longitude(m.x)),
-        lat: stretched(m.y),
+        lat: exp_ordinate(m.y),
     }
 }
 
 // The latitude that is given out, of what the first two stages of the arc tangent left.
-pub fn latitude(w: f64) -> f64
-    ensures { λ r. ⌜ r ≡ latitudeOf (atanThird w) ⌝ }
+pub fn rounded_latitude(w: f64) -> f64
+    ensures { λ r. ⌜ r ≡ roundedLatitudeOf (atanThird w) ⌝ }
 {
-    round9(north(atan_third(w)))
+    round9(latitude(atan_third(w)))
 }

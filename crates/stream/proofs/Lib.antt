@@ -1,4 +1,4 @@
 -- What the functions' proofs share.
-pub mod Judging
+pub mod BlockChecks
 pub mod Patterns
 pub mod Inside

@@ -5,12 +5,12 @@ ghost use Prim.Native.Nat.{_+_, _*_, _<_, _≤_};
 ghost use lib.ListN.{length, getD};
 ghost use Rattle.stream.specs.Numbers.{u16At, u32At, u64At, floatAt};
 ghost use Rattle.stream.specs.Blocks.{checked};
-ghost use Rattle.stream.specs.Contracts.Blocks.{Judged};
-ghost use Rattle.stream.specs.Contracts.Payload.{room, placeOf, rest, partFrom, oneBlock, Straight};
+ghost use Rattle.stream.specs.Contracts.Blocks.{BlocksChecked};
+ghost use Rattle.stream.specs.Contracts.Payload.{room, streamOffset, rest, partFrom, oneBlock, IsContiguous};
 
-mod numbers;
+mod little_endian;
 
-pub use numbers::float_of;
+pub use little_endian::float_of;
 
 // The bytes of a block, and how many of them come before its check.
 const BLOCK: usize = 512;
@@ -20,7 +20,7 @@ pub const PAYLOAD: usize = 508;
 // What the blocks of a stream are found to be.
 pub enum Blocks {
     // so many whole blocks, each with a right check
-    Fine(usize),
+    Valid(usize),
     // the stream is empty, not whole blocks, or too many
     Size,
     // a check is wrong
@@ -28,7 +28,7 @@ pub enum Blocks {
 }
 
 // Whether bytes stand side by side in a part, and where the first of them stands, be it so or not.
-pub struct Run {
+pub struct Contiguous {
     pub some: bool,
     pub at: usize,
 }
@@ -48,15 +48,15 @@ fn check(s: &[u8], i: usize) -> bool
     let mut sum = i as u32;
     let mut k = 0usize;
     while k < 127 {
-        sum = std::num::wrapping_add_u32(sum, numbers::four(s, base + 4 * k));
+        sum = std::num::wrapping_add_u32(sum, little_endian::u32_le(s, base + 4 * k));
         k += 1;
     }
-    sum == numbers::four(s, base + PAYLOAD)
+    sum == little_endian::u32_le(s, base + PAYLOAD)
 }
 
 // Conditions 1 and 2.
-pub fn judge(s: &[u8]) -> Blocks
-    ensures { λ r. ⌜ Judged (now (s .entry)) r ⌝ }
+pub fn check_blocks(s: &[u8]) -> Blocks
+    ensures { λ r. ⌜ BlocksChecked (now (s .entry)) r ⌝ }
 {
     let n = s.len() / BLOCK;
     if s.len() == 0 {
@@ -75,7 +75,7 @@ pub fn judge(s: &[u8]) -> Blocks
         }
         i += 1;
     }
-    Blocks::Fine(n)
+    Blocks::Valid(n)
 }
 
 // The part that starts at the block of the payload's byte p, which has the offset p % 508 there.
@@ -88,15 +88,15 @@ pub fn part_from(s: &[u8], p: usize) -> &[u8]
 }
 
 // Where byte p of the payload stands: behind the checks of the blocks before it.
-fn place(p: usize) -> usize
-    requires { ⌜ placeOf p < 18446744073709551616 ⌝ }
-    ensures { λ r. ⌜ r ≡ placeOf p ⌝ }
+fn stream_offset(p: usize) -> usize
+    requires { ⌜ streamOffset p < 18446744073709551616 ⌝ }
+    ensures { λ r. ⌜ r ≡ streamOffset p ⌝ }
 {
     p + 4 * (p / PAYLOAD)
 }
 
 // The readers take a part that starts at a block and an offset in its payload; i counts from there.
-pub fn left(part: &[u8], off: usize) -> usize
+pub fn remaining(part: &[u8], off: usize) -> usize
     requires { ⌜ off ≤ room (now part) ⌝ }
     ensures { λ r. ⌜ r ≡ length (rest (now (part .entry)) off) ⌝ }
 {
@@ -107,56 +107,56 @@ pub fn byte(part: &[u8], off: usize, i: usize) -> u8
     requires { ⌜ (off ≤ room (now part)) × (i < length (rest (now part) off)) ⌝ }
     ensures { λ r. ⌜ r ≡ getD (rest (now (part .entry)) off) i 0 ⌝ }
 {
-    part[place(off + i)]
+    part[stream_offset(off + i)]
 }
 
 // Where the byte i stands, and whether the n bytes from it on lie in one block, with no check between them.
-pub fn run_at(part: &[u8], off: usize, i: usize, n: usize) -> Run
+pub fn contiguous_at(part: &[u8], off: usize, i: usize, n: usize) -> Contiguous
     requires { ⌜ (off ≤ room (now part)) × (i + n ≤ length (rest (now part) off)) ⌝ }
-    ensures { λ r. ⌜ (r .at ≡ placeOf (off + i)) × (r .some ≡ oneBlock off i n) ⌝ }
-    ensures { λ r. ⌜ (r .some ≡ true → Straight (now (part .entry)) off i n (r .at)) ⌝ }
+    ensures { λ r. ⌜ (r .at ≡ streamOffset (off + i)) × (r .some ≡ oneBlock off i n) ⌝ }
+    ensures { λ r. ⌜ (r .some ≡ true → IsContiguous (now (part .entry)) off i n (r .at)) ⌝ }
 {
-    let at = place(off + i);
-    Run {
+    let at = stream_offset(off + i);
+    Contiguous {
         some: at % BLOCK + n <= PAYLOAD,
         at: at,
     }
 }
 
-pub fn short(part: &[u8], off: usize, i: usize) -> u16
+pub fn u16_at(part: &[u8], off: usize, i: usize) -> u16
     requires { ⌜ (off ≤ room (now part)) × (i + 2 ≤ length (rest (now part) off)) ⌝ }
     ensures { λ r. ⌜ r ≡ u16At (rest (now (part .entry)) off) i ⌝ }
 {
-    numbers::join16(byte(part, off, i), byte(part, off, i + 1))
+    little_endian::join16(byte(part, off, i), byte(part, off, i + 1))
 }
 
 // Four or eight bytes are read side by side where no check stands between them.
-pub fn word(part: &[u8], off: usize, i: usize) -> u32
+pub fn u32_at(part: &[u8], off: usize, i: usize) -> u32
     requires { ⌜ (off ≤ room (now part)) × (i + 4 ≤ length (rest (now part) off)) ⌝ }
     ensures { λ r. ⌜ r ≡ u32At (rest (now (part .entry)) off) i ⌝ }
 {
-    let at = place(off + i);
+    let at = stream_offset(off + i);
     if at % BLOCK + 4 <= PAYLOAD {
-        return numbers::four(part, at);
+        return little_endian::u32_le(part, at);
     }
-    numbers::join32(short(part, off, i), short(part, off, i + 2))
+    little_endian::join32(u16_at(part, off, i), u16_at(part, off, i + 2))
 }
 
 // A caller that wants a float's value soon takes its bits from here and `float_of` itself: a number comes back in a register, an enum in memory.
-pub fn long(part: &[u8], off: usize, i: usize) -> u64
+pub fn u64_at(part: &[u8], off: usize, i: usize) -> u64
     requires { ⌜ (off ≤ room (now part)) × (i + 8 ≤ length (rest (now part) off)) ⌝ }
     ensures { λ r. ⌜ r ≡ u64At (rest (now (part .entry)) off) i ⌝ }
 {
-    let at = place(off + i);
+    let at = stream_offset(off + i);
     if at % BLOCK + 8 <= PAYLOAD {
-        return numbers::eight(part, at);
+        return little_endian::u64_le(part, at);
     }
-    numbers::join64(word(part, off, i), word(part, off, i + 4))
+    little_endian::join64(u32_at(part, off, i), u32_at(part, off, i + 4))
 }
 
 pub fn float(part: &[u8], off: usize, i: usize) -> Float64
     requires { ⌜ (off ≤ room (now part)) × (i + 8 ≤ length (rest (now part) off)) ⌝ }
     ensures { λ r. ⌜ r ≡ floatAt (rest (now (part .entry)) off) i ⌝ }
 {
-    numbers::float_of(long(part, off, i))
+    little_endian::float_of(u64_at(part, off, i))
 }

@@ -14,7 +14,7 @@ use Rattle.similarity.specs.declared.projection.Registration.{Registration}
 use Rattle.register.specs.declared.outcome.Outcome.{Outcome}
 use Rattle.register.specs.Register.{controlsOf, anchorOf, registrationBy, registrationOf, registerWarnings}
 use Rattle.register.specs.Contracts.Outcome.{registerRefusal, accepted, refusedBy, pickOutcome, outcomeOf}
-use Rattle.register.specs.Contracts.Warned.{Sheet, allPushed}
+use Rattle.register.specs.Contracts.Warnings.{WarningSlice, allPushed}
 use Rattle.test_host.specs.Contracts.Answer.{answerOf, warnedOf, nothing}
 
 counted : (sc : Scene) (a : Maybe Point) (cs : List Control) → registrationBy sc a cs .controls ≡ length cs
@@ -48,7 +48,7 @@ module _ (s : List ℕ) where
       unfolding registrationOf
       controls-are = rw (parts .1) (counted (sceneOf (payload s)) (anchorOf (sceneOf (payload s))) (controlsOf (sceneOf (payload s))))
 
-      pub told : (out : List ℕ) {t : Sheet} → t ≡ allPushed (registerWarnings (sceneOf (payload s))) (nothing out) → t ≡ warnedOf s out
+      pub told : (out : List ℕ) {t : WarningSlice} → t ≡ allPushed (registerWarnings (sceneOf (payload s))) (nothing out) → t ≡ warnedOf s out
       unfolding warnedOf
       told out f = rw (f, ← e, eq-eqb (o .number) 0 h) refl
 

@@ -11,7 +11,7 @@ use borrow.Author.Tests.{le-leb, lt-leb, leb-true, leb-false, not-true, not-fals
 use Rattle.stream.specs.Contracts.Payload.{room, rest}
 use Rattle.stream.specs.Laws.Payload.{rest-length}
 use Rattle.records.specs.Laws.Tests.{and-left, and-right}
-use Rattle.scene.specs.declared.sections.Path.{Path}
+use Rattle.scene.specs.declared.readers.Path.{Path}
 use Rattle.densify.specs.Contracts.Written.{PathFits}
 use Rattle.test_host.specs.Contracts.Drawings.{pathFits}
 

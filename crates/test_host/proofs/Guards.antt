@@ -8,7 +8,7 @@ use borrow.Author.Tests.{le-leb, lt-leb}
 use Rattle.stream.specs.Payload.{payload}
 use Rattle.stream.specs.Contracts.Payload.{room}
 use Rattle.stream.specs.Laws.Payload.{payload-length}
-use Rattle.records.specs.Records.{part}
+use Rattle.records.specs.Records.{bytesAt}
 use Rattle.scene.specs.Scene.{Maybe, none, some, Point, pointAt, sceneOf}
 use Rattle.scene.specs.Labels.{pointOfLabel}
 use Rattle.scene.specs.Contracts.Answers.{placesAt, itemsAt}
@@ -27,6 +27,6 @@ module _ (s : List ℕ) (at i : ℕ) {m : Maybe Point} where
   unfolding labelIn
   no-label e h = rw (e, lt-leb (at + i) (length (payload s)) (omega (arith, payload-length s))) refl
 
-  pub a-label : m ≡ pointOfLabel (part (payload s) at i) (placesAt (payload s) 0) (itemsAt (payload s) 0) → at + i ≤ room s → m ≡ labelIn (payload s) at i
+  pub a-label : m ≡ pointOfLabel (bytesAt (payload s) at i) (placesAt (payload s) 0) (itemsAt (payload s) 0) → at + i ≤ room s → m ≡ labelIn (payload s) at i
   unfolding labelIn sceneOf
   a-label e h = rw (e, le-leb (at + i) (length (payload s)) (omega (arith, payload-length s))) refl

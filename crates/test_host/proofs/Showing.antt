@@ -7,16 +7,16 @@ use Rattle.similarity.specs.declared.projection.Projection.{Projection}
 use Rattle.similarity.specs.Projection.{projectionOf}
 use Rattle.budget.specs.declared.Budget.{Budget}
 use Rattle.scene.specs.Scene.{Point}
-use Rattle.densify.specs.declared.writing.Done.{Done}
+use Rattle.densify.specs.declared.append.PointCursor.{PointCursor}
 use Rattle.densify.specs.Densify.{Made, densifyPolylineOf}
-use Rattle.densify.specs.Contracts.Written.{Written, placing}
+use Rattle.densify.specs.Contracts.Written.{Written, projected}
 use Rattle.test_host.specs.declared.densify_calls.Drawing.{Drawing}
 use Rattle.test_host.specs.Contracts.Drawings.{doneBy, Shown}
 
-abbrev pub Told : Done → Drawing → Type 0
+abbrev pub Told : PointCursor → Drawing → Type 0
 Told d r = (r .ok ≡ d .ok) × (r .at ≡ d .at) × (r .left ≡ d .budget .left) × (r .hit ≡ d .budget .hit)
 
-module _ {w w′ : List Float} {d : Done} {r : Drawing} where
+module _ {w w′ : List Float} {d : PointCursor} {r : Drawing} where
   pub shown : {m : Made} → Written w w′ 0 m d → Told d r → Shown w w′ m r
   shown h e =
       let same : doneBy r ≡ d = rw (e .0, e .1, e .2, e .3) refl in
@@ -24,8 +24,8 @@ module _ {w w′ : List Float} {d : Done} {r : Drawing} where
 
   -- a line's scale is its registration's
   pub line-shown : (reg : Registration) {t : Projection} (step : Float) (ps : List Point) (b : Budget) → t ≡ projectionOf reg
-      → Written w w′ 0 (placing t (densifyPolylineOf step (t .registration .scale) ps b)) d → Told d r
-      → Shown w w′ (placing (projectionOf reg) (densifyPolylineOf step (reg .scale) ps b)) r
+      → Written w w′ 0 (projected t (densifyPolylineOf step (t .registration .scale) ps b)) d → Told d r
+      → Shown w w′ (projected (projectionOf reg) (densifyPolylineOf step (reg .scale) ps b)) r
   unfolding projectionOf
   line-shown reg {t} step ps b e h f =
       let scale : t .registration .scale ≡ reg .scale = ap (λ (p : Projection). p .registration .scale) e in

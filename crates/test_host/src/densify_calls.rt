@@ -9,11 +9,11 @@ ghost use Prim.Native.Nat.{_+_, _*_, _≤_, _<_};
 ghost use lib.Dec.{leb};
 ghost use Rattle.budget.specs.Budget.{takeOf};
 ghost use Rattle.densify.specs.Densify.{arcVerticesOf, segmentWant, pathPointsOf, densifyPolylineOf, ellipseRingOf, boxRingOf};
-ghost use Rattle.densify.specs.Contracts.Written.{drawnBy, pointsIn, placing};
+ghost use Rattle.densify.specs.Contracts.Written.{drawnBy, pointsIn, projected};
 ghost use Rattle.test_host.specs.Contracts.Drawings.{fresh, Shown, pathFits, undrawn};
 use budget::Budget;
-use budget::draw;
-use densify::Done;
+use budget::take;
+use densify::PointCursor;
 use densify::arc_vertices;
 use densify::box_ring;
 use densify::densify_polyline;
@@ -41,7 +41,7 @@ pub struct Grant {
     pub hit: bool,
 }
 
-fn drawing_of(d: Done) -> Drawing
+fn drawing_of(d: PointCursor) -> Drawing
     ensures { λ r. ⌜ (r .ok ≡ d .ok) × (r .at ≡ d .at) × (r .left ≡ d .budget .left)
         × (r .hit ≡ d .budget .hit) ⌝ }
 {
@@ -92,7 +92,7 @@ pub extern "C" fn densify_path(
     ensures { λ r. ⌜ (pathFits (room (now (s .entry))) p ≡ false
         → (now (work .exit) ≡ now (work .entry)) × (r ≡ undrawn left)) ⌝ }
 {
-    if !is_path(stream::left(s, 0), p) {
+    if !is_path(stream::remaining(s, 0), p) {
         return Drawing {
             ok: false,
             at: 0,
@@ -162,7 +162,7 @@ pub extern "C" fn densify_line(
     out: &mut [f64],
 ) -> Drawing
     ensures { λ r. ⌜ Shown (now (out .entry)) (now (out .exit))
-        (placing (projectionOf reg)
+        (projected (projectionOf reg)
         (densifyPolylineOf step (reg .scale) (pointsIn (now (work .entry)) 0 (length (now (work .entry))))
         (fresh left))) r ⌝ }
 {
@@ -204,7 +204,7 @@ pub extern "C" fn densify_draw(left: usize, hit: bool, want: usize, floor: usize
         left: left,
         hit: hit,
     };
-    let t = draw(b, want, floor);
+    let t = take(b, want, floor);
     let after = t.budget;
     Grant {
         granted: t.granted,

@@ -2,12 +2,12 @@
 ghost use mathlib.Core.Path.{_≡_};
 ghost use Rattle.similarity.specs.Projection.{toLonLatOf};
 ghost use Rattle.test_host.specs.Contracts.Answer.{answerOf, warnedOf};
-ghost use Rattle.register.specs.Contracts.Warned.{Sheet};
+ghost use Rattle.register.specs.Contracts.Warnings.{WarningSlice};
 use geodesy::LonLat;
 use register::Outcome;
-use register::Warned;
+use register::WarningCursor;
 use similarity::Registration;
-use similarity::project;
+use similarity::to_lonlat;
 use similarity::projection_of;
 
 // Refusals 1 to 14, or 0 and the registration.
@@ -25,11 +25,11 @@ pub extern "C" fn register_stream(s: &[u8]) -> Outcome
 
 // The warnings of an accepted registration; none of any other stream.
 #[no_mangle]
-pub extern "C" fn register_warnings(s: &[u8], out: &mut [u32]) -> Warned
-    ensures { λ r. ⌜ record { out = now (out .exit); said = r }
+pub extern "C" fn register_warnings(s: &[u8], out: &mut [u32]) -> WarningCursor
+    ensures { λ r. ⌜ record { out = now (out .exit); cursor = r }
         ≡ warnedOf (now (s .entry)) (now (out .entry)) ⌝ }
 {
-    let none = Warned { ok: true, used: 0 };
+    let none = WarningCursor { ok: true, used: 0 };
     if records::refusal(s) != 0 {
         return none;
     }
@@ -48,5 +48,5 @@ pub extern "C" fn register_warnings(s: &[u8], out: &mut [u32]) -> Warned
 pub extern "C" fn register_project(r: Registration, x: f64, y: f64) -> LonLat
     ensures { λ p. ⌜ p ≡ toLonLatOf r x y ⌝ }
 {
-    project(projection_of(r), x, y)
+    to_lonlat(projection_of(r), x, y)
 }

@@ -3,16 +3,16 @@ ghost use mathlib.Core.Path.{_≡_};
 ghost use Rattle.stream.specs.Payload.{payload};
 ghost use Rattle.records.specs.Contracts.Refusals.{refusalOf};
 ghost use Rattle.scene.specs.Scene.{Maybe, sceneOf};
-ghost use Rattle.scene.specs.Contracts.Answers.{valueBy, spotBy, frameBy, featuresAt, featuresBy, variablesAt, variablesBy, placesAt, placesBy, itemsAt, itemsBy, pointsFrom, pointsBy, pathsFrom, pathsBy};
+ghost use Rattle.scene.specs.Contracts.Answers.{maybeFloat, maybePoint, frameBy, featuresAt, featuresBy, variablesAt, variablesBy, placesAt, placesBy, itemsAt, itemsBy, pointsFrom, pointsBy, pathsFrom, pathsBy};
 ghost use Rattle.test_host.specs.Contracts.Guarded.{spotIn, labelIn};
 use scene::Feature;
-use scene::FrameChoice;
+use scene::FrameOption;
 use scene::Item;
 use scene::Path;
 use scene::Place;
 use scene::Points;
-use scene::Spot;
-use scene::Value;
+use scene::OptionalPoint;
+use scene::OptionalFloat;
 use scene::Variable;
 
 #[no_mangle]
@@ -30,29 +30,29 @@ pub extern "C" fn scene_rescale(s: &[u8]) -> f64
 }
 
 #[no_mangle]
-pub extern "C" fn scene_frame(s: &[u8]) -> FrameChoice
+pub extern "C" fn scene_frame(s: &[u8]) -> FrameOption
     ensures { λ r. ⌜ frameBy r ≡ sceneOf (payload (now (s .entry))) .frame ⌝ }
 {
     scene::frame(s)
 }
 
 #[no_mangle]
-pub extern "C" fn scene_anchor(s: &[u8]) -> Spot
-    ensures { λ r. ⌜ spotBy r ≡ sceneOf (payload (now (s .entry))) .anchor ⌝ }
+pub extern "C" fn scene_anchor(s: &[u8]) -> OptionalPoint
+    ensures { λ r. ⌜ maybePoint r ≡ sceneOf (payload (now (s .entry))) .anchor ⌝ }
 {
     scene::anchor(s)
 }
 
 #[no_mangle]
-pub extern "C" fn scene_scale(s: &[u8]) -> Value
-    ensures { λ r. ⌜ valueBy r ≡ sceneOf (payload (now (s .entry))) .scale ⌝ }
+pub extern "C" fn scene_scale(s: &[u8]) -> OptionalFloat
+    ensures { λ r. ⌜ maybeFloat r ≡ sceneOf (payload (now (s .entry))) .scale ⌝ }
 {
     scene::scale(s)
 }
 
 #[no_mangle]
-pub extern "C" fn scene_bearing(s: &[u8]) -> Value
-    ensures { λ r. ⌜ valueBy r ≡ sceneOf (payload (now (s .entry))) .bearing ⌝ }
+pub extern "C" fn scene_bearing(s: &[u8]) -> OptionalFloat
+    ensures { λ r. ⌜ maybeFloat r ≡ sceneOf (payload (now (s .entry))) .bearing ⌝ }
 {
     scene::bearing(s)
 }
@@ -65,8 +65,8 @@ pub extern "C" fn scene_flatten(s: &[u8]) -> f64
 }
 
 #[no_mangle]
-pub extern "C" fn scene_view_scale(s: &[u8]) -> Value
-    ensures { λ r. ⌜ valueBy r ≡ sceneOf (payload (now (s .entry))) .viewScale ⌝ }
+pub extern "C" fn scene_view_scale(s: &[u8]) -> OptionalFloat
+    ensures { λ r. ⌜ maybeFloat r ≡ sceneOf (payload (now (s .entry))) .viewScale ⌝ }
 {
     scene::view_scale(s)
 }
@@ -115,10 +115,10 @@ pub extern "C" fn scene_path(s: &[u8], p: usize, role: u8) -> Path
 
 // The i-th point of those from `at` on, if the payload goes that far.
 #[no_mangle]
-pub extern "C" fn scene_point(s: &[u8], at: usize, i: usize) -> Spot
-    ensures { λ r. ⌜ spotBy r ≡ spotIn (payload (now (s .entry))) at i ⌝ }
+pub extern "C" fn scene_point(s: &[u8], at: usize, i: usize) -> OptionalPoint
+    ensures { λ r. ⌜ maybePoint r ≡ spotIn (payload (now (s .entry))) at i ⌝ }
 {
-    let room = stream::left(s, 0);
+    let room = stream::remaining(s, 0);
     if at > room {
         return none();
     }
@@ -126,7 +126,7 @@ pub extern "C" fn scene_point(s: &[u8], at: usize, i: usize) -> Spot
         return none();
     }
     let p = scene::point_at(s, at, i);
-    Spot {
+    OptionalPoint {
         some: true,
         x: p.x,
         y: p.y,
@@ -135,10 +135,10 @@ pub extern "C" fn scene_point(s: &[u8], at: usize, i: usize) -> Spot
 
 // The point that the label of n bytes at `at` names, if the payload goes that far.
 #[no_mangle]
-pub extern "C" fn scene_label(s: &[u8], at: usize, n: usize) -> Spot
-    ensures { λ r. ⌜ spotBy r ≡ labelIn (payload (now (s .entry))) at n ⌝ }
+pub extern "C" fn scene_label(s: &[u8], at: usize, n: usize) -> OptionalPoint
+    ensures { λ r. ⌜ maybePoint r ≡ labelIn (payload (now (s .entry))) at n ⌝ }
 {
-    let room = stream::left(s, 0);
+    let room = stream::remaining(s, 0);
     if at > room {
         return none();
     }
@@ -148,10 +148,10 @@ pub extern "C" fn scene_label(s: &[u8], at: usize, n: usize) -> Spot
     scene::point_of_label(s, 0, at, n)
 }
 
-fn none() -> Spot
-    ensures { λ r. ⌜ spotBy r ≡ Maybe.none ⌝ }
+fn none() -> OptionalPoint
+    ensures { λ r. ⌜ maybePoint r ≡ Maybe.none ⌝ }
 {
-    Spot {
+    OptionalPoint {
         some: false,
         x: 0.0,
         y: 0.0,

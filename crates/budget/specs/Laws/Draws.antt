@@ -7,7 +7,7 @@ use native.Mathlib.Omega.{arith}
 use lib.Dec.{ltb}
 use borrow.Author.Tests.{ltb-true, ltb-false}
 use Rattle.budget.specs.Budget.{grantOf}
-use Rattle.budget.specs.Draws.{Draw, leftAfter, granted, overrun, shortFloors, Fair, Claim}
+use Rattle.budget.specs.Draws.{Draw, leftAfter, granted, overrun, shortFloors, GrantsInRange, Claim}
 
 module _ (left want floor : ℕ) where
   grant-most : grantOf left want floor ≤ want
@@ -24,9 +24,9 @@ module _ (left want floor : ℕ) where
   grant-short true h = omega (arith, ltb-true left floor h)
   grant-short false h = omega (arith, ltb-false left floor h)
 
-fair : (left : ℕ) (ds : List Draw) → Fair left ds
-fair left [] = tt
-fair left (d ∷ ds) = (grant-most left (d .want) (d .floor), grant-least left (d .want) (d .floor), fair (left - grantOf left (d .want) (d .floor)) ds)
+grants-in-range : (left : ℕ) (ds : List Draw) → GrantsInRange left ds
+grants-in-range left [] = tt
+grants-in-range left (d ∷ ds) = (grant-most left (d .want) (d .floor), grant-least left (d .want) (d .floor), grants-in-range (left - grantOf left (d .want) (d .floor)) ds)
 
 exact : (left : ℕ) (ds : List Draw) → granted left ds + leftAfter left ds ≡ left + overrun left ds
 unfolding granted leftAfter overrun
@@ -42,4 +42,4 @@ bounded left (d ∷ ds) =
     omega (arith, bounded (left - g) ds, grant-short left (d .want) (d .floor) (ltb left (d .floor)) refl)
 
 pub claim : (allowance : ℕ) (ds : List Draw) → Claim allowance ds
-claim allowance ds = record { fair = fair allowance ds; exact = exact allowance ds; bounded = bounded allowance ds }
+claim allowance ds = record { inRange = grants-in-range allowance ds; exact = exact allowance ds; bounded = bounded allowance ds }

@@ -6,25 +6,25 @@ use mathlib.Core.List.{List}
 use lib.ListN.{length, set, getD}
 use lib.Dec.{leb}
 use lib.Ieee.{Float, nan}
-use Rattle.scene.specs.declared.sections.Path.{Path}
+use Rattle.scene.specs.declared.readers.Path.{Path}
 use Rattle.scene.specs.Scene.{Maybe, none, some, given, Point, DrawnPath}
 use Rattle.budget.specs.declared.Budget.{Budget}
-use Rattle.densify.specs.declared.writing.Done.{Done}
+use Rattle.densify.specs.declared.append.PointCursor.{PointCursor}
 use Rattle.densify.specs.Densify.{Made, closeRingOf, pathPointsOf, ellipseRingOf, boxRingOf}
 use Rattle.densify.specs.Contracts.Written.{pointsIn, drawnBy}
 use Rattle.densify.specs.Positions.{flats}
 use Rattle.geojson.specs.declared.Feature.{Feature}
-use Rattle.geojson.specs.Lines.{putWords, wordsOf}
-use Rattle.convert.specs.declared.laying.Laying.{Laying}
+use Rattle.geojson.specs.Features.{putWords, wordsOf}
+use Rattle.convert.specs.declared.workspace.Workspace.{Workspace}
 use Rattle.convert.specs.declared.state.Ctx.{Ctx}
 use Rattle.convert.specs.declared.state.Props.{Props}
 use Rattle.convert.specs.declared.state.State.{State}
 use Rattle.convert.specs.Convert.{Trace, closedOutline, workOf, ringTrace}
-use Rattle.convert.specs.Space.{Sheet, playAll}
+use Rattle.convert.specs.Space.{Output, applyAll}
 
 -- ---- what the code holds
-abbrev pub sheetBy : ℕ → List Float → List ℕ → List ℕ → State → Sheet
-sheetBy work positions features warnings st =
+abbrev pub outputBy : ℕ → List Float → List ℕ → List ℕ → State → Output
+outputBy work positions features warnings st =
     record {
       work = work;
       positions = positions;
@@ -41,16 +41,16 @@ abbrev pub most : ℕ
 most = 16777216
 
 -- what is used lies in the slices
-pub record Fits (t : Sheet) (b : Budget) : Type 0 where
+pub record Fits (t : Output) (b : Budget) : Type 0 where
   pub positions : t .usedPositions ≤ length (t .positions)
   pub features : t .usedFeatures ≤ length (t .features)
   pub warnings : t .usedWarnings ≤ length (t .warnings)
   pub left : b .left ≤ most
 
 -- From sheet t to sheet u by these events. Where something lacks room, what was written so far is left open: the host's call then clears all slices.
-pub record Played (trace : Trace) (t u : Sheet) (b : Budget) : Type 0 where
-  pub number : u .number ≡ playAll (trace .events) t .number
-  pub same : u .number ≡ 0 → u ≡ playAll (trace .events) t
+pub record Applied (trace : Trace) (t u : Output) (b : Budget) : Type 0 where
+  pub number : u .number ≡ applyAll (trace .events) t .number
+  pub same : u .number ≡ 0 → u ≡ applyAll (trace .events) t
   pub after : u .number ≡ 0 → b ≡ trace .after
   pub work : u .work ≡ t .work
   pub positions : length (u .positions) ≡ length (t .positions)
@@ -60,7 +60,7 @@ pub record Played (trace : Trace) (t u : Sheet) (b : Budget) : Type 0 where
 
 -- the same from slices and a state to slices and a state
 abbrev pub Draws : Trace → List Float → List Float → List ℕ → List ℕ → State → List Float → List Float → List ℕ → List ℕ → State → Type 0
-Draws t w p f v st w′ p′ f′ v′ r = Played t (sheetBy (length w) p f v st) (sheetBy (length w′) p′ f′ v′ r) (r .budget)
+Draws t w p f v st w′ p′ f′ v′ r = Applied t (outputBy (length w) p f v st) (outputBy (length w′) p′ f′ v′ r) (r .budget)
 
 -- a box, and an ellipse with its two radii
 abbrev pub boxTrace : Ctx → Props → Float → Float → Float → Float → Float → Budget → Trace
@@ -87,30 +87,30 @@ abbrev pub longest : ℕ
 longest = 134217728
 
 -- the outline's closed points, where it has one
-abbrev pub Outlined : List Float → Maybe (List Point) → Laying → Type 0
-Outlined w none r = (r .outlined ≡ false) × (r .fin ≡ r .end)
-Outlined w (some o) r = (r .outlined ≡ true) × (r .fin ≡ r .end + length (flats (closeRingOf o))) × (pointsIn w (r .end) (r .fin) ≡ closeRingOf o)
+abbrev pub OutlineLoaded : List Float → Maybe (List Point) → Workspace → Type 0
+OutlineLoaded w none r = (r .outlined ≡ false) × (r .fin ≡ r .end)
+OutlineLoaded w (some o) r = (r .outlined ≡ true) × (r .fin ≡ r .end + length (flats (closeRingOf o))) × (pointsIn w (r .end) (r .fin) ≡ closeRingOf o)
 
 -- its points from 0 on, closed where it is marked closed, then its outline's
-pub record Laid (w : List Float) (closed : Bool) (ps : List Point) (o : Maybe (List Point)) (r : Laying) : Type 0 where
+pub record Loaded (w : List Float) (closed : Bool) (ps : List Point) (o : Maybe (List Point)) (r : Workspace) : Type 0 where
   pub own : r .own ≡ length (flats ps)
   pub points : pointsIn w 0 (r .own) ≡ ps
   pub end : r .end ≡ length (flats (cond closed (closeRingOf ps) ps))
   pub ring : pointsIn w 0 (r .end) ≡ cond closed (closeRingOf ps) ps
-  pub outline : Outlined w o r
+  pub outline : OutlineLoaded w o r
   pub few : r .fin + 2 ≤ longest
 
 -- where they end, in a slice of n floats with room for one point more
-pub record Bounds (r : Laying) (n : ℕ) : Type 0 where
+pub record Bounds (r : Workspace) (n : ℕ) : Type 0 where
   pub own : r .own ≤ r .end
   pub end : r .end ≤ r .fin
   pub fin : r .fin + 2 ≤ n
   pub few : r .fin + 2 ≤ longest
 
 -- laid out where they and one point more have room
-pub record Lays (w w′ : List Float) (closed : Bool) (ps : List Point) (o : Maybe (List Point)) (b : Budget) (r : Laying) : Type 0 where
+pub record Loads (w w′ : List Float) (closed : Bool) (ps : List Point) (o : Maybe (List Point)) (b : Budget) (r : Workspace) : Type 0 where
   pub asked : r .ok ≡ leb (2 * workOf closed ps (closeRingOf ps) (closedOutline o)) (length w)
-  pub laid : r .ok ≡ true → Laid w′ closed ps o r
+  pub laid : r .ok ≡ true → Loaded w′ closed ps o r
   pub after : r .ok ≡ true → r .budget ≡ b
   pub left : r .ok ≡ true → r .budget .left ≤ most
   pub kept : length w′ ≡ length w
@@ -124,17 +124,17 @@ pub record Small (m : Made) : Type 0 where
 abbrev pub outlineBy : List ℕ → Path → Maybe DrawnPath
 outlineBy l p = given (p .some) (drawnBy l p)
 
-abbrev pub LaysPath : List Float → List Float → Float → DrawnPath → Maybe DrawnPath → Budget → Laying → Type 0
-LaysPath w w′ tol path none b r =
+abbrev pub LoadsPath : List Float → List Float → Float → DrawnPath → Maybe DrawnPath → Budget → Workspace → Type 0
+LoadsPath w w′ tol path none b r =
     let m = pathPointsOf tol path b in
-    Lays w w′ (path .closed) (m .points) none (m .after) r
-LaysPath w w′ tol path (some o) b r =
+    Loads w w′ (path .closed) (m .points) none (m .after) r
+LoadsPath w w′ tol path (some o) b r =
     let m = pathPointsOf tol path b in
     let n = pathPointsOf tol o (m .after) in
-    Lays w w′ (path .closed) (m .points) (some (n .points)) (n .after) r
+    Loads w w′ (path .closed) (m .points) (some (n .points)) (n .after) r
 
 -- a ring's points from 0 on
-pub record Ringed (w : List Float) (m : Made) (d : Done) : Type 0 where
+pub record RingLoaded (w : List Float) (m : Made) (d : PointCursor) : Type 0 where
   pub asked : d .ok ≡ leb (length (flats (m .points))) (length w)
   pub points : d .ok ≡ true → pointsIn w 0 (d .at) ≡ m .points
   pub end : d .ok ≡ true → d .at ≡ length (flats (m .points))
@@ -143,5 +143,5 @@ pub record Ringed (w : List Float) (m : Made) (d : Done) : Type 0 where
   pub few : d .ok ≡ true → d .at ≤ longest
 
 -- ---- the last position overwritten by the first
-unfoldable pub sealedIn : List Float → ℕ → ℕ → List Float
-sealedIn w from to = set (set w (to - 2) (getD w from nan)) (to - 1) (getD w (from + 1) nan)
+unfoldable pub firstRepeatedIn : List Float → ℕ → ℕ → List Float
+firstRepeatedIn w from to = set (set w (to - 2) (getD w from nan)) (to - 1) (getD w (from + 1) nan)

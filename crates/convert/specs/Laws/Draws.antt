@@ -11,7 +11,7 @@ use Rattle.budget.specs.declared.Budget.{Budget}
 use Rattle.budget.specs.Draws.{leftAfter}
 use Rattle.scene.specs.Scene.{Maybe, none, some, Point, DrawnPath, DrawnItem}
 use Rattle.register.specs.Register.{Warning, orValue}
-use Rattle.densify.specs.Densify.{Drawn, Made, closeRingOf, densifyPolylineOf}
+use Rattle.densify.specs.Densify.{GrantedDraw, Made, closeRingOf, densifyPolylineOf}
 use Rattle.densify.specs.Laws.Bounds.{each-append}
 use Rattle.densify.specs.Laws.Replay.{replayed, Replays, replayed-append, granted-append, replayed-left, replayed-hit, path-replays, densify-replays, ellipse-replays, box-replays}
 use Rattle.densify.specs.Draws.{drawsOf, Granted, fellShort}
@@ -19,8 +19,8 @@ use Rattle.convert.specs.declared.shapes.Shape.{Shape}
 use Rattle.convert.specs.declared.shapes.Shape.the-variants.{Box, Ellipse, Circle, Dot, Points, Paths, Missing, Nothing}
 use Rattle.convert.specs.declared.state.Ctx.{Ctx}
 use Rattle.convert.specs.declared.state.Props.{Props}
-use Rattle.convert.specs.Convert.{Event, drew, need, feature, warned, Trace, quiet, single, thenTrace, pickTrace, drawsTrace, missing, featureOf, strokeOf, unwrittenOf, pointOf, fillOf, shapeTrace, closedOutline, polylineOrPolygonOf}
-use Rattle.convert.specs.Convert.{ringTrace, headOf, tailOf, outlineOf, pathOf, withPart, pathsOf, shapeOf, propsOf, at, half, pointsTrace, pathsTrace, drawnOf, itemOf, itemsOf, spentOf, convertOf, drawsIn}
+use Rattle.convert.specs.Convert.{Event, drew, need, feature, warned, Trace, noEvents, oneEvent, andThenTrace, pickTrace, drawsTrace, missing, featureOf, strokeOf, drawWithoutWriting, pointOf, fillOf, shapeTrace, closedOutline, polylineOrPolygonOf}
+use Rattle.convert.specs.Convert.{ringTrace, firstPath, laterPaths, outlineOf, pathOf, withPart, pathsOf, shapeOf, propsOf, at, half, pointsTrace, pathsTrace, drawnOf, itemOf, itemsOf, spentOf, convertOf, drawsIn}
 use Rattle.convert.specs.Features.{warningsIn, anyOfKind}
 
 pub record TraceReplays (b : Budget) (t : Trace) : Type 0 where
@@ -51,12 +51,12 @@ warnings-append (need n ∷ es) fs = warnings-append es fs
 warnings-append (feature f ps ∷ es) fs = warnings-append es fs
 warnings-append (warned w ∷ es) fs = ap (_∷_ w) (warnings-append es fs)
 
-drew-draws : (ds : List Drawn) → drawsIn (map drew ds) ≡ ds
+drew-draws : (ds : List GrantedDraw) → drawsIn (map drew ds) ≡ ds
 unfolding drawsIn
 drew-draws [] = refl
 drew-draws (d ∷ ds) = ap (_∷_ d) (drew-draws ds)
 
-drew-warnings : (ds : List Drawn) → warningsIn (map drew ds) ≡ []
+drew-warnings : (ds : List GrantedDraw) → warningsIn (map drew ds) ≡ []
 unfolding warningsIn
 drew-warnings [] = refl
 drew-warnings (d ∷ ds) = drew-warnings ds
@@ -68,7 +68,7 @@ still-replays es b h = record { after-is = rw h; grants = rw h tt }
 
 -- the second told from the budget that the first left
 abbrev joined : Trace → Trace → Trace
-joined t u = thenTrace t (λ r. u)
+joined t u = andThenTrace t (λ r. u)
 
 then-replays : {b : Budget} {t u : Trace} → TraceReplays b t → TraceReplays (t .after) u → TraceReplays b (joined t u)
 then-replays {b} {t} {u} h k =
@@ -88,15 +88,15 @@ record Told (b : Budget) (t : Trace) : Type 0 where
   replays : TraceReplays b t
   fives : Each Five (warningsIn (t .events))
 
-told-quiet : (b : Budget) → Told b (quiet b)
+told-quiet : (b : Budget) → Told b (noEvents b)
 unfolding drawsIn warningsIn
 told-quiet b = record { replays = still-replays [] b refl; fives = tt }
 
-told-need : (n : ℕ) (b : Budget) → Told b (single (need n) b)
+told-need : (n : ℕ) (b : Budget) → Told b (oneEvent (need n) b)
 unfolding drawsIn warningsIn
 told-need n b = record { replays = still-replays (need n ∷ []) b refl; fives = tt }
 
-told-feature : (p : Props) (geometry role : ℕ) (ps : List Point) (b : Budget) → Told b (single (featureOf p geometry role ps) b)
+told-feature : (p : Props) (geometry role : ℕ) (ps : List Point) (b : Budget) → Told b (oneEvent (featureOf p geometry role ps) b)
 unfolding featureOf drawsIn warningsIn
 told-feature p geometry role ps b = record { replays = still-replays (featureOf p geometry role ps ∷ []) b refl; fives = tt }
 
@@ -129,8 +129,8 @@ module _ (cx : Ctx) where
     unfolding strokeOf
     told-stroke geometry role ps b = told-then (told-densified ps b) (told-feature p geometry role _ _)
 
-    told-unwritten : (ps : List Point) (b : Budget) → Told b (unwrittenOf cx (p .item) ps b)
-    unfolding unwrittenOf
+    told-unwritten : (ps : List Point) (b : Budget) → Told b (drawWithoutWriting cx (p .item) ps b)
+    unfolding drawWithoutWriting
     told-unwritten ps b = told-then (told-densified ps b) (told-missing (p .item) _)
 
     told-fill : (outline : Maybe (List Point)) (ring : List Point) (b : Budget) → Told b (fillOf cx p outline ring b)
@@ -170,7 +170,7 @@ module _ (cx : Ctx) where
   unfolding pathsOf
   told-paths p many i [] outlines b = told-quiet b
   told-paths p many i (q ∷ qs) outlines b =
-      told-then (told-path (withPart p (cond many (suc i) 0)) q (headOf outlines) b) (told-paths p many (suc i) qs (tailOf outlines) _)
+      told-then (told-path (withPart p (cond many (suc i) 0)) q (firstPath outlines) b) (told-paths p many (suc i) qs (laterPaths outlines) _)
 
   told-all-paths : (p : Props) (qs outlines : List DrawnPath) (b : Budget) → Told b (pathsTrace cx p qs outlines b)
   unfolding pathsTrace
@@ -204,9 +204,9 @@ unfolding spentOf drawsIn warningsIn
 spent-told b = go (b .hit) refl
   where
     six : Trace
-    six = single (warned (record { kind = 6; index = 0 })) b
+    six = oneEvent (warned (record { kind = 6; index = 0 })) b
 
-    go : (h : Bool) → b .hit ≡ h → let t = pickTrace h six (quiet b) in TraceReplays b t × (warningsIn (t .events) ≡ spent (t .after .hit))
+    go : (h : Bool) → b .hit ≡ h → let t = pickTrace h six (noEvents b) in TraceReplays b t × (warningsIn (t .events) ≡ spent (t .after .hit))
     go true e = (still-replays (six .events) b refl, rw e)
     go false e = (still-replays [] b refl, rw e)
 

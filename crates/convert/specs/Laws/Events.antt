@@ -1,4 +1,4 @@
--- Laws of a single event on a sheet where everything has had room so far. Assumes nothing.
+-- Laws of a oneEvent event on a sheet where everything has had room so far. Assumes nothing.
 use Prim.Native.Nat.{ℕ, _+_, _*_, _≤_, _<_}
 use mathlib.Core.Path.{_≡_, refl, sym, ap, _∙_}
 use mathlib.Core.Bool.{Bool, true, false}
@@ -13,13 +13,13 @@ use Rattle.budget.specs.declared.Budget.{Budget}
 use Rattle.densify.specs.Positions.{flats, put}
 use Rattle.densify.specs.Laws.Writing.{put-length}
 use Rattle.geojson.specs.declared.Feature.{Feature}
-use Rattle.geojson.specs.Lines.{wordsOf}
+use Rattle.geojson.specs.Features.{wordsOf}
 use Rattle.geojson.specs.Laws.Words.{putWords-length}
 use Rattle.convert.specs.declared.state.Props.{Props}
 use Rattle.convert.specs.declared.state.State.{State}
-use Rattle.convert.specs.Convert.{Event, need, feature, warned, single, featureOf}
-use Rattle.convert.specs.Space.{Sheet, lacking, withFeature, withWarning, played, playAll}
-use Rattle.convert.specs.Contracts.Space.{sheetBy, most, Fits, Played, lineBy, Finished}
+use Rattle.convert.specs.Convert.{Event, need, feature, warned, oneEvent, featureOf}
+use Rattle.convert.specs.Space.{Output, outOfRoom, withFeature, withWarning, apply, applyAll}
+use Rattle.convert.specs.Contracts.Space.{outputBy, most, Fits, Applied, lineBy, Finished}
 
 -- ---- what `lack` and `with_budget` say of the state r: that it is st with another number or budget
 abbrev pub Restated : State → ℕ → Budget → State → Type 0
@@ -31,7 +31,7 @@ state-is st (number, positions, features, warnings, budget) = rw (← number, �
 
 -- ---- any event
 -- the sheet with other positions, of which as many are used
-abbrev pub withPositions : List Float → Sheet → Sheet
+abbrev pub withPositions : List Float → Output → Output
 withPositions p t =
     record {
       work = t .work;
@@ -44,17 +44,17 @@ withPositions p t =
       number = t .number;
     }
 
-module _ (e : Event) (t : Sheet) (b : Budget) (start : t .number ≡ 0) where
-  play-one : playAll (e ∷ []) t ≡ played e t
-  unfolding playAll
+module _ (e : Event) (t : Output) (b : Budget) (start : t .number ≡ 0) where
+  play-one : applyAll (e ∷ []) t ≡ apply e t
+  unfolding applyAll
   play-one = rw start
 
-  event-fits : (u : Sheet) → played e t ≡ u → u .work ≡ t .work → length (u .positions) ≡ length (t .positions)
-      → length (u .features) ≡ length (t .features) → length (u .warnings) ≡ length (t .warnings) → Fits u b → Played (single e b) t u b
+  event-fits : (u : Output) → apply e t ≡ u → u .work ≡ t .work → length (u .positions) ≡ length (t .positions)
+      → length (u .features) ≡ length (t .features) → length (u .warnings) ≡ length (t .warnings) → Fits u b → Applied (oneEvent e b) t u b
   event-fits u is work positions features warnings h =
       let e = sym (play-one ∙ is) in
       record {
-        number = ap (λ (x : Sheet). x .number) e;
+        number = ap (λ (x : Output). x .number) e;
         same = λ z. e;
         after = λ z. refl;
         work = work;
@@ -65,11 +65,11 @@ module _ (e : Event) (t : Sheet) (b : Budget) (start : t .number ≡ 0) where
       }
 
   -- only the number tells what lacks room: positions may be written already
-  event-lacks : (n : ℕ) (p : List Float) (c : Budget) → eqb n 0 ≡ false → played e t .number ≡ n → length p ≡ length (t .positions) → Fits t c
-      → Played (single e b) t (lacking n (withPositions p t)) c
+  event-lacks : (n : ℕ) (p : List Float) (c : Budget) → eqb n 0 ≡ false → apply e t .number ≡ n → length p ≡ length (t .positions) → Fits t c
+      → Applied (oneEvent e b) t (outOfRoom n (withPositions p t)) c
   event-lacks n p c some is same h =
       record {
-        number = sym (ap (λ (x : Sheet). x .number) play-one ∙ is);
+        number = sym (ap (λ (x : Output). x .number) play-one ∙ is);
         same = λ z. absurd (eqb-false n 0 some z);
         after = λ z. absurd (eqb-false n 0 some z);
         work = refl;
@@ -80,34 +80,34 @@ module _ (e : Event) (t : Sheet) (b : Budget) (start : t .number ≡ 0) where
       }
 
 -- ---- points of work
-module _ (n : ℕ) (t : Sheet) (b : Budget) (start : t .number ≡ 0) where
-  pub need-fits : 2 * n ≤ t .work → Fits t b → Played (single (need n) b) t t b
-  unfolding played
+module _ (n : ℕ) (t : Output) (b : Budget) (start : t .number ≡ 0) where
+  pub need-fits : 2 * n ≤ t .work → Fits t b → Applied (oneEvent (need n) b) t t b
+  unfolding apply
   need-fits room h = event-fits (need n) t b start t (rw (le-leb (2 * n) (t .work) room)) refl refl refl refl h
 
-  pub need-lacks : (c : Budget) → t .work < 2 * n → Fits t c → Played (single (need n) b) t (lacking 15 t) c
-  unfolding played
+  pub need-lacks : (c : Budget) → t .work < 2 * n → Fits t c → Applied (oneEvent (need n) b) t (outOfRoom 15 t) c
+  unfolding apply
   need-lacks c short h = event-lacks (need n) t b start 15 (t .positions) c refl (rw (lt-leb (2 * n) (t .work) short)) refl h
 
--- ---- warnings; `lacking 0` says that nothing lacks room
-module _ (w : Warning) (t : Sheet) (b : Budget) (start : t .number ≡ 0) (h : Fits t b) where
-  pub warned-fits : t .usedWarnings + 2 ≤ length (t .warnings) → Played (single (warned w) b) t (lacking 0 (withWarning w t)) b
-  unfolding played
+-- ---- warnings; `outOfRoom 0` says that nothing lacks room
+module _ (w : Warning) (t : Output) (b : Budget) (start : t .number ≡ 0) (h : Fits t b) where
+  pub warned-fits : t .usedWarnings + 2 ≤ length (t .warnings) → Applied (oneEvent (warned w) b) t (outOfRoom 0 (withWarning w t)) b
+  unfolding apply
   warned-fits room =
       let same = putWords-length (t .warnings) (t .usedWarnings) (w .kind ∷ w .index ∷ []) room in
-      event-fits (warned w) t b start (lacking 0 (withWarning w t)) (rw (le-leb (t .usedWarnings + 2) (length (t .warnings)) room, start)) refl refl refl same
+      event-fits (warned w) t b start (outOfRoom 0 (withWarning w t)) (rw (le-leb (t .usedWarnings + 2) (length (t .warnings)) room, start)) refl refl refl same
       (record { positions = h .positions; features = h .features; warnings = rw same room; left = h .left })
 
-  pub warned-lacks : length (t .warnings) < t .usedWarnings + 2 → Played (single (warned w) b) t (lacking 18 t) b
-  unfolding played
+  pub warned-lacks : length (t .warnings) < t .usedWarnings + 2 → Applied (oneEvent (warned w) b) t (outOfRoom 18 t) b
+  unfolding apply
   warned-lacks short =
       event-lacks (warned w) t b start 18 (t .positions) b refl (rw (lt-leb (t .usedWarnings + 2) (length (t .warnings)) short)) refl h
 
 -- ---- features
-module _ (f : Feature) (ps : List Point) (t : Sheet) (b : Budget) (start : t .number ≡ 0) where
+module _ (f : Feature) (ps : List Point) (t : Output) (b : Budget) (start : t .number ≡ 0) where
   pub feature-lacks-positions : (p : List Float) (c : Budget) → length p ≡ length (t .positions)
-      → length (t .positions) < t .usedPositions + length (flats ps) → Fits t c → Played (single (feature f ps) b) t (lacking 16 (withPositions p t)) c
-  unfolding played
+      → length (t .positions) < t .usedPositions + length (flats ps) → Fits t c → Applied (oneEvent (feature f ps) b) t (outOfRoom 16 (withPositions p t)) c
+  unfolding apply
   feature-lacks-positions p c same short h =
       event-lacks (feature f ps) t b start 16 p c refl (rw (lt-leb (t .usedPositions + length (flats ps)) (length (t .positions)) short)) same h
 
@@ -119,41 +119,41 @@ module _ (f : Feature) (ps : List Point) (t : Sheet) (b : Budget) (start : t .nu
     enough = le-leb (t .usedPositions + length (flats ps)) (length (t .positions)) room
 
     pub feature-lacks-line : (c : Budget) → length (t .features) < t .usedFeatures + 6 → Fits t c
-        → Played (single (feature f ps) b) t (lacking 17 (withPositions (put (t .positions) (t .usedPositions) (flats ps)) t)) c
-    unfolding played
+        → Applied (oneEvent (feature f ps) b) t (outOfRoom 17 (withPositions (put (t .positions) (t .usedPositions) (flats ps)) t)) c
+    unfolding apply
     feature-lacks-line c short h =
         event-lacks (feature f ps) t b start 17 _ c refl (rw (enough, lt-leb (t .usedFeatures + 6) (length (t .features)) short)) placed h
 
     pub feature-fits : t .usedFeatures + 6 ≤ length (t .features) → t .usedWarnings ≤ length (t .warnings) → b .left ≤ most
-        → Played (single (feature f ps) b) t (lacking 0 (withFeature f ps t)) b
-    unfolding played
+        → Applied (oneEvent (feature f ps) b) t (outOfRoom 0 (withFeature f ps t)) b
+    unfolding apply
     feature-fits line warnings left =
         let lined = putWords-length (t .features) (t .usedFeatures) (wordsOf f) line in
-        event-fits (feature f ps) t b start (lacking 0 (withFeature f ps t)) (rw (enough, le-leb (t .usedFeatures + 6) (length (t .features)) line, start)) refl
+        event-fits (feature f ps) t b start (outOfRoom 0 (withFeature f ps t)) (rw (enough, le-leb (t .usedFeatures + 6) (length (t .features)) line, start)) refl
         placed lined refl
         (record { positions = rw placed room; features = rw lined line; warnings = warnings; left = left })
 
 -- ---- a feature as the code writes it: its positions, then its line by `finish`
 module _ (p : Props) (geometry role : ℕ) (ps : List Point) (b : Budget) (work : ℕ) {q q′ : List Float} {f v : List ℕ} {st r : State}
-    (start : st .number ≡ 0) (h : Fits (sheetBy work q f v st) (st .budget)) where
+    (start : st .number ≡ 0) (h : Fits (outputBy work q f v st) (st .budget)) where
   pub written-lacks : length q′ ≡ length q → length q < st .positions + length (flats ps) → Restated st 16 (st .budget) r
-      → Played (single (featureOf p geometry role ps) b) (sheetBy work q f v st) (sheetBy work q′ f v r) (r .budget)
+      → Applied (oneEvent (featureOf p geometry role ps) b) (outputBy work q f v st) (outputBy work q′ f v r) (r .budget)
   unfolding featureOf
   written-lacks same short is =
-      rw (state-is st is) (feature-lacks-positions (lineBy p geometry role (length ps)) ps (sheetBy work q f v st) b start q′ (st .budget) same short h)
+      rw (state-is st is) (feature-lacks-positions (lineBy p geometry role (length ps)) ps (outputBy work q f v st) b start q′ (st .budget) same short h)
 
   pub written-finished : {f′ : List ℕ} → st .positions + length (flats ps) ≤ length q → q′ ≡ put q (st .positions) (flats ps) → b .left ≤ most
       → Finished p geometry role (st .positions + length (flats ps)) (length ps) b f f′ st r
-      → Played (single (featureOf p geometry role ps) b) (sheetBy work q f v st) (sheetBy work q′ f′ v r) (r .budget)
+      → Applied (oneEvent (featureOf p geometry role ps) b) (outputBy work q f v st) (outputBy work q′ f′ v r) (r .budget)
   unfolding featureOf
   written-finished {f′} room there left fin = go (leb (st .features + 6) (length f)) refl
     where
       line : Feature
       line = lineBy p geometry role (length ps)
 
-      t : Sheet
-      t = sheetBy work q f v st
+      t : Output
+      t = outputBy work q f v st
 
-      go : (x : Bool) → leb (st .features + 6) (length f) ≡ x → Played (single (feature line ps) b) t (sheetBy work q′ f′ v r) (r .budget)
+      go : (x : Bool) → leb (st .features + 6) (length f) ≡ x → Applied (oneEvent (feature line ps) b) t (outputBy work q′ f′ v r) (r .budget)
       go true e = rw (there, fin .fits e, fin .then e) (feature-fits line ps t b start room (leb-true _ _ e) (h .warnings) left)
       go false e = rw (there, fin .short e, fin .lacks e) (feature-lacks-line line ps t b start room (st .budget) (leb-false _ _ e) h)

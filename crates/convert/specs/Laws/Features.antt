@@ -25,8 +25,8 @@ use Rattle.register.specs.Register.{orValue}
 use Rattle.register.specs.Laws.Near as R
 use Rattle.register.specs.Laws.Near.{Holds, NearItem}
 use Rattle.budget.specs.declared.Budget.{Budget}
-use Rattle.densify.specs.Densify.{Drawn, Made, closeRingOf, pathPointsOf, densifyPolylineOf, ellipseRingOf, boxRingOf}
-use Rattle.densify.specs.Positions.{placedBy}
+use Rattle.densify.specs.Densify.{GrantedDraw, Made, closeRingOf, pathPointsOf, densifyPolylineOf, ellipseRingOf, boxRingOf}
+use Rattle.densify.specs.Positions.{projectPoint}
 use Rattle.densify.specs.Laws.Bounds.{Near, NearPoint, NearCubic, NearForm, InPoint, close-each, near-in, nears-in, half-near, zero-near, path-near, densify-in, ellipse-in, box-in}
 use Rattle.densify.specs.Laws.Counts.{densify-least, ring-least, ellipse-ring, box-ring}
 use Rattle.geojson.specs.Rfc7946.{Positions, lastFrom, Closed, Geometry}
@@ -34,8 +34,8 @@ use Rattle.convert.specs.declared.shapes.Shape.{Shape}
 use Rattle.convert.specs.declared.shapes.Shape.the-variants.{Box, Ellipse, Circle, Dot, Points, Paths, Missing, Nothing}
 use Rattle.convert.specs.declared.state.Ctx.{Ctx}
 use Rattle.convert.specs.declared.state.Props.{Props}
-use Rattle.convert.specs.Convert.{Event, drew, need, feature, warned, Trace, quiet, single, thenTrace, pickTrace, drawsTrace, missing, endWith, sealed, featureOf, strokeOf, unwrittenOf, pointOf, fillOf, shapeTrace, closedOutline, polylineOrPolygonOf}
-use Rattle.convert.specs.Convert.{ringTrace, headOf, tailOf, outlineOf, pathOf, withPart, pathsOf, boxShape, ellipseShape, circleShape, dotShape, pickShape, boxOf, ellipseOf, circleOf, dotOf, shapeOf, propsOf, at, half, pointsTrace, pathsTrace, drawnOf, itemOf, itemsOf, spentOf, convertOf}
+use Rattle.convert.specs.Convert.{Event, drew, need, feature, warned, Trace, noEvents, oneEvent, andThenTrace, pickTrace, drawsTrace, missing, endWith, firstRepeated, featureOf, strokeOf, drawWithoutWriting, pointOf, fillOf, shapeTrace, closedOutline, polylineOrPolygonOf}
+use Rattle.convert.specs.Convert.{ringTrace, firstPath, laterPaths, outlineOf, pathOf, withPart, pathsOf, boxShape, ellipseShape, circleShape, dotShape, pickShape, boxOf, ellipseOf, circleOf, dotOf, shapeOf, propsOf, at, half, pointsTrace, pathsTrace, drawnOf, itemOf, itemsOf, spentOf, convertOf}
 use Rattle.convert.specs.Features.{AllOnGlobe, AllWellFormed, featuresIn}
 
 abbrev pub Earthly : Point → Type 0
@@ -65,16 +65,16 @@ end-each Q p [] h k = tt
 end-each Q p (q ∷ []) h k = (h, tt)
 end-each Q p (q ∷ r ∷ rs) h k = (k .0, end-each Q p (r ∷ rs) h (k .1))
 
-sealed-length : (ps : List Point) → length (sealed ps) ≡ length ps
+sealed-length : (ps : List Point) → length (firstRepeated ps) ≡ length ps
 sealed-length [] = refl
 sealed-length (p ∷ ps) = ap suc (end-length p ps)
 
-sealed-closed : (ps : List Point) → Closed (sealed ps)
+sealed-closed : (ps : List Point) → Closed (firstRepeated ps)
 sealed-closed [] = tt
 sealed-closed (p ∷ []) = refl
 sealed-closed (p ∷ q ∷ qs) = end-last p p q qs
 
-sealed-each : (Q : Point → Type 0) (ps : List Point) → Each Q ps → Each Q (sealed ps)
+sealed-each : (Q : Point → Type 0) (ps : List Point) → Each Q ps → Each Q (firstRepeated ps)
 sealed-each Q [] h = tt
 sealed-each Q (p ∷ ps) h = (h .0, end-each Q p ps (h .0) (h .1))
 
@@ -82,7 +82,7 @@ sealed-each Q (p ∷ ps) h = (h .0, end-each Q p ps (h .0) (h .1))
 record Fine (t : Trace) : Type 0 where
   each : AllWellFormed (featuresIn (t .events))
 
-fine-feature : (p : Props) (geometry role : ℕ) (ps : List Point) (b : Budget) → Geometry geometry ps → Each Earthly ps → Fine (single (featureOf p geometry role ps) b)
+fine-feature : (p : Props) (geometry role : ℕ) (ps : List Point) (b : Budget) → Geometry geometry ps → Each Earthly ps → Fine (oneEvent (featureOf p geometry role ps) b)
 unfolding featureOf featuresIn
 fine-feature p geometry role ps b g h = record { each = (record { geometry = g; counted = refl; globe = globe ps h }, tt) }
 
@@ -90,11 +90,11 @@ fine-draws : (m : Made) → Fine (drawsTrace m)
 unfolding featuresIn
 fine-draws m = record { each = go (m .draws) }
   where
-    go : (ds : List Drawn) → AllWellFormed (featuresIn (map drew ds))
+    go : (ds : List GrantedDraw) → AllWellFormed (featuresIn (map drew ds))
     go [] = tt
     go (d ∷ ds) = go ds
 
-fine-then : {t u : Trace} → Fine t → Fine u → Fine (thenTrace t (λ r. u))
+fine-then : {t u : Trace} → Fine t → Fine u → Fine (andThenTrace t (λ r. u))
 unfolding featuresIn
 fine-then {t} {u} h k = record { each = go (t .events) (h .each) }
   where
@@ -110,11 +110,11 @@ fine-pick true h k = h refl
 fine-pick false h k = k refl
 
 -- no features at all
-fine-quiet : (b : Budget) → Fine (quiet b)
+fine-quiet : (b : Budget) → Fine (noEvents b)
 unfolding featuresIn
 fine-quiet b = record { each = tt }
 
-fine-need : (n : ℕ) (b : Budget) → Fine (single (need n) b)
+fine-need : (n : ℕ) (b : Budget) → Fine (oneEvent (need n) b)
 unfolding featuresIn
 fine-need n b = record { each = tt }
 
@@ -161,11 +161,11 @@ listed-drawable (some ps) h = nears-in ps (near-points ps (h .points))
 path-drawable : (tol : Float) (p : DrawnPath) (b : Budget) → R.NearPath p → Drawable (pathPointsOf tol p b .points)
 path-drawable tol p b h = nears-in (pathPointsOf tol p b .points) (path-near tol p b (near-form (p .form) h))
 
-head-near : (ps : List DrawnPath) → Each R.NearPath ps → Holds R.NearPath (headOf ps)
+head-near : (ps : List DrawnPath) → Each R.NearPath ps → Holds R.NearPath (firstPath ps)
 head-near [] h = tt
 head-near (p ∷ ps) h = h .0
 
-tail-near : (ps : List DrawnPath) → Each R.NearPath ps → Each R.NearPath (tailOf ps)
+tail-near : (ps : List DrawnPath) → Each R.NearPath ps → Each R.NearPath (laterPaths ps)
 tail-near [] h = tt
 tail-near (p ∷ ps) h = h .1
 
@@ -241,8 +241,8 @@ module _ (r : Registration) (S : Sound r) (step flatten : Float) where
   abbrev cx : Ctx
   cx = record { projection = projectionOf r; step = step; flatten = flatten }
 
-  placed-earthly : (p : Point) → InPoint 24 p → Earthly (placedBy (projectionOf r) p)
-  unfolding placedBy
+  placed-earthly : (p : Point) → InPoint 24 p → Earthly (projectPoint (projectionOf r) p)
+  unfolding projectPoint
   placed-earthly p h = subst (λ (g : LonLat). OnEarth g) (sym (geo-projects r (p .x) (p .y))) (geo-in r S (p .x) (p .y) (h .x) (h .y))
 
   abbrev scale : Float
@@ -253,10 +253,10 @@ module _ (r : Registration) (S : Sound r) (step flatten : Float) where
   densified ps b = densifyPolylineOf step scale ps b
 
   abbrev carried : List Point → Budget → List Point
-  carried ps b = map (placedBy (projectionOf r)) (densified ps b .points)
+  carried ps b = map (projectPoint (projectionOf r)) (densified ps b .points)
 
   carried-earthly : (ps : List Point) (b : Budget) → Drawable ps → Each Earthly (carried ps b)
-  carried-earthly ps b h = each-map (placedBy (projectionOf r)) (InPoint 24) Earthly placed-earthly (densified ps b .points) (densify-in step scale ps b h)
+  carried-earthly ps b h = each-map (projectPoint (projectionOf r)) (InPoint 24) Earthly placed-earthly (densified ps b .points) (densify-in step scale ps b h)
 
   carried-least : (ps : List Point) (b : Budget) → length ps ≤ length (carried ps b)
   carried-least ps b = rw length-map (densify-least step scale ps b)
@@ -274,18 +274,18 @@ module _ (r : Registration) (S : Sound r) (step flatten : Float) where
         let qs = carried ps b in
         let e = sealed-each Earthly qs (carried-earthly ps b h) in
         fine-then (fine-draws (densified ps b))
-        (fine-feature p 2 role (sealed qs) _ (record { positions = positions (sealed qs) e; many = omega (arith, carried-least ps b, sealed-length qs); closed = sealed-closed qs }) e)
+        (fine-feature p 2 role (firstRepeated qs) _ (record { positions = positions (firstRepeated qs) e; many = omega (arith, carried-least ps b, sealed-length qs); closed = sealed-closed qs }) e)
 
-    fine-unwritten : (ps : List Point) (b : Budget) → Fine (unwrittenOf cx (p .item) ps b)
-    unfolding unwrittenOf
+    fine-unwritten : (ps : List Point) (b : Budget) → Fine (drawWithoutWriting cx (p .item) ps b)
+    unfolding drawWithoutWriting
     fine-unwritten ps b = fine-then (fine-draws (densified ps b)) (fine-missing (p .item) _)
 
     fine-dot : (q : Point) (b : Budget) → NearPoint q → Fine (pointOf cx p q b)
     unfolding pointOf
     fine-dot q b h =
         let i = near-in q h in
-        let e : Each Earthly (placedBy (projectionOf r) q ∷ []) = (placed-earthly q (record { x = wider 22 24 (q .x) (lit≤ tt) (i .x); y = wider 22 24 (q .y) (lit≤ tt) (i .y) }), tt) in
-        fine-feature p 0 0 (placedBy (projectionOf r) q ∷ []) b (positions (placedBy (projectionOf r) q ∷ []) e, refl) e
+        let e : Each Earthly (projectPoint (projectionOf r) q ∷ []) = (placed-earthly q (record { x = wider 22 24 (q .x) (lit≤ tt) (i .x); y = wider 22 24 (q .y) (lit≤ tt) (i .y) }), tt) in
+        fine-feature p 0 0 (projectPoint (projectionOf r) q ∷ []) b (positions (projectPoint (projectionOf r) q ∷ []) e, refl) e
 
     fine-fill : (outline : Maybe (List Point)) (ring : List Point) (b : Budget) → Holds Drawable outline → Drawable ring → Fine (fillOf cx p outline ring b)
     unfolding fillOf
@@ -328,8 +328,8 @@ module _ (r : Registration) (S : Sound r) (step flatten : Float) where
   unfolding pathsOf
   fine-paths p many i [] outlines b h k = fine-quiet b
   fine-paths p many i (q ∷ qs) outlines b h k =
-      fine-then (fine-path (withPart p (cond many (suc i) 0)) q (headOf outlines) b (h .0) (head-near outlines k))
-      (fine-paths p many (suc i) qs (tailOf outlines) _ (h .1) (tail-near outlines k))
+      fine-then (fine-path (withPart p (cond many (suc i) 0)) q (firstPath outlines) b (h .0) (head-near outlines k))
+      (fine-paths p many (suc i) qs (laterPaths outlines) _ (h .1) (tail-near outlines k))
 
   fine-all-paths : (p : Props) (qs outlines : List DrawnPath) (b : Budget) → Each R.NearPath qs → Each R.NearPath outlines → Fine (pathsTrace cx p qs outlines b)
   unfolding pathsTrace

@@ -11,7 +11,7 @@ use lib.Ieee.{Float}
 use borrow.Author.Tests.{lt-ltb}
 use Rattle.budget.specs.declared.Budget.{Budget}
 use Rattle.scene.specs.Scene.{Maybe, none, some, Point, DrawnPath, DrawnItem}
-use Rattle.densify.specs.declared.writing.Done.{Done}
+use Rattle.densify.specs.declared.append.PointCursor.{PointCursor}
 use Rattle.densify.specs.Densify.{Made, ellipseRingOf, boxRingOf}
 use Rattle.densify.specs.Contracts.Written.{Written}
 use Rattle.densify.specs.Positions.{flats}
@@ -25,12 +25,12 @@ use Rattle.convert.specs.declared.state.Ctx.{Ctx}
 use Rattle.convert.specs.declared.state.Props.{Props}
 use Rattle.convert.specs.declared.state.State.{State}
 use Rattle.convert.specs.Convert.{Trace, missing, polylineOrPolygonOf, ringTrace, pathsOf, shapeOf, onScreen, propsOf, pointsTrace, pathsTrace, drawnOf, itemOf}
-use Rattle.convert.specs.Space.{Sheet}
-use Rattle.convert.specs.Contracts.Space.{most, longest, sheetBy, Fits, Played, Small, Ringed}
+use Rattle.convert.specs.Space.{Output}
+use Rattle.convert.specs.Contracts.Space.{most, longest, outputBy, Fits, Applied, Small, RingLoaded}
 
 -- from a work slice of the same length
-pub played-from : {a : Trace} {j k : ℕ} {ps : List Float} {fs v : List ℕ} (st : State) {u : Sheet} {b : Budget} → j ≡ k
-    → Played a (sheetBy j ps fs v st) u b → Played a (sheetBy k ps fs v st) u b
+pub played-from : {a : Trace} {j k : ℕ} {ps : List Float} {fs v : List ℕ} (st : State) {u : Output} {b : Budget} → j ≡ k
+    → Applied a (outputBy j ps fs v st) u b → Applied a (outputBy k ps fs v st) u b
 played-from st e h = rw e at h
 
 -- ---- rings
@@ -54,11 +54,11 @@ module _ (step scale tol : Float) (c : Point) (b : Budget) (left : b .left ≤ m
         small = record { few = omega (arith, box-most step scale tol c w h rad b); left = omega (arith, left-falls (box-replays step scale tol c w h rad b)) };
       }
 
-module _ {w w′ : List Float} {m : Made} {d : Done} (one : Written w w′ 0 m d) (round : Round m) where
+module _ {w w′ : List Float} {m : Made} {d : PointCursor} (one : Written w w′ 0 m d) (round : Round m) where
   ends : d .ok ≡ true → d .at ≡ length (flats (m .points))
   ends fits = omega (arith, one .next fits)
 
-  ringed : Ringed w′ m d
+  ringed : RingLoaded w′ m d
   ringed =
       record {
         asked = rw (one .kept) (rw zero-add at (one .asked));
@@ -75,20 +75,20 @@ module _ {w w′ : List Float} {m : Made} {d : Done} (one : Written w w′ 0 m d
 
   -- and drawn
   pub ring-played : (cx : Ctx) (p : Props) {st r : State} {ps ps′ : List Float} {fs fs′ v : List ℕ}
-      → ((n : Made) (u : List ℕ) → Ringed w′ n d → Fits (sheetBy (length w′) ps fs u st) (st .budget)
-      → Played (ringTrace cx p n) (sheetBy (length w′) ps fs u st) (sheetBy (length w′) ps′ fs′ u r) (r .budget))
-      → Fits (sheetBy (length w) ps fs v st) (st .budget)
-      → Played (ringTrace cx p m) (sheetBy (length w) ps fs v st) (sheetBy (length w′) ps′ fs′ v r) (r .budget)
+      → ((n : Made) (u : List ℕ) → RingLoaded w′ n d → Fits (outputBy (length w′) ps fs u st) (st .budget)
+      → Applied (ringTrace cx p n) (outputBy (length w′) ps fs u st) (outputBy (length w′) ps′ fs′ u r) (r .budget))
+      → Fits (outputBy (length w) ps fs v st) (st .budget)
+      → Applied (ringTrace cx p m) (outputBy (length w) ps fs v st) (outputBy (length w′) ps′ fs′ v r) (r .budget)
   ring-played cx p {st = st} {v = v} drawn h = played-from st (one .kept) (drawn m v ringed (rw (one .kept) h))
 
 -- ---- points
-module _ (cx : Ctx) (p : Props) (closed : Bool) {ps : Maybe (List Point)} (outline : Maybe (List Point)) (b : Budget) {c : Budget} {t u : Sheet} where
-  pub points-missing : ps ≡ none → Played (missing (p .item) b) t u c → Played (pointsTrace cx p closed ps outline b) t u c
+module _ (cx : Ctx) (p : Props) (closed : Bool) {ps : Maybe (List Point)} (outline : Maybe (List Point)) (b : Budget) {c : Budget} {t u : Output} where
+  pub points-missing : ps ≡ none → Applied (missing (p .item) b) t u c → Applied (pointsTrace cx p closed ps outline b) t u c
   unfolding pointsTrace
   points-missing e h = rw e h
 
-  pub points-drawn : {qs : List Point} {o : Maybe (List Point)} → ps ≡ some qs → outline ≡ o → Played (polylineOrPolygonOf cx p closed qs o b) t u c
-      → Played (pointsTrace cx p closed ps outline b) t u c
+  pub points-drawn : {qs : List Point} {o : Maybe (List Point)} → ps ≡ some qs → outline ≡ o → Applied (polylineOrPolygonOf cx p closed qs o b) t u c
+      → Applied (pointsTrace cx p closed ps outline b) t u c
   unfolding pointsTrace
   points-drawn e f h = rw (e, f) h
 
@@ -98,18 +98,18 @@ pub many-is : {qs : List DrawnPath} (q : DrawnPath) (rest : List DrawnPath) (mor
 many-is q rest true e = rw e (lt-ltb 0 (suc (length rest)) (omega arith))
 many-is q rest false e = rw e refl
 
-module _ (cx : Ctx) (p : Props) {qs : List DrawnPath} (outlines : List DrawnPath) (b : Budget) {c : Budget} {t u : Sheet} where
-  pub paths-missing : qs ≡ [] → Played (missing (p .item) b) t u c → Played (pathsTrace cx p qs outlines b) t u c
+module _ (cx : Ctx) (p : Props) {qs : List DrawnPath} (outlines : List DrawnPath) (b : Budget) {c : Budget} {t u : Output} where
+  pub paths-missing : qs ≡ [] → Applied (missing (p .item) b) t u c → Applied (pathsTrace cx p qs outlines b) t u c
   unfolding pathsTrace
   paths-missing e h = rw e h
 
-  pub paths-drawn : {q : DrawnPath} {rest : List DrawnPath} {many : Bool} → qs ≡ q ∷ rest → ltb 0 (length rest) ≡ many → Played (pathsOf cx p many 0 qs outlines b) t u c
-      → Played (pathsTrace cx p qs outlines b) t u c
+  pub paths-drawn : {q : DrawnPath} {rest : List DrawnPath} {many : Bool} → qs ≡ q ∷ rest → ltb 0 (length rest) ≡ many → Applied (pathsOf cx p many 0 qs outlines b) t u c
+      → Applied (pathsTrace cx p qs outlines b) t u c
   unfolding pathsTrace
   paths-drawn e more h = rw (e, more) (rw e at h)
 
 -- ---- an item
-pub item-drawn : (cx : Ctx) {p : Props} (i : ℕ) (it : DrawnItem) {r s : Shape} (b : Budget) {c : Budget} {t u : Sheet} → p ≡ propsOf onScreen i it → r ≡ shapeOf it → r ≡ s
-    → Played (drawnOf cx p it s b) t u c → Played (itemOf onScreen cx i it b) t u c
+pub item-drawn : (cx : Ctx) {p : Props} (i : ℕ) (it : DrawnItem) {r s : Shape} (b : Budget) {c : Budget} {t u : Output} → p ≡ propsOf onScreen i it → r ≡ shapeOf it → r ≡ s
+    → Applied (drawnOf cx p it s b) t u c → Applied (itemOf onScreen cx i it b) t u c
 unfolding itemOf
 item-drawn cx i it b props shape is h = rw (← props, ← shape, is) h

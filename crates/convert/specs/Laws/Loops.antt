@@ -8,45 +8,45 @@ use mathlib.Core.List.{List, [], _∷_}
 use lib.ListN.{length}
 use lib.Ieee.{Float}
 use borrow.Author.Tests.{not-true, not-false}
-use Rattle.scene.specs.declared.sections.Item.{Item}
-use Rattle.scene.specs.declared.sections.Path.{Path}
+use Rattle.scene.specs.declared.readers.Item.{Item}
+use Rattle.scene.specs.declared.readers.Path.{Path}
 use Rattle.scene.specs.Scene.{Maybe, none, some, given, Point, DrawnPath, DrawnItem}
 use Rattle.scene.specs.Contracts.Answers.{pathsFrom, pathsBy, itemBy, itemsAt, itemsBy, PathWithin}
 use Rattle.budget.specs.declared.Budget.{Budget}
 use Rattle.densify.specs.Densify.{pathPointsOf}
 use Rattle.densify.specs.Contracts.Written.{drawnBy, PathFits}
-use Rattle.convert.specs.declared.laying.Laying.{Laying}
+use Rattle.convert.specs.declared.workspace.Workspace.{Workspace}
 use Rattle.convert.specs.declared.state.Ctx.{Ctx}
 use Rattle.convert.specs.declared.state.Props.{Props}
 use Rattle.convert.specs.declared.state.State.{State}
-use Rattle.convert.specs.Convert.{Trace, quiet, single, warned, thenTrace, polylineOrPolygonOf, headOf, tailOf, outlineOf, pathOf, withPart, pathsOf, itemOf, itemsOf, spentOf, convertOf}
-use Rattle.convert.specs.Space.{Sheet}
-use Rattle.convert.specs.Contracts.Space.{sheetBy, most, Fits, Played, Bounds, Lays, LaysPath, outlineBy}
-use Rattle.convert.specs.Laws.Playing.{played-quiet, played-stuck, played-then, played-drawn, Onward, onward-next}
-use Rattle.convert.specs.Laws.Laying.{laid-bounds}
+use Rattle.convert.specs.Convert.{Trace, noEvents, oneEvent, warned, andThenTrace, polylineOrPolygonOf, firstPath, laterPaths, outlineOf, pathOf, withPart, pathsOf, itemOf, itemsOf, spentOf, convertOf}
+use Rattle.convert.specs.Space.{Output}
+use Rattle.convert.specs.Contracts.Space.{outputBy, most, Fits, Applied, Bounds, Loads, LoadsPath, outlineBy}
+use Rattle.convert.specs.Laws.Applying.{played-quiet, played-stuck, played-then, played-drawn, Onward, onward-next}
+use Rattle.convert.specs.Laws.Loading.{laid-bounds}
 
 -- ---- one path
 pub path-fits : {n q : ℕ} {r : Path} → PathWithin n q r → PathFits n r
 path-fits h = record { start = h .start; cubics = h .cubics; points = h .points }
 
-module _ (w w′ : List Float) (tol : Float) (path : DrawnPath) (b : Budget) (l : Laying) where
-  path-bounds : (outline : Maybe DrawnPath) → LaysPath w w′ tol path outline b l → l .ok ≡ true → Bounds l (length w′) × (l .budget .left ≤ most)
+module _ (w w′ : List Float) (tol : Float) (path : DrawnPath) (b : Budget) (l : Workspace) where
+  path-bounds : (outline : Maybe DrawnPath) → LoadsPath w w′ tol path outline b l → l .ok ≡ true → Bounds l (length w′) × (l .budget .left ≤ most)
   path-bounds none h fits = (laid-bounds h fits, h .left fits)
   path-bounds (some o) h fits = (laid-bounds h fits, h .left fits)
 
-  path-kept : (outline : Maybe DrawnPath) → LaysPath w w′ tol path outline b l → length w′ ≡ length w
+  path-kept : (outline : Maybe DrawnPath) → LoadsPath w w′ tol path outline b l → length w′ ≡ length w
   path-kept none h = h .kept
   path-kept (some o) h = h .kept
 
   -- what drawing it asks for
-  pub path-ready : (outline : Maybe DrawnPath) → LaysPath w w′ tol path outline b l → {positions : List Float} {features warnings : List ℕ} {st : State} → Fits (sheetBy (length w) positions features warnings st) (st .budget)
-      → (l .ok ≡ true → Bounds l (length w′) × (l .budget .left ≤ most)) × Fits (sheetBy (length w′) positions features warnings st) (st .budget)
+  pub path-ready : (outline : Maybe DrawnPath) → LoadsPath w w′ tol path outline b l → {positions : List Float} {features warnings : List ℕ} {st : State} → Fits (outputBy (length w) positions features warnings st) (st .budget)
+      → (l .ok ≡ true → Bounds l (length w′) × (l .budget .left ≤ most)) × Fits (outputBy (length w′) positions features warnings st) (st .budget)
   path-ready outline h fits = (path-bounds outline h, rw (path-kept outline h) fits)
 
 -- laid out, then drawn
-path-drawn : (cx : Ctx) (p : Props) (path : DrawnPath) (outline : Maybe DrawnPath) (b : Budget) (w w′ : List Float) (l : Laying) {t u : Sheet} {c : Budget} → LaysPath w w′ (cx .flatten) path outline b l
-    → ((v : List Float) (ps : List Point) (o : Maybe (List Point)) (d : Budget) → Lays v w′ (path .closed) ps o d l → Played (polylineOrPolygonOf cx p (path .closed) ps o d) t u c)
-    → Played (pathOf cx p path outline b) t u c
+path-drawn : (cx : Ctx) (p : Props) (path : DrawnPath) (outline : Maybe DrawnPath) (b : Budget) (w w′ : List Float) (l : Workspace) {t u : Output} {c : Budget} → LoadsPath w w′ (cx .flatten) path outline b l
+    → ((v : List Float) (ps : List Point) (o : Maybe (List Point)) (d : Budget) → Loads v w′ (path .closed) ps o d l → Applied (polylineOrPolygonOf cx p (path .closed) ps o d) t u c)
+    → Applied (pathOf cx p path outline b) t u c
 unfolding pathOf outlineOf
 path-drawn cx p path none b w w′ l h draw =
     let m = pathPointsOf (cx .flatten) path b in
@@ -57,15 +57,15 @@ path-drawn cx p path (some o) b w w′ l h draw =
     played-drawn m (λ r. outlineOf cx p (path .closed) (m .points) (some o) r)
     (played-drawn n (λ r. polylineOrPolygonOf cx p (path .closed) (m .points) (some (n .points)) r) (draw w (m .points) (some (n .points)) (n .after) h))
 
-pub path-played : (cx : Ctx) {p props : Props} (path : DrawnPath) (outline : Maybe DrawnPath) (w w′ : List Float) (l : Laying) {positions : List Float} {features warnings : List ℕ} (st : State) {u : Sheet} {c : Budget}
-    → LaysPath w w′ (cx .flatten) path outline (st .budget) l → props ≡ p
-    → ((v : List Float) (ps : List Point) (o : Maybe (List Point)) (d : Budget) → Lays v w′ (path .closed) ps o d l → Played (polylineOrPolygonOf cx props (path .closed) ps o d) (sheetBy (length w′) positions features warnings st) u c)
-    → Played (pathOf cx p path outline (st .budget)) (sheetBy (length w) positions features warnings st) u c
+pub path-played : (cx : Ctx) {p props : Props} (path : DrawnPath) (outline : Maybe DrawnPath) (w w′ : List Float) (l : Workspace) {positions : List Float} {features warnings : List ℕ} (st : State) {u : Output} {c : Budget}
+    → LoadsPath w w′ (cx .flatten) path outline (st .budget) l → props ≡ p
+    → ((v : List Float) (ps : List Point) (o : Maybe (List Point)) (d : Budget) → Loads v w′ (path .closed) ps o d l → Applied (polylineOrPolygonOf cx props (path .closed) ps o d) (outputBy (length w′) positions features warnings st) u c)
+    → Applied (pathOf cx p path outline (st .budget)) (outputBy (length w) positions features warnings st) u c
 path-played cx path outline w w′ l st h e draw =
     rw (← e, ← path-kept w w′ (cx .flatten) path (st .budget) l outline h) (path-drawn cx _ path outline (st .budget) w w′ l h draw)
 
 -- ---- a loop: i are done, which lie before q; what plays the rest from sheet t on plays the whole from t₀ on
-pub record Loop (whole : Trace) (t₀ t : Sheet) (rest : Trace) (b : Budget) (q i : ℕ) : Type 0 where
+pub record Loop (whole : Trace) (t₀ t : Output) (rest : Trace) (b : Budget) (q i : ℕ) : Type 0 where
   pub onward : Onward whole t₀ t rest
   pub fits : Fits t b
   pub work : t .work ≡ t₀ .work
@@ -74,20 +74,20 @@ pub record Loop (whole : Trace) (t₀ t : Sheet) (rest : Trace) (b : Budget) (q 
   pub warnings : length (t .warnings) ≡ length (t₀ .warnings)
   pub short : i ≤ q
 
-pub none-done : (a : Trace) (t : Sheet) (b : Budget) (q : ℕ) → Fits t b → Loop a t t a b q 0
+pub none-done : (a : Trace) (t : Output) (b : Budget) (q : ℕ) → Fits t b → Loop a t t a b q 0
 none-done a t b q h =
     record { onward = λ v c p. p; fits = h; work = refl; positions = refl; features = refl; warnings = refl; short = omega arith }
 
-module _ {whole rest : Trace} {t₀ t : Sheet} {b : Budget} {q i : ℕ} (d : Loop whole t₀ t rest b q i) where
+module _ {whole rest : Trace} {t₀ t : Output} {b : Budget} {q i : ℕ} (d : Loop whole t₀ t rest b q i) where
   -- nothing is left
-  all-done : rest ≡ quiet b → Played whole t₀ t b
+  all-done : rest ≡ noEvents b → Applied whole t₀ t b
   all-done e = d .onward t b (rw e (played-quiet t b (d .fits)))
 
   -- something has lacked room
-  pub no-more : (t .number ≡ 0 → ⊥) → Played whole t₀ t b
+  pub no-more : (t .number ≡ 0 → ⊥) → Applied whole t₀ t b
   no-more n = d .onward t b (played-stuck rest t b n (d .fits))
 
-  one-done : {a : Trace} {u : Sheet} {c : Budget} {next : ℕ} (f : Budget → Trace) → rest ≡ thenTrace a f → Played a t u c → q < next → Loop whole t₀ u (f c) c next (i + 1)
+  one-done : {a : Trace} {u : Output} {c : Budget} {next : ℕ} (f : Budget → Trace) → rest ≡ andThenTrace a f → Applied a t u c → q < next → Loop whole t₀ u (f c) c next (i + 1)
   one-done f e one more =
       record {
         onward = onward-next f (subst (Onward whole t₀ t) e (d .onward)) one;
@@ -100,22 +100,22 @@ module _ {whole rest : Trace} {t₀ t : Sheet} {b : Budget} {q i : ℕ} (d : Loo
       }
 
 -- ---- the paths of an item
-head-given : (b : Bool) (p : DrawnPath) (ps : List DrawnPath) → headOf (cond b (p ∷ ps) []) ≡ given b p
+head-given : (b : Bool) (p : DrawnPath) (ps : List DrawnPath) → firstPath (cond b (p ∷ ps) []) ≡ given b p
 head-given true p ps = refl
 head-given false p ps = refl
 
-tail-given : (b : Bool) (p : DrawnPath) (ps : List DrawnPath) → tailOf (cond b (p ∷ ps) []) ≡ cond b ps []
+tail-given : (b : Bool) (p : DrawnPath) (ps : List DrawnPath) → laterPaths (cond b (p ∷ ps) []) ≡ cond b ps []
 tail-given true p ps = refl
 tail-given false p ps = refl
 
-module _ (cx : Ctx) (p : Props) (many : Bool) (l : List ℕ) (outlines : List DrawnPath) {whole : Trace} {t₀ t : Sheet} {b : Budget} {q i : ℕ}
+module _ (cx : Ctx) (p : Props) (many : Bool) (l : List ℕ) (outlines : List DrawnPath) {whole : Trace} {t₀ t : Output} {b : Budget} {q i : ℕ}
     (d : Loop whole t₀ t (pathsOf cx p many i (pathsFrom l q 0) outlines b) b q i) (path : Path) (e : pathsFrom l q 0 ≡ pathsBy l 0 path) where
-  pub all-paths : not (path .some) ≡ true → Played whole t₀ t b
+  pub all-paths : not (path .some) ≡ true → Applied whole t₀ t b
   unfolding pathsOf
   all-paths n = all-done d (rw (e, not-true (path .some) n) refl)
 
-  pub one-path : not (path .some) ≡ false → q < path .next → (outline : Path) → outlines ≡ pathsBy l 1 outline → {u : Sheet} {c : Budget}
-      → Played (pathOf cx (withPart p (cond many (i + 1) 0)) (drawnBy l path) (outlineBy l outline) b) t u c
+  pub one-path : not (path .some) ≡ false → q < path .next → (outline : Path) → outlines ≡ pathsBy l 1 outline → {u : Output} {c : Budget}
+      → Applied (pathOf cx (withPart p (cond many (i + 1) 0)) (drawnBy l path) (outlineBy l outline) b) t u c
       → Loop whole t₀ u (pathsOf cx p many (i + 1) (pathsFrom l (path .next) 0) (cond (outline .some) (pathsFrom l (outline .next) 1) []) c) c (path .next) (i + 1)
   unfolding pathsOf
   one-path n more outline k one =
@@ -123,32 +123,32 @@ module _ (cx : Ctx) (p : Props) (many : Bool) (l : List ℕ) (outlines : List Dr
       (rw (e, not-false (path .some) n, k, head-given, tail-given, add-one) refl) one more
 
 -- ---- the items of a scene
-module _ (rule : ℕ → Bool) (cx : Ctx) (l : List ℕ) {whole : Trace} {t₀ t : Sheet} {b : Budget} {q i : ℕ}
+module _ (rule : ℕ → Bool) (cx : Ctx) (l : List ℕ) {whole : Trace} {t₀ t : Output} {b : Budget} {q i : ℕ}
     (d : Loop whole t₀ t (itemsOf rule cx i (itemsAt l q) b) b q i) (it : Item) (e : itemsAt l q ≡ itemsBy l it) where
-  pub all-items : not (it .some) ≡ true → Played whole t₀ t b
+  pub all-items : not (it .some) ≡ true → Applied whole t₀ t b
   unfolding itemsOf
   all-items n = all-done d (rw (e, not-true (it .some) n) refl)
 
-  pub one-item : not (it .some) ≡ false → q < it .next → {u : Sheet} {c : Budget} → Played (itemOf rule cx i (itemBy l it) b) t u c
+  pub one-item : not (it .some) ≡ false → q < it .next → {u : Output} {c : Budget} → Applied (itemOf rule cx i (itemBy l it) b) t u c
       → Loop whole t₀ u (itemsOf rule cx (i + 1) (itemsAt l (it .next)) c) c (it .next) (i + 1)
   unfolding itemsOf
   one-item n more one = one-done d (λ r. itemsOf rule cx (i + 1) (itemsAt l (it .next)) r) (rw (e, not-false (it .some) n, add-one) refl) one more
 
 -- ---- all items, then the warning that the allowance was spent
 module _ (b : Budget) where
-  unspent : not (b .hit) ≡ true → spentOf b ≡ quiet b
+  unspent : not (b .hit) ≡ true → spentOf b ≡ noEvents b
   unfolding spentOf
   unspent n = rw (not-true (b .hit) n) refl
 
-  spent-warns : not (b .hit) ≡ false → spentOf b ≡ single (warned (record { kind = 6; index = 0 })) b
+  spent-warns : not (b .hit) ≡ false → spentOf b ≡ oneEvent (warned (record { kind = 6; index = 0 })) b
   unfolding spentOf
   spent-warns n = rw (not-false (b .hit) n) refl
 
-module _ (rule : ℕ → Bool) (cx : Ctx) (its : List DrawnItem) (b : Budget) {t u : Sheet} {c : Budget} (all : Played (itemsOf rule cx 0 its b) t u c) where
-  pub all-within : not (c .hit) ≡ true → Played (convertOf rule cx its b) t u c
+module _ (rule : ℕ → Bool) (cx : Ctx) (its : List DrawnItem) (b : Budget) {t u : Output} {c : Budget} (all : Applied (itemsOf rule cx 0 its b) t u c) where
+  pub all-within : not (c .hit) ≡ true → Applied (convertOf rule cx its b) t u c
   unfolding convertOf
   all-within n = played-then spentOf all (rw (unspent c n) (played-quiet u c (all .fits)))
 
-  pub all-spent : {v : Sheet} {d : Budget} → not (c .hit) ≡ false → Played (single (warned (record { kind = 6; index = 0 })) c) u v d → Played (convertOf rule cx its b) t v d
+  pub all-spent : {v : Output} {d : Budget} → not (c .hit) ≡ false → Applied (oneEvent (warned (record { kind = 6; index = 0 })) c) u v d → Applied (convertOf rule cx its b) t v d
   unfolding convertOf
   all-spent n h = played-then spentOf all (rw (spent-warns c n) h)

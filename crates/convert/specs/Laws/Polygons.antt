@@ -13,35 +13,35 @@ use borrow.Author.Tests.{le-leb, lt-leb, leb-true, leb-false, lt-ltb, le-ltb}
 use Rattle.budget.specs.declared.Budget.{Budget}
 use Rattle.scene.specs.Scene.{Maybe, none, some, Point}
 use Rattle.register.specs.Register.{orValue}
-use Rattle.densify.specs.declared.writing.Done.{Done}
-use Rattle.densify.specs.Densify.{Made, plain, samePoint, closeRingOf}
+use Rattle.densify.specs.declared.append.PointCursor.{PointCursor}
+use Rattle.densify.specs.Densify.{Made, withoutDraws, samePoint, closeRingOf}
 use Rattle.densify.specs.Contracts.Written.{pointsIn, closing, closingIn, Written}
 use Rattle.densify.specs.Positions.{flats, put, pointOf, pointsOf}
 use Rattle.densify.specs.Laws.Writing.{flats-length, written-all, next-in}
 use Rattle.densify.specs.Laws.Closing.{closed-done}
 use Rattle.densify.specs.Laws.Placing.{written-points}
-use Rattle.convert.specs.declared.laying.Laying.{Laying}
+use Rattle.convert.specs.declared.workspace.Workspace.{Workspace}
 use Rattle.convert.specs.declared.state.Ctx.{Ctx}
 use Rattle.convert.specs.declared.state.Props.{Props}
-use Rattle.convert.specs.Convert.{Trace, need, quiet, single, thenTrace, pickTrace, strokeOf, unwrittenOf, fillOf, shapeTrace, closedOutline, workOf, polylineOrPolygonOf, ringTrace}
-use Rattle.convert.specs.Space.{Sheet, lacking}
-use Rattle.convert.specs.Contracts.Space.{most, longest, Fits, Played, Outlined, Laid, Bounds, Lays, Ringed}
-use Rattle.convert.specs.Laws.Playing.{played-quiet, played-stuck, played-then, played-drawn}
+use Rattle.convert.specs.Convert.{Trace, need, noEvents, oneEvent, andThenTrace, pickTrace, strokeOf, drawWithoutWriting, fillOf, shapeTrace, closedOutline, workOf, polylineOrPolygonOf, ringTrace}
+use Rattle.convert.specs.Space.{Output, outOfRoom}
+use Rattle.convert.specs.Contracts.Space.{most, longest, Fits, Applied, OutlineLoaded, Loaded, Bounds, Loads, RingLoaded}
+use Rattle.convert.specs.Laws.Applying.{played-quiet, played-stuck, played-then, played-drawn}
 use Rattle.convert.specs.Laws.Events.{need-fits, need-lacks}
-use Rattle.convert.specs.Laws.Laying.{points-kept}
+use Rattle.convert.specs.Laws.Loading.{points-kept}
 
 -- on the same sheet, with another budget
-pub fits-spent : {t : Sheet} {b c : Budget} → Fits t b → c .left ≤ most → Fits t c
+pub fits-spent : {t : Output} {b c : Budget} → Fits t b → c .left ≤ most → Fits t c
 fits-spent h k = record { positions = h .positions; features = h .features; warnings = h .warnings; left = k }
 
 -- ---- points of work, then what is drawn from them
-module _ (n : ℕ) (f : Budget → Trace) {t : Sheet} (b : Budget) (start : t .number ≡ 0) where
-  without-room : (c : Budget) → t .work < 2 * n → Fits t c → Played (thenTrace (single (need n) b) f) t (lacking 15 t) c
+module _ (n : ℕ) (f : Budget → Trace) {t : Output} (b : Budget) (start : t .number ≡ 0) where
+  without-room : (c : Budget) → t .work < 2 * n → Fits t c → Applied (andThenTrace (oneEvent (need n) b) f) t (outOfRoom 15 t) c
   without-room c short h =
       let one = need-lacks n t b start c short h in
-      played-then f one (played-stuck (f c) (lacking 15 t) c (λ z. omega arith) (one .fits))
+      played-then f one (played-stuck (f c) (outOfRoom 15 t) c (λ z. omega arith) (one .fits))
 
-  with-room : {u : Sheet} {c : Budget} → 2 * n ≤ t .work → Fits t b → Played (f b) t u c → Played (thenTrace (single (need n) b) f) t u c
+  with-room : {u : Output} {c : Budget} → 2 * n ≤ t .work → Fits t b → Applied (f b) t u c → Applied (andThenTrace (oneEvent (need n) b) f) t u c
   with-room room h two = played-then f (need-fits n t b start room h) two
 
 -- ---- a ring
@@ -52,30 +52,30 @@ ringNeed m = length (m .points) + 1
 abbrev ringStroke : Ctx → Props → Made → Budget → Trace
 ringStroke cx p m b = strokeOf cx p 2 0 (m .points) b
 
-module _ (cx : Ctx) (p : Props) {w : List Float} {m : Made} {d : Done} (ringed : Ringed w m d) {t : Sheet} (whole : t .work ≡ length w) (start : t .number ≡ 0) where
-  ring-lacks : {c : Budget} → Fits t c → length w < 2 * ringNeed m → Played (ringTrace cx p m) t (lacking 15 t) c
+module _ (cx : Ctx) (p : Props) {w : List Float} {m : Made} {d : PointCursor} (ringed : RingLoaded w m d) {t : Output} (whole : t .work ≡ length w) (start : t .number ≡ 0) where
+  ring-lacks : {c : Budget} → Fits t c → length w < 2 * ringNeed m → Applied (ringTrace cx p m) t (outOfRoom 15 t) c
   unfolding ringTrace
   ring-lacks {c} h short =
-      played-drawn m (λ r. thenTrace (single (need (ringNeed m)) r) (ringStroke cx p m))
+      played-drawn m (λ r. andThenTrace (oneEvent (need (ringNeed m)) r) (ringStroke cx p m))
       (without-room (ringNeed m) (ringStroke cx p m) (m .after) start c (rw whole short) h)
 
   -- its points have no room
-  pub ring-short : {c : Budget} → d .ok ≡ false → Fits t c → Played (ringTrace cx p m) t (lacking 15 t) c
+  pub ring-short : {c : Budget} → d .ok ≡ false → Fits t c → Applied (ringTrace cx p m) t (outOfRoom 15 t) c
   ring-short short h =
       let few : length w < length (flats (m .points)) = leb-false _ _ (sym (ringed .asked) ∙ short) in
       ring-lacks h (omega (arith, flats-length (m .points)))
 
   module _ (fits : d .ok ≡ true) where
     -- one point more has none
-    pub ring-full : {c : Budget} → length w - d .at < 2 → Fits t c → Played (ringTrace cx p m) t (lacking 15 t) c
+    pub ring-full : {c : Budget} → length w - d .at < 2 → Fits t c → Applied (ringTrace cx p m) t (outOfRoom 15 t) c
     ring-full few h = ring-lacks h (omega (arith, flats-length (m .points), ringed .end fits))
 
-    pub ring-drawn : {u : Sheet} {b c : Budget} → 2 ≤ length w - d .at → Fits t b
-        → (Fits t (d .budget) → Played (strokeOf cx p 2 0 (pointsIn w 0 (d .at)) (d .budget)) t u c) → Played (ringTrace cx p m) t u c
+    pub ring-drawn : {u : Output} {b c : Budget} → 2 ≤ length w - d .at → Fits t b
+        → (Fits t (d .budget) → Applied (strokeOf cx p 2 0 (pointsIn w 0 (d .at)) (d .budget)) t u c) → Applied (ringTrace cx p m) t u c
     unfolding ringTrace
     ring-drawn room h stroked =
         let ready = fits-spent h (ringed .left fits) in
-        played-drawn m (λ r. thenTrace (single (need (ringNeed m)) r) (ringStroke cx p m))
+        played-drawn m (λ r. andThenTrace (oneEvent (need (ringNeed m)) r) (ringStroke cx p m))
         (with-room (ringNeed m) (ringStroke cx p m) (m .after) start (omega (arith, flats-length (m .points), ringed .end fits))
         (rw (ringed .after fits) at ready) (rw (ringed .points fits, ringed .after fits) at (stroked ready)))
 
@@ -89,10 +89,10 @@ fillBy cx p ps o b = fillOf cx p (closedOutline o) (closeRingOf ps) b
 abbrev needBy : Bool → List Point → Maybe (List Point) → ℕ
 needBy closed ps o = workOf closed ps (closeRingOf ps) (closedOutline o)
 
-module _ (cx : Ctx) (p : Props) {w work : List Float} {closed : Bool} {ps : List Point} {o : Maybe (List Point)} {b : Budget} {l : Laying}
-    (lays : Lays w work closed ps o b l) {t : Sheet} (whole : t .work ≡ length work) (start : t .number ≡ 0) {a : Budget} (h : Fits t a) where
+module _ (cx : Ctx) (p : Props) {w work : List Float} {closed : Bool} {ps : List Point} {o : Maybe (List Point)} {b : Budget} {l : Workspace}
+    (lays : Loads w work closed ps o b l) {t : Output} (whole : t .work ≡ length work) (start : t .number ≡ 0) {a : Budget} (h : Fits t a) where
   -- they, or one point more, have no room
-  pub shape-lacks : l .ok ≡ false → Played (polylineOrPolygonOf cx p closed ps o b) t (lacking 15 t) a
+  pub shape-lacks : l .ok ≡ false → Applied (polylineOrPolygonOf cx p closed ps o b) t (outOfRoom 15 t) a
   unfolding polylineOrPolygonOf
   shape-lacks short =
       let few : length w < 2 * needBy closed ps o = leb-false _ _ (sym (lays .asked) ∙ short) in
@@ -102,7 +102,7 @@ module _ (cx : Ctx) (p : Props) {w work : List Float} {closed : Bool} {ps : List
     ready : Fits t (l .budget)
     ready = fits-spent h (lays .left fits)
 
-    shape-drawn : {u : Sheet} {c : Budget} → Played (shapeBy cx p closed ps o (l .budget)) t u c → Played (polylineOrPolygonOf cx p closed ps o b) t u c
+    shape-drawn : {u : Output} {c : Budget} → Applied (shapeBy cx p closed ps o (l .budget)) t u c → Applied (polylineOrPolygonOf cx p closed ps o b) t u c
     unfolding polylineOrPolygonOf
     shape-drawn one =
         let room : 2 * needBy closed ps o ≤ length w = leb-true _ _ (sym (lays .asked) ∙ fits) in
@@ -113,7 +113,7 @@ module _ (cx : Ctx) (p : Props) {w work : List Float} {closed : Bool} {ps : List
     own-count = lays .laid fits .own ∙ flats-length ps
 
     -- fewer than 2 points
-    pub shape-few : l .own < 4 → Played (polylineOrPolygonOf cx p closed ps o b) t t (l .budget)
+    pub shape-few : l .own < 4 → Applied (polylineOrPolygonOf cx p closed ps o b) t t (l .budget)
     unfolding shapeTrace
     shape-few less = shape-drawn (rw (lt-ltb (length ps) 2 (omega (arith, own-count))) (played-quiet t (l .budget) ready))
 
@@ -122,8 +122,8 @@ module _ (cx : Ctx) (p : Props) {w work : List Float} {closed : Bool} {ps : List
       many = le-ltb (length ps) 2 (omega (arith, own-count))
 
       -- a polygon
-      pub shape-ring : {u : Sheet} {c : Budget} → closed ≡ true → 8 ≤ l .end
-          → (Fits t (l .budget) → Played (strokeOf cx p 2 0 (pointsIn work 0 (l .end)) (l .budget)) t u c) → Played (polylineOrPolygonOf cx p closed ps o b) t u c
+      pub shape-ring : {u : Output} {c : Budget} → closed ≡ true → 8 ≤ l .end
+          → (Fits t (l .budget) → Applied (strokeOf cx p 2 0 (pointsIn work 0 (l .end)) (l .budget)) t u c) → Applied (polylineOrPolygonOf cx p closed ps o b) t u c
       unfolding shapeTrace
       shape-ring e big stroked =
           let ring = closeRingOf ps in
@@ -132,27 +132,27 @@ module _ (cx : Ctx) (p : Props) {w work : List Float} {closed : Bool} {ps : List
           shape-drawn (rw (many, e, le-leb 4 (length ring) n) (rw (laid .ring, e) at (stroked ready)))
 
       -- otherwise the fill, which leaves the points as they are, and then a line, or a warning where there are too few points for a ring
-      module _ (work′ : List Float) (kept : take (l .own) work′ ≡ take (l .own) work) {u : Sheet} {c : Budget}
-          (filled : Laid work closed ps o l → Fits t (l .budget) → Played (fillBy cx p ps o (l .budget)) t u c) where
-        fill-played : Played (fillBy cx p ps o (l .budget)) t u c
+      module _ (work′ : List Float) (kept : take (l .own) work′ ≡ take (l .own) work) {u : Output} {c : Budget}
+          (filled : Loaded work closed ps o l → Fits t (l .budget) → Applied (fillBy cx p ps o (l .budget)) t u c) where
+        fill-played : Applied (fillBy cx p ps o (l .budget)) t u c
         fill-played = filled (lays .laid fits) ready
 
         same-points : pointsIn work′ 0 (l .own) ≡ ps
         same-points = points-kept work′ work (l .own) kept 0 (l .own) (omega arith) ∙ lays .laid fits .points
 
-        pub shape-line : {v : Sheet} {d : Budget} → closed ≡ false
-            → (Fits u c → Played (strokeOf cx p 1 0 (pointsIn work′ 0 (l .own)) c) u v d) → Played (polylineOrPolygonOf cx p closed ps o b) t v d
+        pub shape-line : {v : Output} {d : Budget} → closed ≡ false
+            → (Fits u c → Applied (strokeOf cx p 1 0 (pointsIn work′ 0 (l .own)) c) u v d) → Applied (polylineOrPolygonOf cx p closed ps o b) t v d
         unfolding shapeTrace
         shape-line e stroked =
             shape-drawn (rw (many, e) (played-then (λ r. strokeOf cx p 1 0 ps r) fill-played (rw same-points at (stroked (fill-played .fits)))))
 
-        pub shape-unwritten : {v : Sheet} {d : Budget} → closed ≡ true → l .end < 8
-            → (Fits u c → Played (unwrittenOf cx (p .item) (pointsIn work′ 0 (l .own)) c) u v d) → Played (polylineOrPolygonOf cx p closed ps o b) t v d
+        pub shape-unwritten : {v : Output} {d : Budget} → closed ≡ true → l .end < 8
+            → (Fits u c → Applied (drawWithoutWriting cx (p .item) (pointsIn work′ 0 (l .own)) c) u v d) → Applied (polylineOrPolygonOf cx p closed ps o b) t v d
         unfolding shapeTrace
         shape-unwritten e less told =
             let ring = closeRingOf ps in
             let n : length ring < 4 = omega (arith, rw e at (lays .laid fits .end), flats-length ring) in
-            shape-drawn (rw (many, e, lt-leb 4 (length ring) n) (played-then (λ r. unwrittenOf cx (p .item) ps r) fill-played (rw same-points at (told (fill-played .fits)))))
+            shape-drawn (rw (many, e, lt-leb 4 (length ring) n) (played-then (λ r. drawWithoutWriting cx (p .item) ps r) fill-played (rw same-points at (told (fill-played .fits)))))
 
 -- ---- points that stand in a slice already: to put them there changes nothing
 flats-of : (w : List Float) (i n : ℕ) → i + 2 * n ≤ length w → flats (pointsOf w i n) ++ drop (i + 2 * n) w ≡ drop i w
@@ -180,7 +180,7 @@ closing-most w from at = go (leb (from + 2) at) (samePoint (pointOf w from) (poi
     go true false = omega arith
     go false y = omega arith
 
-module _ {w w′ : List Float} {l : Laying} (bounds : Bounds l (length w)) {b : Budget} {r : Done} (closer : Written w w′ (l .own) (plain (closingIn w 0 (l .own)) b) r) where
+module _ {w w′ : List Float} {l : Workspace} (bounds : Bounds l (length w)) {b : Budget} {r : PointCursor} (closer : Written w w′ (l .own) (withoutDraws (closingIn w 0 (l .own)) b) r) where
   closer-fits : r .ok ≡ true
   closer-fits =
       let n : l .own + length (flats (closingIn w 0 (l .own))) ≤ length w = omega (arith, closing-most w 0 (l .own)) in
@@ -189,12 +189,12 @@ module _ {w w′ : List Float} {l : Laying} (bounds : Bounds l (length w)) {b : 
   pub closer-in : (r .at ≤ length w′) × (r .at ≤ longest)
   closer-in = (next-in closer closer-fits, omega (arith, closer .next closer-fits, closing-most w 0 (l .own)))
 
-  module _ {closed : Bool} {ps : List Point} {o : Maybe (List Point)} (laid : Laid w closed ps o l) where
-    ring-written : Written w w′ 0 (plain (closeRingOf ps) b) r
+  module _ {closed : Bool} {ps : List Point} {o : Maybe (List Point)} (laid : Loaded w closed ps o l) where
+    ring-written : Written w w′ 0 (withoutDraws (closeRingOf ps) b) r
     ring-written =
         let end : l .own ≡ 0 + length (flats ps) = omega (arith, laid .own) in
         let there : w ≡ put w 0 (flats ps) = sym (standing w 0 (l .own) ps end (omega arith) (laid .points)) in
-        closed-done (written-all w 0 (plain ps b) w (record { ok = true; at = l .own; budget = b }) (omega arith) refl end refl there) refl closer
+        closed-done (written-all w 0 (withoutDraws ps b) w (record { ok = true; at = l .own; budget = b }) (omega arith) refl end refl there) refl closer
 
     ring-count : r .at ≡ 2 * length (closeRingOf ps)
     ring-count = omega (arith, ring-written .next closer-fits, flats-length (closeRingOf ps))
@@ -203,61 +203,61 @@ module _ {w w′ : List Float} {l : Laying} (bounds : Bounds l (length w)) {b : 
     ring-points = written-points ring-written closer-fits
 
 -- ---- a separate fill
-module _ (cx : Ctx) (p : Props) (outline : Maybe (List Point)) (ring : List Point) (b : Budget) {t : Sheet} where
+module _ (cx : Ctx) (p : Props) (outline : Maybe (List Point)) (ring : List Point) (b : Budget) {t : Output} where
   -- none is asked for
-  pub fill-none : p .fill ≡ false → Fits t b → Played (fillOf cx p outline ring b) t t b
+  pub fill-none : p .fill ≡ false → Fits t b → Applied (fillOf cx p outline ring b) t t b
   unfolding fillOf
   fill-none e h = rw e (played-quiet t b h)
 
   module _ (qs : List Point) (is : orValue outline ring ≡ qs) where
-    few : length qs < 4 → Fits t b → Played (fillOf cx p outline ring b) t t b
+    few : length qs < 4 → Fits t b → Applied (fillOf cx p outline ring b) t t b
     unfolding fillOf
     few less h = rw (is, lt-leb 4 (length qs) less) (go (p .fill))
       where
-        go : (x : Bool) → Played (pickTrace (x && false) (strokeOf cx p 2 1 qs b) (quiet b)) t t b
+        go : (x : Bool) → Applied (pickTrace (x && false) (strokeOf cx p 2 1 qs b) (noEvents b)) t t b
         go true = played-quiet t b h
         go false = played-quiet t b h
 
-    drawn : {u : Sheet} {c : Budget} → p .fill ≡ true → 4 ≤ length qs → Played (strokeOf cx p 2 1 qs b) t u c → Played (fillOf cx p outline ring b) t u c
+    drawn : {u : Output} {c : Budget} → p .fill ≡ true → 4 ≤ length qs → Applied (strokeOf cx p 2 1 qs b) t u c → Applied (fillOf cx p outline ring b) t u c
     unfolding fillOf
     drawn asked many one =
         let test : p .fill && leb 4 (length qs) ≡ true = rw (asked, le-leb 4 (length qs) many) in
         rw (is, test) one
 
 -- the points that it is made of
-module _ (w : List Float) (ring : List Point) (l : Laying) where
-  outline-is : (o : Maybe (List Point)) → Outlined w o l → l .outlined ≡ true
+module _ (w : List Float) (ring : List Point) (l : Workspace) where
+  outline-is : (o : Maybe (List Point)) → OutlineLoaded w o l → l .outlined ≡ true
       → (orValue (closedOutline o) ring ≡ pointsIn w (l .end) (l .fin)) × (l .fin ≡ l .end + 2 * length (pointsIn w (l .end) (l .fin)))
   outline-is none h e = absurd (false≢true (sym (h .0) ∙ e))
   outline-is (some qs) h e = (sym (h .2), h .1 ∙ rw (h .2, flats-length (closeRingOf qs)))
 
-  own-is : (o : Maybe (List Point)) → Outlined w o l → l .outlined ≡ false → orValue (closedOutline o) ring ≡ ring
+  own-is : (o : Maybe (List Point)) → OutlineLoaded w o l → l .outlined ≡ false → orValue (closedOutline o) ring ≡ ring
   own-is none h e = refl
   own-is (some qs) h e = absurd (false≢true (sym e ∙ h .0))
 
-module _ (cx : Ctx) (p : Props) {w : List Float} {closed : Bool} {ps : List Point} {o : Maybe (List Point)} {l : Laying} (laid : Laid w closed ps o l) (b : Budget) where
+module _ (cx : Ctx) (p : Props) {w : List Float} {closed : Bool} {ps : List Point} {o : Maybe (List Point)} {l : Workspace} (laid : Loaded w closed ps o l) (b : Budget) where
   -- those of the outline
   module _ (outlined : l .outlined ≡ true) where
-    pub outline-few : {t : Sheet} → l .fin - l .end < 8 → Fits t b → Played (fillBy cx p ps o b) t t b
+    pub outline-few : {t : Output} → l .fin - l .end < 8 → Fits t b → Applied (fillBy cx p ps o b) t t b
     outline-few less h =
         let is = outline-is w (closeRingOf ps) l o (laid .outline) outlined in
         few cx p (closedOutline o) (closeRingOf ps) b _ (is .0) (omega (arith, is .1)) h
 
-    pub outline-drawn : {t u : Sheet} {c : Budget} → p .fill ≡ true → 8 ≤ l .fin - l .end
-        → Played (strokeOf cx p 2 1 (pointsIn w (l .end) (l .fin)) b) t u c → Played (fillBy cx p ps o b) t u c
+    pub outline-drawn : {t u : Output} {c : Budget} → p .fill ≡ true → 8 ≤ l .fin - l .end
+        → Applied (strokeOf cx p 2 1 (pointsIn w (l .end) (l .fin)) b) t u c → Applied (fillBy cx p ps o b) t u c
     outline-drawn asked many one =
         let is = outline-is w (closeRingOf ps) l o (laid .outline) outlined in
         drawn cx p (closedOutline o) (closeRingOf ps) b _ (is .0) asked (omega (arith, is .1)) one
 
   -- its own, closed
-  module _ (outlined : l .outlined ≡ false) (bounds : Bounds l (length w)) {w′ : List Float} {r : Done} (closer : Written w w′ (l .own) (plain (closingIn w 0 (l .own)) b) r) where
+  module _ (outlined : l .outlined ≡ false) (bounds : Bounds l (length w)) {w′ : List Float} {r : PointCursor} (closer : Written w w′ (l .own) (withoutDraws (closingIn w 0 (l .own)) b) r) where
     is : orValue (closedOutline o) (closeRingOf ps) ≡ closeRingOf ps
     is = own-is w (closeRingOf ps) l o (laid .outline) outlined
 
-    pub own-few : {t : Sheet} → r .at < 8 → Fits t b → Played (fillBy cx p ps o b) t t b
+    pub own-few : {t : Output} → r .at < 8 → Fits t b → Applied (fillBy cx p ps o b) t t b
     own-few less h = few cx p (closedOutline o) (closeRingOf ps) b (closeRingOf ps) is (omega (arith, ring-count bounds closer laid)) h
 
-    pub own-drawn : {t u : Sheet} {c : Budget} → p .fill ≡ true → 8 ≤ r .at
-        → Played (strokeOf cx p 2 1 (pointsIn w′ 0 (r .at)) b) t u c → Played (fillBy cx p ps o b) t u c
+    pub own-drawn : {t u : Output} {c : Budget} → p .fill ≡ true → 8 ≤ r .at
+        → Applied (strokeOf cx p 2 1 (pointsIn w′ 0 (r .at)) b) t u c → Applied (fillBy cx p ps o b) t u c
     own-drawn asked enough one =
         drawn cx p (closedOutline o) (closeRingOf ps) b (closeRingOf ps) is asked (omega (arith, ring-count bounds closer laid)) (rw (ring-points bounds closer laid) at one)

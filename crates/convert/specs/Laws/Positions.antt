@@ -1,4 +1,4 @@
--- Laws of a stroke's positions: written into the lent tail of a slice, sealed where they are a ring's, and then played as a feature. Assumes nothing.
+-- Laws of a stroke's positions: written into the lent tail of a slice, firstRepeated where they are a ring's, and then played as a feature. Assumes nothing.
 use Prim.Native.Nat.{ℕ, _+_, _-_, _/_, _≤_, _<_}
 use mathlib.Core.Path.{_≡_, refl, sym, ap, _∙_}
 use mathlib.Core.Bool.{Bool, true, false, cond}
@@ -13,9 +13,9 @@ use borrow.Author.Tests.{le-leb, lt-leb, leb-true, leb-false, eq-eqb, ne-eqb}
 use borrow.Rule.Slice.PartMut.{midOf, postOf, putMid, same-len-mid, post-is, take-put}
 use Rattle.scene.specs.Scene.{Point}
 use Rattle.budget.specs.declared.Budget.{Budget}
-use Rattle.densify.specs.declared.writing.Done.{Done}
+use Rattle.densify.specs.declared.append.PointCursor.{PointCursor}
 use Rattle.densify.specs.Densify.{Made, lastOf, densifyPolylineOf}
-use Rattle.densify.specs.Contracts.Written.{pointsIn, placing, Written}
+use Rattle.densify.specs.Contracts.Written.{pointsIn, projected, Written}
 use Rattle.densify.specs.Positions.{flats, put}
 use Rattle.densify.specs.Laws.Writing.{flats-append, flats-length, put-length, put-next, written-room}
 use Rattle.densify.specs.Laws.Placing.{points-between, placed-count}
@@ -25,9 +25,9 @@ use Rattle.densify.specs.Laws.Sizes.{left-falls, densify-sized}
 use Rattle.convert.specs.declared.state.Ctx.{Ctx}
 use Rattle.convert.specs.declared.state.Props.{Props}
 use Rattle.convert.specs.declared.state.State.{State}
-use Rattle.convert.specs.Convert.{single, endWith, sealed, positionsOf, featureOf, strokeOf}
-use Rattle.convert.specs.Contracts.Space.{sheetBy, most, longest, sealedIn, Fits, Played, Finished}
-use Rattle.convert.specs.Laws.Playing.{played-drawn}
+use Rattle.convert.specs.Convert.{oneEvent, endWith, firstRepeated, positionsOf, featureOf, strokeOf}
+use Rattle.convert.specs.Contracts.Space.{outputBy, most, longest, firstRepeatedIn, Fits, Applied, Finished}
+use Rattle.convert.specs.Laws.Applying.{played-drawn}
 use Rattle.convert.specs.Laws.Events.{Restated, written-lacks, written-finished}
 
 -- ---- the tail of a slice, lent on
@@ -51,7 +51,7 @@ module _ (w : List Float) (at : ℕ) (h : at ≤ length w) where
   unfolding put
   put-tail vs = rw (behind, append-nil, zero-add, drop-drop (length vs) at w)
 
-  pub tail-written : {t : List Float} {m : Made} {r : Done} → Written (midOf at (length w - at) w) t 0 m r
+  pub tail-written : {t : List Float} {m : Made} {r : PointCursor} → Written (midOf at (length w - at) w) t 0 m r
       → Written w (putMid at (length w - at) w t) at m (record { ok = r .ok; at = at + r .at; budget = r .budget })
   tail-written {t} {m} {r} part =
       let one : Written (drop at w) t 0 m r = rw tail-is at part in
@@ -78,11 +78,11 @@ end-is : (p q : Point) (qs : List Point) → endWith p (q ∷ qs) ≡ butLast q 
 end-is p q [] = refl
 end-is p q (r ∷ rs) = ap (λ (l : List Point). q ∷ l) (end-is p r rs)
 
-sealed-is : (p : Point) (ps : List Point) → sealed (p ∷ ps) ≡ butLast p ps ++ (p ∷ [])
+sealed-is : (p : Point) (ps : List Point) → firstRepeated (p ∷ ps) ≡ butLast p ps ++ (p ∷ [])
 sealed-is p [] = refl
 sealed-is p (q ∷ qs) = ap (λ (l : List Point). p ∷ l) (end-is p q qs)
 
-sealed-length : (ps : List Point) → length (sealed ps) ≡ length ps
+sealed-length : (ps : List Point) → length (firstRepeated ps) ≡ length ps
 sealed-length [] = refl
 sealed-length (p ∷ ps) =
     ap length (sealed-is p ps) ∙ length-append (butLast p ps) (p ∷ []) ∙ sym (ap length (last-behind p ps) ∙ length-append (butLast p ps) (lastOf p ps ∷ []))
@@ -103,15 +103,15 @@ first-in w at p ps h =
 
 -- the last two floats before `to` become the point p that stands at `from`
 ends-with : (v : List Float) (from to i : ℕ) (p : Point) → to ≡ i + 2 → (getD v from nan ≡ p .x) × (getD v (from + 1) nan ≡ p .y)
-    → sealedIn v from to ≡ set (set v i (p .x)) (i + 1) (p .y)
-unfolding sealedIn
+    → firstRepeatedIn v from to ≡ set (set v i (p .x)) (i + 1) (p .y)
+unfolding firstRepeatedIn
 ends-with v from to i p e first =
     let two : to - 2 ≡ i = omega arith in
     let one : to - 1 ≡ i + 1 = omega arith in
     rw (two, one, first .0, first .1)
 
 sealed-put : (w : List Float) (at : ℕ) (ps : List Point) → 1 ≤ length ps → at + length (flats ps) ≤ length w
-    → sealedIn (put w at (flats ps)) at (at + length (flats ps)) ≡ put w at (flats (sealed ps))
+    → firstRepeatedIn (put w at (flats ps)) at (at + length (flats ps)) ≡ put w at (flats (firstRepeated ps))
 unfolding flats
 sealed-put w at [] some h = absurd (omega arith)
 sealed-put w at (p ∷ ps) some h =
@@ -133,7 +133,7 @@ module _ (geometry : ℕ) (ps : List Point) where
   positions-length : length (positionsOf geometry ps) ≡ length ps
   positions-length = go (eqb geometry 2)
     where
-      go : (x : Bool) → length (cond x (sealed ps) ps) ≡ length ps
+      go : (x : Bool) → length (cond x (firstRepeated ps) ps) ≡ length ps
       go true = sealed-length ps
       go false = refl
 
@@ -141,9 +141,9 @@ module _ (geometry : ℕ) (ps : List Point) where
   positions-room = omega (arith, positions-length, flats-length ps, flats-length (positionsOf geometry ps))
 
 -- ---- how many points a stroke makes
--- a stroke's positions, before a ring is sealed
+-- a stroke's positions, before a ring is firstRepeated
 abbrev pub strokeMade : Ctx → List Point → Budget → Made
-strokeMade cx ps b = placing (cx .projection) (densifyPolylineOf (cx .step) (cx .projection .registration .scale) ps b)
+strokeMade cx ps b = projected (cx .projection) (densifyPolylineOf (cx .step) (cx .projection .registration .scale) ps b)
 
 module _ (cx : Ctx) (w : List Float) (from to : ℕ) (b : Budget) where
   abbrev between : List Point
@@ -163,11 +163,11 @@ pub record Stands (geometry : ℕ) (ps : List Point) (at : ℕ) (q q₂ : List F
   pub there : q₂ ≡ put q at (flats (positionsOf geometry ps))
   pub ends : end ≡ at + length (flats (positionsOf geometry ps))
 
-module _ (geometry : ℕ) {q q₁ : List Float} {at : ℕ} {m : Made} {r : Done} (one : Written q q₁ at m r) (fits : r .ok ≡ true) where
+module _ (geometry : ℕ) {q q₁ : List Float} {at : ℕ} {m : Made} {r : PointCursor} (one : Written q q₁ at m r) (fits : r .ok ≡ true) where
   pub line-stands : (geometry ≡ 2 → ⊥) → Stands geometry (m .points) at q q₁ (r .at)
   line-stands line = record { there = rw (ne-eqb geometry 2 line) (one .holds fits); ends = rw (ne-eqb geometry 2 line) (one .next fits) }
 
-  pub ring-stands : geometry ≡ 2 → 1 ≤ length (m .points) → Stands geometry (m .points) at q (sealedIn q₁ at (r .at)) (r .at)
+  pub ring-stands : geometry ≡ 2 → 1 ≤ length (m .points) → Stands geometry (m .points) at q (firstRepeatedIn q₁ at (r .at)) (r .at)
   ring-stands ring some =
       record {
         there = rw (one .holds fits, one .next fits, eq-eqb geometry 2 ring) (sealed-put q at (m .points) some (written-room one fits));
@@ -179,8 +179,8 @@ module _ (geometry : ℕ) {q q₁ : List Float} {at : ℕ} {m : Made} {r : Done}
       rw (s .there) (put-length q at (flats (positionsOf geometry (m .points))) (omega (arith, written-room one fits, positions-room geometry (m .points))))
 
 -- ---- a stroke as the code draws it
-module _ (cx : Ctx) (p : Props) (geometry role : ℕ) (ps : List Point) (work : ℕ) {q q₁ : List Float} {f v : List ℕ} {st : State} (d : Done)
-    (start : st .number ≡ 0) (h : Fits (sheetBy work q f v st) (st .budget))
+module _ (cx : Ctx) (p : Props) (geometry role : ℕ) (ps : List Point) (work : ℕ) {q q₁ : List Float} {f v : List ℕ} {st : State} (d : PointCursor)
+    (start : st .number ≡ 0) (h : Fits (outputBy work q f v st) (st .budget))
     (one : Written q q₁ (st .positions) (strokeMade cx ps (st .budget)) (record { ok = d .ok; at = st .positions + d .at; budget = d .budget })) where
   abbrev made : Made
   made = densifyPolylineOf (cx .step) (cx .projection .registration .scale) ps (st .budget)
@@ -195,20 +195,20 @@ module _ (cx : Ctx) (p : Props) (geometry role : ℕ) (ps : List Point) (work : 
   same-room = positions-room geometry placed
 
   pub stroke-lacks : {r : State} → d .ok ≡ false → Restated st 16 (st .budget) r
-      → Played (strokeOf cx p geometry role ps (st .budget)) (sheetBy work q f v st) (sheetBy work q₁ f v r) (r .budget)
+      → Applied (strokeOf cx p geometry role ps (st .budget)) (outputBy work q f v st) (outputBy work q₁ f v r) (r .budget)
   unfolding strokeOf
   stroke-lacks short is =
       let lacks : length q < st .positions + length (flats placed) = leb-false (st .positions + length (flats placed)) (length q) (sym (one .asked) ∙ short) in
-      played-drawn made (λ b. single (featureOf p geometry role drawn) b)
+      played-drawn made (λ b. oneEvent (featureOf p geometry role drawn) b)
       (written-lacks p geometry role drawn (made .after) work start h (one .kept) (omega (arith, same-room)) is)
 
   pub stroke-finished : {q₂ : List Float} {f′ : List ℕ} {r : State} {end : ℕ} → d .ok ≡ true → Stands geometry placed (st .positions) q q₂ end
       → Finished p geometry role end (d .at / 2) (d .budget) f f′ st r
-      → Played (strokeOf cx p geometry role ps (st .budget)) (sheetBy work q f v st) (sheetBy work q₂ f′ v r) (r .budget)
+      → Applied (strokeOf cx p geometry role ps (st .budget)) (outputBy work q f v st) (outputBy work q₂ f′ v r) (r .budget)
   unfolding strokeOf
   stroke-finished fits stands fin =
       let count : d .at / 2 ≡ length drawn = omega (arith, one .next fits, flats-length drawn, same-room) in
       let left = left-falls (densify-replays (cx .step) (cx .projection .registration .scale) ps (st .budget)) in
-      played-drawn made (λ b. single (featureOf p geometry role drawn) b)
+      played-drawn made (λ b. oneEvent (featureOf p geometry role drawn) b)
       (written-finished p geometry role drawn (made .after) work start h (omega (arith, written-room one fits, same-room)) (stands .there) (omega arith)
       (rw (stands .ends, count, one .left fits) at fin))

@@ -15,15 +15,15 @@ use Rattle.register.specs.Register.{Warning}
 use Rattle.densify.specs.Positions.{flats, pointsOf, put}
 use Rattle.densify.specs.Laws.Writing.{flats-append, flats-length, put-none, put-length, put-more}
 use Rattle.geojson.specs.declared.Feature.{Feature}
-use Rattle.geojson.specs.Lines.{putWords, wordsOf}
+use Rattle.geojson.specs.Features.{putWords, wordsOf}
 use Rattle.geojson.specs.Laws.Words.{putWords-length, sets-put}
 use Rattle.convert.specs.Convert.{Event, drew, need, feature, warned}
-use Rattle.convert.specs.Space.{Sheet, pickSheet, lacking, withFeature, withWarning, played, playAll}
-use Rattle.convert.specs.Features.{PlacedFeature, AllWellFormed, positionsIn, featuresIn, warningsIn, lineAt, featuresAt, warningsAt}
-use Rattle.convert.specs.Laws.Playing.{stuck}
+use Rattle.convert.specs.Space.{Output, pickOutput, outOfRoom, withFeature, withWarning, apply, applyAll}
+use Rattle.convert.specs.Features.{ReadFeature, AllWellFormed, positionsIn, featuresIn, warningsIn, lineAt, featuresAt, warningsAt}
+use Rattle.convert.specs.Laws.Applying.{stuck}
 
 -- ---- what the slices hold of features and warnings
-unfoldable pub wordsIn : List PlacedFeature → List ℕ
+unfoldable pub wordsIn : List ReadFeature → List ℕ
 wordsIn [] = []
 wordsIn (l ∷ ls) = wordsOf (l .0) ++ wordsIn ls
 
@@ -31,7 +31,7 @@ unfoldable pub pairsIn : List Warning → List ℕ
 pairsIn [] = []
 pairsIn (w ∷ ws) = w .kind ∷ w .index ∷ pairsIn ws
 
-words-length : (ls : List PlacedFeature) → length (wordsIn ls) ≡ 6 * length ls
+words-length : (ls : List ReadFeature) → length (wordsIn ls) ≡ 6 * length ls
 unfolding wordsIn
 words-length [] = refl
 words-length (l ∷ ls) = omega (arith, words-length ls)
@@ -60,13 +60,13 @@ words-more w at a b h =
     (sets-more a b w at)
 
 -- ---- what is used lies in the slices
-pub record Room (t : Sheet) : Type 0 where
+pub record Room (t : Output) : Type 0 where
   pub positions : t .usedPositions ≤ length (t .positions)
   pub features : t .usedFeatures ≤ length (t .features)
   pub warnings : t .usedWarnings ≤ length (t .warnings)
 
 -- u is t with these features and warnings behind what was used
-pub record Added (ls : List PlacedFeature) (ws : List Warning) (t u : Sheet) : Type 0 where
+pub record Added (ls : List ReadFeature) (ws : List Warning) (t u : Output) : Type 0 where
   pub positions : u .positions ≡ put (t .positions) (t .usedPositions) (flats (positionsIn ls))
   pub features : u .features ≡ putWords (t .features) (t .usedFeatures) (wordsIn ls)
   pub warnings : u .warnings ≡ putWords (t .warnings) (t .usedWarnings) (pairsIn ws)
@@ -77,7 +77,7 @@ pub record Added (ls : List PlacedFeature) (ws : List Warning) (t u : Sheet) : T
   pub roomFeatures : u .usedFeatures ≤ length (t .features)
   pub roomWarnings : u .usedWarnings ≤ length (t .warnings)
 
-added-none : (t : Sheet) → Room t → Added [] [] t t
+added-none : (t : Output) → Room t → Added [] [] t t
 unfolding positionsIn wordsIn pairsIn flats
 added-none t r =
     record {
@@ -92,7 +92,7 @@ added-none t r =
       roomWarnings = r .warnings;
     }
 
-module _ (f : Feature) (ps : List Point) (t : Sheet) (here : t .usedPositions + length (flats ps) ≤ length (t .positions))
+module _ (f : Feature) (ps : List Point) (t : Output) (here : t .usedPositions + length (flats ps) ≤ length (t .positions))
     (line : t .usedFeatures + 6 ≤ length (t .features)) where
   placed-length : length (put (t .positions) (t .usedPositions) (flats ps)) ≡ length (t .positions)
   placed-length = put-length (t .positions) (t .usedPositions) (flats ps) here
@@ -103,7 +103,7 @@ module _ (f : Feature) (ps : List Point) (t : Sheet) (here : t .usedPositions + 
   feature-room : Room t → Room (withFeature f ps t)
   feature-room r = record { positions = rw placed-length here; features = rw lined-length line; warnings = r .warnings }
 
-  added-feature : (ls : List PlacedFeature) (ws : List Warning) (u : Sheet) → Added ls ws (withFeature f ps t) u → Added ((f, ps) ∷ ls) ws t u
+  added-feature : (ls : List ReadFeature) (ws : List Warning) (u : Output) → Added ls ws (withFeature f ps t) u → Added ((f, ps) ∷ ls) ws t u
   unfolding positionsIn wordsIn
   added-feature ls ws u a =
       let room : u .usedFeatures ≤ length (t .features) = rw lined-length at (a .roomFeatures) in
@@ -119,14 +119,14 @@ module _ (f : Feature) (ps : List Point) (t : Sheet) (here : t .usedPositions + 
         roomWarnings = a .roomWarnings;
       }
 
-module _ (w : Warning) (t : Sheet) (here : t .usedWarnings + 2 ≤ length (t .warnings)) where
+module _ (w : Warning) (t : Output) (here : t .usedWarnings + 2 ≤ length (t .warnings)) where
   paired-length : length (putWords (t .warnings) (t .usedWarnings) (w .kind ∷ w .index ∷ [])) ≡ length (t .warnings)
   paired-length = putWords-length (t .warnings) (t .usedWarnings) (w .kind ∷ w .index ∷ []) here
 
   warning-room : Room t → Room (withWarning w t)
   warning-room r = record { positions = r .positions; features = r .features; warnings = rw paired-length here }
 
-  added-warning : (ls : List PlacedFeature) (ws : List Warning) (u : Sheet) → Added ls ws (withWarning w t) u → Added ls (w ∷ ws) t u
+  added-warning : (ls : List ReadFeature) (ws : List Warning) (u : Output) → Added ls ws (withWarning w t) u → Added ls (w ∷ ws) t u
   unfolding pairsIn
   added-warning ls ws u a =
       let room : u .usedWarnings ≤ length (t .warnings) = rw paired-length at (a .roomWarnings) in
@@ -143,34 +143,34 @@ module _ (w : Warning) (t : Sheet) (here : t .usedWarnings + 2 ≤ length (t .wa
       }
 
 -- ---- where everything has had room in the end, every event had
-started : (es : List Event) (t : Sheet) → playAll es t .number ≡ 0 → t .number ≡ 0
+started : (es : List Event) (t : Output) → applyAll es t .number ≡ 0 → t .number ≡ 0
 started es t z = go (eqb (t .number) 0) refl
   where
     go : (x : Bool) → eqb (t .number) 0 ≡ x → t .number ≡ 0
     go true e = eqb-true (t .number) 0 e
-    go false e = ap (λ (u : Sheet). u .number) (sym (stuck es t e)) ∙ z
+    go false e = ap (λ (u : Output). u .number) (sym (stuck es t e)) ∙ z
 
-play-next : (e : Event) (es : List Event) (t : Sheet) → playAll (e ∷ es) t .number ≡ 0 → playAll (e ∷ es) t ≡ playAll es (played e t)
-unfolding playAll
+play-next : (e : Event) (es : List Event) (t : Output) → applyAll (e ∷ es) t .number ≡ 0 → applyAll (e ∷ es) t ≡ applyAll es (apply e t)
+unfolding applyAll
 play-next e es t z = go (eqb (t .number) 0) refl
   where
-    go : (x : Bool) → eqb (t .number) 0 ≡ x → playAll es (pickSheet (eqb (t .number) 0) (played e t) t) ≡ playAll es (played e t)
+    go : (x : Bool) → eqb (t .number) 0 ≡ x → applyAll es (pickOutput (eqb (t .number) 0) (apply e t) t) ≡ applyAll es (apply e t)
     go true x = rw x
     go false x = absurd (eqb-false (t .number) 0 x (started (e ∷ es) t z))
 
 -- a sheet that lacks something does not end well
-picked : (es : List Event) (n : ℕ) (x : Bool) (s t : Sheet) → (n ≡ 0 → ⊥) → playAll es (pickSheet x s (lacking n t)) .number ≡ 0 → x ≡ true
+picked : (es : List Event) (n : ℕ) (x : Bool) (s t : Output) → (n ≡ 0 → ⊥) → applyAll es (pickOutput x s (outOfRoom n t)) .number ≡ 0 → x ≡ true
 picked es n true s t h z = refl
-picked es n false s t h z = absurd (h (started es (lacking n t) z))
+picked es n false s t h z = absurd (h (started es (outOfRoom n t) z))
 
 -- ---- all events
-abbrev Adds : List Event → Sheet → Type 0
-Adds es t = Room t → playAll es t .number ≡ 0 → Added (featuresIn es) (warningsIn es) t (playAll es t)
+abbrev Adds : List Event → Output → Type 0
+Adds es t = Room t → applyAll es t .number ≡ 0 → Added (featuresIn es) (warningsIn es) t (applyAll es t)
 
 -- one event, then the rest
-adds-one : (e : Event) (es : List Event) (t : Sheet) → ((u : Sheet) → Adds es u) → Room t → playAll es (played e t) .number ≡ 0
-    → Added (featuresIn (e ∷ es)) (warningsIn (e ∷ es)) t (playAll es (played e t))
-unfolding featuresIn warningsIn played
+adds-one : (e : Event) (es : List Event) (t : Output) → ((u : Output) → Adds es u) → Room t → applyAll es (apply e t) .number ≡ 0
+    → Added (featuresIn (e ∷ es)) (warningsIn (e ∷ es)) t (applyAll es (apply e t))
+unfolding featuresIn warningsIn apply
 adds-one (drew d) es t rest r z = rest t r z
 adds-one (need n) es t rest r z =
     let x = picked es 15 (leb (2 * n) (t .work)) t t (λ h. omega arith) z in
@@ -179,20 +179,20 @@ adds-one (feature f ps) es t rest r z =
     let p = leb (t .usedPositions + length (flats ps)) (length (t .positions)) in
     let q = leb (t .usedFeatures + 6) (length (t .features)) in
     let v = withFeature f ps t in
-    let x : p ≡ true = picked es 16 p (pickSheet q v (lacking 17 t)) t (λ h. omega arith) z in
-    let z₁ : playAll es (pickSheet q v (lacking 17 t)) .number ≡ 0 = rw x at z in
+    let x : p ≡ true = picked es 16 p (pickOutput q v (outOfRoom 17 t)) t (λ h. omega arith) z in
+    let z₁ : applyAll es (pickOutput q v (outOfRoom 17 t)) .number ≡ 0 = rw x at z in
     let y : q ≡ true = picked es 17 q v t (λ h. omega arith) z₁ in
     let here = leb-true _ _ x in
     let line = leb-true _ _ y in
-    rw (x, y) (added-feature f ps t here line (featuresIn es) (warningsIn es) (playAll es v) (rest v (feature-room f ps t here line r) (rw y at z₁)))
+    rw (x, y) (added-feature f ps t here line (featuresIn es) (warningsIn es) (applyAll es v) (rest v (feature-room f ps t here line r) (rw y at z₁)))
 adds-one (warned w) es t rest r z =
     let v = withWarning w t in
     let x = picked es 18 (leb (t .usedWarnings + 2) (length (t .warnings))) v t (λ h. omega arith) z in
     let here = leb-true _ _ x in
-    rw x (added-warning w t here (featuresIn es) (warningsIn es) (playAll es v) (rest v (warning-room w t here r) (rw x at z)))
+    rw x (added-warning w t here (featuresIn es) (warningsIn es) (applyAll es v) (rest v (warning-room w t here r) (rw x at z)))
 
-pub added-all : (es : List Event) (t : Sheet) → Adds es t
-unfolding featuresIn warningsIn playAll
+pub added-all : (es : List Event) (t : Output) → Adds es t
+unfolding featuresIn warningsIn applyAll
 added-all [] t r z = added-none t r
 added-all (e ∷ es) t r z =
     let s = play-next e es t z in
@@ -206,11 +206,11 @@ points-read (p ∷ ps) b s =
     let rest = simp (append-assoc, length-append) at (points-read ps (b ++ (p .x ∷ p .y ∷ [])) s) in
     simp (getD-append-seam, getD-append-add, rest)
 
-abbrev pub AllCounted : List PlacedFeature → Type 0
+abbrev pub AllCounted : List ReadFeature → Type 0
 AllCounted [] = Unit {0}
 AllCounted (l ∷ ls) = (l .0 .count ≡ length (l .1)) × AllCounted ls
 
-pub well-counted : (ls : List PlacedFeature) → AllWellFormed ls → AllCounted ls
+pub well-counted : (ls : List ReadFeature) → AllWellFormed ls → AllCounted ls
 well-counted [] h = tt
 well-counted (l ∷ ls) h = (h .0 .counted, well-counted ls (h .1))
 
@@ -218,12 +218,12 @@ line-read : (f : Feature) (a r : List ℕ) → lineAt (a ++ (wordsOf f ++ r)) (l
 line-read f a r = simp (getD-append-seam, getD-append-add)
 
 -- a first feature, then the rest
-next-read : (w : List ℕ) (q : List Float) (i p n c : ℕ) (f : Feature) (ps : List Point) (ls : List PlacedFeature) → lineAt w i ≡ f → f .count ≡ c
+next-read : (w : List ℕ) (q : List Float) (i p n c : ℕ) (f : Feature) (ps : List Point) (ls : List ReadFeature) → lineAt w i ≡ f → f .count ≡ c
     → pointsOf q p c ≡ ps → featuresAt w q (i + 6) (p + 2 * c) n ≡ ls → featuresAt w q i p (suc n) ≡ (f, ps) ∷ ls
 unfolding featuresAt
 next-read w q i p n c f ps ls e k g h = rw (← h, ← g, ← k, ← e)
 
-features-read : (ls : List PlacedFeature) (a r : List ℕ) (b s : List Float) → AllCounted ls
+features-read : (ls : List ReadFeature) (a r : List ℕ) (b s : List Float) → AllCounted ls
     → featuresAt (a ++ (wordsIn ls ++ r)) (b ++ (flats (positionsIn ls) ++ s)) (length a) (length b) (length ls) ≡ ls
 unfolding featuresAt wordsIn positionsIn flats
 features-read [] a r b s h = refl
@@ -241,7 +241,7 @@ warnings-read (w ∷ ws) a r =
     simp (getD-append-seam, getD-append-add, rest)
 
 -- ---- the features and warnings of the events, read back off u; behind them stands what stood in t
-pub record ReadBack (es : List Event) (t u : Sheet) : Type 0 where
+pub record ReadBack (es : List Event) (t u : Output) : Type 0 where
   pub usedPositions : u .usedPositions ≡ 2 * length (positionsIn (featuresIn es))
   pub usedFeatures : u .usedFeatures ≡ 6 * length (featuresIn es)
   pub usedWarnings : u .usedWarnings ≡ 2 * length (warningsIn es)
@@ -261,12 +261,12 @@ unfolding putWords
 words-start w vs = rw zero-add
 
 -- of a sheet of which nothing was used
-module _ (es : List Event) (t : Sheet) (positions : t .usedPositions ≡ 0) (features : t .usedFeatures ≡ 0) (warnings : t .usedWarnings ≡ 0)
-    (z : playAll es t .number ≡ 0) where
-  abbrev u : Sheet
-  u = playAll es t
+module _ (es : List Event) (t : Output) (positions : t .usedPositions ≡ 0) (features : t .usedFeatures ≡ 0) (warnings : t .usedWarnings ≡ 0)
+    (z : applyAll es t .number ≡ 0) where
+  abbrev u : Output
+  u = applyAll es t
 
-  abbrev ls : List PlacedFeature
+  abbrev ls : List ReadFeature
   ls = featuresIn es
 
   all : Added ls (warningsIn es) t u
@@ -319,8 +319,8 @@ module _ (es : List Event) (t : Sheet) (positions : t .usedPositions ≡ 0) (fea
       let n : u .usedWarnings ≡ length (pairsIn (warningsIn es)) = omega (arith, all .usedWarnings) in
       rw (n, warnings-are) (drop-append-seam (pairsIn (warningsIn es)) _)
 
-pub reads-back : (es : List Event) (t : Sheet) → t .usedPositions ≡ 0 → t .usedFeatures ≡ 0 → t .usedWarnings ≡ 0
-    → AllWellFormed (featuresIn es) → playAll es t .number ≡ 0 → ReadBack es t (playAll es t)
+pub reads-back : (es : List Event) (t : Output) → t .usedPositions ≡ 0 → t .usedFeatures ≡ 0 → t .usedWarnings ≡ 0
+    → AllWellFormed (featuresIn es) → applyAll es t .number ≡ 0 → ReadBack es t (applyAll es t)
 reads-back es t p f w h z =
     record {
       usedPositions = used-positions es t p f w z;

@@ -8,15 +8,15 @@ use lib.Dec.{leb}
 use lib.Ieee.{Float, nan}
 use Rattle.similarity.specs.declared.projection.Projection.{Projection}
 use Rattle.elementary.specs.Contracts.Stages.{atanFirst, atanSecond, atanThird}
-use Rattle.similarity.specs.Contracts.Stages.{stretchedOf, latitudeOf}
-use Rattle.scene.specs.declared.sections.Path.{Path}
+use Rattle.similarity.specs.Contracts.Stages.{expStageOf, roundedLatitudeOf}
+use Rattle.scene.specs.declared.readers.Path.{Path}
 use Rattle.scene.specs.Scene.{Point, DrawnPath}
 use Rattle.scene.specs.Contracts.Answers.{formBy}
-use Rattle.densify.specs.declared.writing.Done.{Done}
+use Rattle.densify.specs.declared.append.PointCursor.{PointCursor}
 use Rattle.densify.specs.declared.placing.Stage.{Stage}
 use Rattle.densify.specs.declared.placing.Stage.the-variants.{First, Second, Last}
 use Rattle.densify.specs.Densify.{Made, Block, samePoint}
-use Rattle.densify.specs.Positions.{flats, pointOf, pointsOf, put, placedBy}
+use Rattle.densify.specs.Positions.{flats, pointOf, pointsOf, put, projectPoint}
 
 -- ---- arrays of the code as points
 abbrev pub pointIn : List Float → Point
@@ -41,7 +41,7 @@ unfoldable pub closingIn : List Float → ℕ → ℕ → List Point
 closingIn w from at = cond (leb (from + 2) at) (closing (pointOf w from) (pointOf w (at - 2))) []
 
 -- The answer is `ok` exactly where the points have room from `at` on; then they stand there, and nothing else is changed. Without room, what stood before `at` is as it was.
-pub record Written (w w′ : List Float) (at : ℕ) (m : Made) (r : Done) : Type 0 where
+pub record Written (w w′ : List Float) (at : ℕ) (m : Made) (r : PointCursor) : Type 0 where
   pub asked : r .ok ≡ leb (at + length (flats (m .points))) (length w)
   pub next : r .ok ≡ true → r .at ≡ at + length (flats (m .points))
   pub left : r .ok ≡ true → r .budget ≡ m .after
@@ -60,17 +60,17 @@ pub record PathFits (n : ℕ) (p : Path) : Type 0 where
   pub points : p .curve ≡ false → p .at + 16 * p .count ≤ n
 
 -- the same draws, each point carried to the Earth
-abbrev pub placing : Projection → Made → Made
-placing t m = record { points = map (placedBy t) (m .points); after = m .after; draws = m .draws }
+abbrev pub projected : Projection → Made → Made
+projected t m = record { points = map (projectPoint t) (m .points); after = m .after; draws = m .draws }
 
 -- ---- the same in stages, each for all points of a line
-unfoldable pub stretchedBy : Projection → Point → Point
-stretchedBy t p = let g = stretchedOf t (p .x) (p .y) in record { x = g .lon; y = g .lat }
+unfoldable pub expStageBy : Projection → Point → Point
+expStageBy t p = let g = expStageOf t (p .x) (p .y) in record { x = g .lon; y = g .lat }
 
 unfoldable pub stageOf : Stage → Float → Float
 stageOf First v = atanFirst v
 stageOf Second v = atanSecond v
-stageOf Last v = latitudeOf (atanThird v)
+stageOf Last v = roundedLatitudeOf (atanThird v)
 
 -- x as it is
 abbrev pub onY : (Float → Float) → Point → Point

@@ -25,7 +25,7 @@ use Rattle.similarity.specs.Laws.Project.{million, mMillion}
 use Rattle.budget.specs.declared.Budget.{Budget}
 use Rattle.budget.specs.Budget.{grantOf, takeOf}
 use Rattle.scene.specs.Scene.{Point, Cubic, Form, curve, polyline, DrawnPath}
-use Rattle.densify.specs.Densify.{Made, c90, c270, whole, tiny, Block, flatOf, midOf, firstOf, secondOf, leafOf, splitOf, flattenCubicOf, cubicsOf, formPoints, samePoint, lastOf, closeRingOf, closedIf, pathPointsOf}
+use Rattle.densify.specs.Densify.{Made, c90, c270, whole, tiny, Block, flatOf, midOf, firstHalf, secondHalf, leafOf, splitOf, flattenCubicOf, cubicsOf, formPoints, samePoint, lastOf, closeRingOf, closedIf, pathPointsOf}
 use Rattle.densify.specs.Densify.{alongOf, samplesTo, segmentWant, segmentOf, segmentsOf, densifyPolylineOf, roundTo, ellipsePoint, ellipseRingOf, sharpCorners, cornerPoint, roundedCorners, boxRingOf}
 use Rattle.densify.specs.Laws.Replay.{blockOf, radiusOf}
 use Rattle.densify.specs.Laws.Counts.{parts-within, arc-within}
@@ -117,8 +117,8 @@ pub record NearBlock (c : Block) : Type 0 where
   pub c2 : NearPoint (c .c2)
   pub p3 : NearPoint (c .p3)
 
-pub halves-near : (c : Block) → NearBlock c → NearBlock (firstOf c) × NearBlock (secondOf c)
-unfolding firstOf secondOf
+pub halves-near : (c : Block) → NearBlock c → NearBlock (firstHalf c) × NearBlock (secondHalf c)
+unfolding firstHalf secondHalf
 halves-near c h =
     let p01 = mid-near (h .p0) (h .c1) in
     let p12 = mid-near (h .c1) (h .c2) in
@@ -136,10 +136,10 @@ pub split-near : (fuel : ℕ) (tol : Float) (c : Block) (b : Budget) → NearBlo
 unfolding splitOf leafOf
 split-near zero tol c b h = (h .p3, tt)
 split-near (suc k) tol c b h =
-    let one = splitOf k tol (firstOf c) b in
-    let two = splitOf k tol (secondOf c) (one .after) in
+    let one = splitOf k tol (firstHalf c) b in
+    let two = splitOf k tol (secondHalf c) (one .after) in
     pick-made (Makes NearPoint) (flatOf tol c || ltb (b .left) 2) (h .p3, tt)
-    (each-append NearPoint (one .points) (two .points) (split-near k tol (firstOf c) b (halves-near c h .0)) (split-near k tol (secondOf c) (one .after) (halves-near c h .1)))
+    (each-append NearPoint (one .points) (two .points) (split-near k tol (firstHalf c) b (halves-near c h .0)) (split-near k tol (secondHalf c) (one .after) (halves-near c h .1)))
 
 -- ---- paths
 pub record NearCubic (c : Cubic) : Type 0 where

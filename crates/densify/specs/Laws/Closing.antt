@@ -11,8 +11,8 @@ use lib.Seq.{length-take-le, getD-append-add}
 use lib.Ieee.{Float, nan, eq}
 use borrow.Author.Tests.{le-leb, lt-leb}
 use Rattle.scene.specs.Scene.{Point}
-use Rattle.densify.specs.declared.writing.Done.{Done}
-use Rattle.densify.specs.Densify.{Drawn, Made, plain, samePoint, lastOf, closeRingOf}
+use Rattle.densify.specs.declared.append.PointCursor.{PointCursor}
+use Rattle.densify.specs.Densify.{GrantedDraw, Made, withoutDraws, samePoint, lastOf, closeRingOf}
 use Rattle.densify.specs.Contracts.Written.{closing, closingIn, Written}
 use Rattle.densify.specs.Positions.{flats, pointOf, put}
 use Rattle.densify.specs.Laws.Writing.{written-room, join-short, join-done, written-as}
@@ -91,12 +91,12 @@ pub closing-in : (w : List Float) (from : ℕ) (ps : List Point) → from + leng
 closing-in w from ps h = rw (closer-in w from ps h) (closer-added ps)
 
 -- ---- a ring's points, then what closes it
-module _ {w w₁ : List Float} {from : ℕ} {m : Made} {r : Done} {d : List Drawn} (one : Written w w₁ from m r) where
-  pub closed-done : {w₂ : List Float} {s : Done} → r .ok ≡ true → Written w₁ w₂ (r .at) (plain (closingIn w₁ from (r .at)) (r .budget)) s
+module _ {w w₁ : List Float} {from : ℕ} {m : Made} {r : PointCursor} {d : List GrantedDraw} (one : Written w w₁ from m r) where
+  pub closed-done : {w₂ : List Float} {s : PointCursor} → r .ok ≡ true → Written w₁ w₂ (r .at) (withoutDraws (closingIn w₁ from (r .at)) (r .budget)) s
       → Written w w₂ from (record { points = closeRingOf (m .points); after = m .after; draws = d }) s
   closed-done fits two =
-      let added = plain (closingIn w₁ from (r .at)) in
+      let added = withoutDraws (closingIn w₁ from (r .at)) in
       written-as _ _ (rw (one .holds fits, one .next fits) (sym (closing-in w from (m .points) (written-room one fits)))) refl (join-done one added fits two)
 
   pub closed-short : r .ok ≡ false → Written w w₁ from (record { points = closeRingOf (m .points); after = m .after; draws = d }) r
-  closed-short short = written-as _ _ (sym (closer-added (m .points))) refl (join-short one (plain (closer (m .points))) short)
+  closed-short short = written-as _ _ (sym (closer-added (m .points))) refl (join-short one (withoutDraws (closer (m .points))) short)

@@ -15,8 +15,8 @@ use Rattle.elementary.specs.Constants as K
 use Rattle.budget.specs.declared.Budget.{Budget}
 use Rattle.budget.specs.Budget.{grantOf, takeOf}
 use Rattle.scene.specs.Scene.{Point, Cubic, Form, curve, polyline, DrawnPath}
-use Rattle.densify.specs.Densify.{Made, drawing, andThen, clamped, tiny, Block, flatOf, firstOf, secondOf, leafOf, pickMade, splitOf, flattenCubicOf, cubicsOf, formPoints}
-use Rattle.densify.specs.Densify.{samePoint, lastOf, closeRingOf, closedIf, pathPointsOf, partsOf, alongOf, samplesTo, segmentOf, segmentsOf, densifyPolylineOf, arcVerticesOf, roundTo, ellipseRingOf, sharpCorners, roundedCorners, quarterOf, boxRingOf}
+use Rattle.densify.specs.Densify.{Made, withDraw, andThen, clamped, tiny, Block, flatOf, firstHalf, secondHalf, leafOf, pickMade, splitOf, flattenCubicOf, cubicsOf, formPoints}
+use Rattle.densify.specs.Densify.{samePoint, lastOf, closeRingOf, closedIf, pathPointsOf, segmentParts, alongOf, samplesTo, segmentOf, segmentsOf, densifyPolylineOf, arcVerticesOf, roundTo, ellipseRingOf, sharpCorners, roundedCorners, quarterOf, boxRingOf}
 use Rattle.densify.specs.Laws.Replay.{grantsOf, grantsOf-append, blockOf, radiusOf}
 
 -- ---- numbers
@@ -32,8 +32,8 @@ pub clamped-within : (lo hi : ℕ) (x : Float) → lo ≤ hi → Within lo hi (c
 unfolding clamped
 clamped-within lo hi x h = within-cond (finite x) (omega arith) (omega arith)
 
-pub parts-within : (step metres : Float) → Within 1 100000 (partsOf step metres)
-unfolding partsOf
+pub parts-within : (step metres : Float) → Within 1 100000 (segmentParts step metres)
+unfolding segmentParts
 parts-within step metres = within-cond (finite metres) (clamped-within 1 100000 _ (omega arith)) (omega arith)
 
 pub arc-within : (step scale radius tol : Float) → Within 32 4096 (arcVerticesOf step scale radius tol)
@@ -97,9 +97,9 @@ pub split-pieces : (fuel : ℕ) (tol : Float) (c : Block) (b : Budget) → Piece
 unfolding splitOf
 split-pieces zero tol c b = leaf-pieces (flatOf tol c) (c .p3) b
 split-pieces (suc k) tol c b =
-    let one = splitOf k tol (firstOf c) b in
+    let one = splitOf k tol (firstHalf c) b in
     pick-pieces (flatOf tol c || ltb (b .left) 2) (leaf-pieces (flatOf tol c) (c .p3) b)
-    (then-pieces one (λ r. splitOf k tol (secondOf c) r) (split-pieces k tol (firstOf c) b) (split-pieces k tol (secondOf c) (one .after)))
+    (then-pieces one (λ r. splitOf k tol (secondHalf c) r) (split-pieces k tol (firstHalf c) b) (split-pieces k tol (secondHalf c) (one .after)))
 
 pub flatten-pieces : (tol : Float) (c : Block) (b : Budget) → Pieces (flattenCubicOf tol c b)
 unfolding flattenCubicOf
@@ -243,7 +243,7 @@ ring-least r = omega arith
 
 -- whatever the grant is
 ring-of : (b : Budget) (want floor over : ℕ) (ps : List Point) → floor ≤ want → (let g = takeOf b want floor .granted in Within g (g + over) (length ps)) →
-    Ring floor (suc over) (drawing b want floor (λ n. closeRingOf ps))
+    Ring floor (suc over) (withDraw b want floor (λ n. closeRingOf ps))
 unfolding takeOf grantsOf
 ring-of b want floor over ps h k =
     let g = grant-floor (b .left) want floor h in
@@ -254,7 +254,7 @@ ring-wider : {lo over : ℕ} {m : Made} (lo′ over′ : ℕ) → lo′ ≤ lo �
 ring-wider lo′ over′ h k r = record { granted = omega arith; counted = omega arith; closed = r .closed }
 
 module _ (c : Point) (hw hh : Float) (b : Budget) where
-  sharp-ring : Ring 4 1 (drawing b 4 4 (λ n. closeRingOf (sharpCorners c hw hh)))
+  sharp-ring : Ring 4 1 (withDraw b 4 4 (λ n. closeRingOf (sharpCorners c hw hh)))
   unfolding sharpCorners takeOf grantOf
   sharp-ring = ring-of b 4 4 0 _ (omega arith) (omega arith)
 
@@ -265,7 +265,7 @@ module _ (c : Point) (hw hh : Float) (b : Budget) where
 
     module _ (quarter : ℕ) (q : 2 ≤ quarter) where
       abbrev rounded : Made
-      rounded = drawing b (quarter * 4) 8 (λ n. closeRingOf (roundedCorners c hw hh r (n / 4)))
+      rounded = withDraw b (quarter * 4) 8 (λ n. closeRingOf (roundedCorners c hw hh r (n / 4)))
 
       rounded-ring : Ring 8 5 rounded
       rounded-ring = ring-of b (quarter * 4) 8 4 _ (omega arith) (rw rounded-length (omega arith))

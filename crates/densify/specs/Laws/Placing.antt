@@ -14,12 +14,12 @@ use Rattle.geodesy.specs.declared.LonLat.{LonLat}
 use Rattle.elementary.specs.Contracts.Stages.{atanFirst, atanSecond, atanThird}
 use Rattle.similarity.specs.declared.projection.Projection.{Projection}
 use Rattle.similarity.specs.Projection.{geoBy}
-use Rattle.similarity.specs.Contracts.Stages.{stretchedOf, latitudeOf}
+use Rattle.similarity.specs.Contracts.Stages.{expStageOf, roundedLatitudeOf}
 use Rattle.similarity.specs.Laws.Project.{geo-staged}
-use Rattle.densify.specs.declared.writing.Done.{Done}
+use Rattle.densify.specs.declared.append.PointCursor.{PointCursor}
 use Rattle.densify.specs.Densify.{Made}
-use Rattle.densify.specs.Contracts.Written.{pointsIn, Written, placing, stretchedBy, stageOf, onY, inPlace}
-use Rattle.densify.specs.Positions.{flats, pointOf, pointsOf, put, placedBy}
+use Rattle.densify.specs.Contracts.Written.{pointsIn, Written, projected, expStageBy, stageOf, onY, inPlace}
+use Rattle.densify.specs.Positions.{flats, pointOf, pointsOf, put, projectPoint}
 use Rattle.densify.specs.declared.placing.Stage.the-variants.{First, Second, Last}
 use Rattle.densify.specs.Laws.Writing.{flats-length, put-before, put-none, put-next, written-short, written-all, written-room}
 
@@ -53,7 +53,7 @@ points-back w at to ps h k =
     let n : length (take at w) ≡ at = length-take-le at w h in
     rw k (rw n at (run-back (take at w) ps (drop (at + length (flats ps)) w)))
 
-pub written-points : {w w₁ : List Float} {at : ℕ} {m : Made} {r : Done} → Written w w₁ at m r → r .ok ≡ true → pointsIn w₁ at (r .at) ≡ m .points
+pub written-points : {w w₁ : List Float} {at : ℕ} {m : Made} {r : PointCursor} → Written w w₁ at m r → r .ok ≡ true → pointsIn w₁ at (r .at) ≡ m .points
 written-points {w} {at = at} {m = m} one fits =
     let room = written-room one fits in
     rw (one .holds fits, one .next fits) (points-back w at (at + length (flats (m .points))) (m .points) (omega arith) (omega (arith, flats-length (m .points))))
@@ -153,41 +153,41 @@ module _ (w : List Float) (from to : ℕ) (h : from ≤ to) (k : to ≤ length w
       rw (back, map-map) (put-over w from (flats ps) (omega arith) (flats (map (λ p. g (f p)) (pointsIn w from to))) (mapped-room (λ p. g (f p)) ∙ sym (mapped-room f)))
 
 -- ---- positions
-pub placed-count : (t : Projection) (m : Made) → length (placing t m .points) ≡ length (m .points)
-placed-count t m = length-map (m .points) (placedBy t)
+pub placed-count : (t : Projection) (m : Made) → length (projected t m .points) ≡ length (m .points)
+placed-count t m = length-map (m .points) (projectPoint t)
 
 -- as the code makes it of `geo`
-pub placed-is : (t : Projection) {g : LonLat} (p : Point) → g ≡ geoBy t (p .x) (p .y) → record { x = g .lon; y = g .lat } ≡ placedBy t p
-unfolding placedBy
+pub placed-is : (t : Projection) {g : LonLat} (p : Point) → g ≡ geoBy t (p .x) (p .y) → record { x = g .lon; y = g .lat } ≡ projectPoint t p
+unfolding projectPoint
 placed-is t p e = rw e
 
 -- of `stretch`
-pub stretched-is : (t : Projection) {g : LonLat} (p : Point) → g ≡ stretchedOf t (p .x) (p .y) → record { x = g .lon; y = g .lat } ≡ stretchedBy t p
-unfolding stretchedBy
+pub stretched-is : (t : Projection) {g : LonLat} (p : Point) → g ≡ expStageOf t (p .x) (p .y) → record { x = g .lon; y = g .lat } ≡ expStageBy t p
+unfolding expStageBy
 stretched-is t p e = rw e
 
-placed-staged : (t : Projection) (p : Point) → onY (stageOf Last) (onY (stageOf Second) (onY (stageOf First) (stretchedBy t p))) ≡ placedBy t p
-unfolding placedBy stretchedBy stageOf
+placed-staged : (t : Projection) (p : Point) → onY (stageOf Last) (onY (stageOf Second) (onY (stageOf First) (expStageBy t p))) ≡ projectPoint t p
+unfolding projectPoint expStageBy stageOf
 placed-staged t p = rw geo-staged
 
-pub four-passes : (t : Projection) (w : List Float) (from to : ℕ) → from ≤ to → to ≤ length w → {a b c d : List Float} → a ≡ inPlace (stretchedBy t) w from to
+pub four-passes : (t : Projection) (w : List Float) (from to : ℕ) → from ≤ to → to ≤ length w → {a b c d : List Float} → a ≡ inPlace (expStageBy t) w from to
     → b ≡ inPlace (onY (stageOf First)) a from to → c ≡ inPlace (onY (stageOf Second)) b from to → d ≡ inPlace (onY (stageOf Last)) c from to
-    → d ≡ inPlace (placedBy t) w from to
+    → d ≡ inPlace (projectPoint t) w from to
 four-passes t w from to h k ea eb ec ed = rw (ed, ec, eb, ea, pass-then w from to h k, pass-then w from to h k, pass-then w from to h k) (λ i. inPlace (λ p. placed-staged t p i) w from to)
 
 -- ---- what is written on the canvas, then carried to the Earth
-module _ (t : Projection) {w w₁ : List Float} {at : ℕ} {m : Made} {r : Done} (one : Written w w₁ at m r) where
-  room : length (flats (placing t m .points)) ≡ length (flats (m .points))
-  room = omega (arith, flats-length (placing t m .points), flats-length (m .points), placed-count t m)
+module _ (t : Projection) {w w₁ : List Float} {at : ℕ} {m : Made} {r : PointCursor} (one : Written w w₁ at m r) where
+  room : length (flats (projected t m .points)) ≡ length (flats (m .points))
+  room = omega (arith, flats-length (projected t m .points), flats-length (m .points), placed-count t m)
 
-  pub placed-short : r .ok ≡ false → Written w w₁ at (placing t m) r
+  pub placed-short : r .ok ≡ false → Written w w₁ at (projected t m) r
   placed-short short =
       let few : length w < at + length (flats (m .points)) = leb-false _ _ (sym (one .asked) ∙ short) in
-      written-short w at (placing t m) w₁ r (rw room few) short (one .before) (one .kept)
+      written-short w at (projected t m) w₁ r (rw room few) short (one .before) (one .kept)
 
-  pub placed-written : {w₂ : List Float} → r .ok ≡ true → w₂ ≡ inPlace (placedBy t) w₁ at (r .at) → Written w w₂ at (placing t m) r
+  pub placed-written : {w₂ : List Float} → r .ok ≡ true → w₂ ≡ inPlace (projectPoint t) w₁ at (r .at) → Written w w₂ at (projected t m) r
   unfolding inPlace
   placed-written {w₂} fits there =
       let h = written-room one fits in
-      written-all w at (placing t m) w₂ r (rw room h) fits (rw room (one .next fits)) (one .left fits)
-      (there ∙ rw (written-points one fits, one .holds fits) (put-over w at (flats (m .points)) (omega arith) (flats (placing t m .points)) room))
+      written-all w at (projected t m) w₂ r (rw room h) fits (rw room (one .next fits)) (one .left fits)
+      (there ∙ rw (written-points one fits, one .holds fits) (put-over w at (flats (m .points)) (omega arith) (flats (projected t m .points)) room))

@@ -13,13 +13,13 @@ use Rattle.budget.specs.Budget.{grantOf, takeOf}
 use Rattle.budget.specs.Draws.{Draw, leftAfter, granted, overrun, shortFloors}
 use Rattle.budget.specs.Laws.Draws.{claim}
 use Rattle.scene.specs.Scene.{Point, Cubic, Form, curve, polyline, DrawnPath}
-use Rattle.densify.specs.Densify.{Drawn, Made, plain, drawing, andThen, tiny, Block, flatOf, firstOf, secondOf, leafOf, pickMade, splitOf, flattenCubicOf, cubicsOf}
+use Rattle.densify.specs.Densify.{GrantedDraw, Made, withoutDraws, withDraw, andThen, tiny, Block, flatOf, firstHalf, secondHalf, leafOf, pickMade, splitOf, flattenCubicOf, cubicsOf}
 use Rattle.densify.specs.Densify.{formPoints, closedIf, pathPointsOf, segmentOf, segmentsOf, densifyPolylineOf, ellipseRingOf, boxRingOf}
-use Rattle.densify.specs.Draws.{drawsOf, drawn, Granted, fellShort}
+use Rattle.densify.specs.Draws.{drawsOf, afterDraw, Granted, fellShort}
 
-unfoldable pub replayed : Budget → List Drawn → Budget
+unfoldable pub replayed : Budget → List GrantedDraw → Budget
 replayed b [] = b
-replayed b (d ∷ ds) = replayed (drawn b d) ds
+replayed b (d ∷ ds) = replayed (afterDraw b d) ds
 
 pub record Replays (b : Budget) (m : Made) : Type 0 where
   pub after-is : m .after ≡ replayed b (m .draws)
@@ -27,45 +27,45 @@ pub record Replays (b : Budget) (m : Made) : Type 0 where
   pub left-is : m .after .left ≡ leftAfter (b .left) (drawsOf (m .draws))
 
 -- ---- lists of draws
-pub replayed-append : (b : Budget) (ds es : List Drawn) → replayed b (ds ++ es) ≡ replayed (replayed b ds) es
+pub replayed-append : (b : Budget) (ds es : List GrantedDraw) → replayed b (ds ++ es) ≡ replayed (replayed b ds) es
 unfolding replayed
 replayed-append b [] es = refl
-replayed-append b (d ∷ ds) es = replayed-append (drawn b d) ds es
+replayed-append b (d ∷ ds) es = replayed-append (afterDraw b d) ds es
 
 pub leftAfter-append : (left : ℕ) (ds es : List Draw) → leftAfter left (ds ++ es) ≡ leftAfter (leftAfter left ds) es
 unfolding leftAfter
 leftAfter-append left [] es = refl
 leftAfter-append left (d ∷ ds) es = leftAfter-append (left - grantOf left (d .want) (d .floor)) ds es
 
-pub granted-append : (b : Budget) (ds es : List Drawn) → Granted b ds → Granted (replayed b ds) es → Granted b (ds ++ es)
+pub granted-append : (b : Budget) (ds es : List GrantedDraw) → Granted b ds → Granted (replayed b ds) es → Granted b (ds ++ es)
 unfolding replayed
 granted-append b [] es g h = h
-granted-append b (d ∷ ds) es g h = (g .0, granted-append (drawn b d) ds es (g .1) h)
+granted-append b (d ∷ ds) es g h = (g .0, granted-append (afterDraw b d) ds es (g .1) h)
 
-pub replayed-left : (b : Budget) (ds : List Drawn) → replayed b ds .left ≡ leftAfter (b .left) (drawsOf ds)
+pub replayed-left : (b : Budget) (ds : List GrantedDraw) → replayed b ds .left ≡ leftAfter (b .left) (drawsOf ds)
 unfolding replayed leftAfter takeOf
 replayed-left b [] = refl
-replayed-left b (d ∷ ds) = replayed-left (drawn b d) ds
+replayed-left b (d ∷ ds) = replayed-left (afterDraw b d) ds
 
 -- the grants' sum
-unfoldable pub grantsOf : List Drawn → ℕ
+unfoldable pub grantsOf : List GrantedDraw → ℕ
 grantsOf [] = 0
 grantsOf (d ∷ ds) = d .granted + grantsOf ds
 
-pub grantsOf-append : (ds es : List Drawn) → grantsOf (ds ++ es) ≡ grantsOf ds + grantsOf es
+pub grantsOf-append : (ds es : List GrantedDraw) → grantsOf (ds ++ es) ≡ grantsOf ds + grantsOf es
 unfolding grantsOf
 grantsOf-append [] es = omega arith
 grantsOf-append (d ∷ ds) es = omega (arith, grantsOf-append ds es)
 
-pub grantsOf-is : (b : Budget) (ds : List Drawn) → Granted b ds → grantsOf ds ≡ granted (b .left) (drawsOf ds)
+pub grantsOf-is : (b : Budget) (ds : List GrantedDraw) → Granted b ds → grantsOf ds ≡ granted (b .left) (drawsOf ds)
 unfolding grantsOf granted takeOf
 grantsOf-is b [] g = refl
-grantsOf-is b (d ∷ ds) g = ap₂ _+_ (g .0) (grantsOf-is (drawn b d) ds (g .1))
+grantsOf-is b (d ∷ ds) g = ap₂ _+_ (g .0) (grantsOf-is (afterDraw b d) ds (g .1))
 
-pub replayed-hit : (b : Budget) (ds : List Drawn) → Granted b ds → replayed b ds .hit ≡ b .hit || fellShort ds
+pub replayed-hit : (b : Budget) (ds : List GrantedDraw) → Granted b ds → replayed b ds .hit ≡ b .hit || fellShort ds
 unfolding replayed fellShort takeOf
 replayed-hit b [] g = rw or-false
-replayed-hit b (d ∷ ds) g = replayed-hit (drawn b d) ds (g .1) ∙ simp (g .0, or-assoc)
+replayed-hit b (d ∷ ds) g = replayed-hit (afterDraw b d) ds (g .1) ∙ simp (g .0, or-assoc)
 
 -- ---- what a producer is made of
 replays : (b : Budget) (m : Made) → m .after ≡ replayed b (m .draws) → Granted b (m .draws) → Replays b m
@@ -82,16 +82,16 @@ module _ {b : Budget} {m : Made} (r : Replays b m) where
   pub replays-bounded : grantsOf (m .draws) ≤ b .left + shortFloors (b .left) (drawsOf (m .draws))
   replays-bounded = rw (grantsOf-is b (m .draws) (r .grants)) (claim (b .left) (drawsOf (m .draws)) .bounded)
 
-pub plain-replays : (ps : List Point) (b : Budget) → Replays b (plain ps b)
+pub plain-replays : (ps : List Point) (b : Budget) → Replays b (withoutDraws ps b)
 unfolding replayed
-plain-replays ps b = replays b (plain ps b) refl tt
+plain-replays ps b = replays b (withoutDraws ps b) refl tt
 
 -- whatever the points are
-one-replays : (b : Budget) (want floor : ℕ) (ps : List Point) → Replays b (drawing b want floor (λ n. ps))
+one-replays : (b : Budget) (want floor : ℕ) (ps : List Point) → Replays b (withDraw b want floor (λ n. ps))
 unfolding replayed takeOf
-one-replays b want floor ps = replays b (drawing b want floor (λ n. ps)) (rw or-false) (refl, tt)
+one-replays b want floor ps = replays b (withDraw b want floor (λ n. ps)) (rw or-false) (refl, tt)
 
-pub drawing-replays : (b : Budget) (want floor : ℕ) (f : ℕ → List Point) → Replays b (drawing b want floor f)
+pub drawing-replays : (b : Budget) (want floor : ℕ) (f : ℕ → List Point) → Replays b (withDraw b want floor f)
 drawing-replays b want floor f = one-replays b want floor _
 
 pub leaf-replays : (flat : Bool) (p : Point) (b : Budget) → Replays b (leafOf flat p b)
@@ -117,9 +117,9 @@ pub split-replays : (fuel : ℕ) (tol : Float) (c : Block) (b : Budget) → Repl
 unfolding splitOf
 split-replays zero tol c b = leaf-replays (flatOf tol c) (c .p3) b
 split-replays (suc k) tol c b =
-    let one = splitOf k tol (firstOf c) b in
+    let one = splitOf k tol (firstHalf c) b in
     pick-replays (flatOf tol c || ltb (b .left) 2) (leaf-replays (flatOf tol c) (c .p3) b)
-    (then-replays b one (λ r. splitOf k tol (secondOf c) r) (split-replays k tol (firstOf c) b) (split-replays k tol (secondOf c) (one .after)))
+    (then-replays b one (λ r. splitOf k tol (secondHalf c) r) (split-replays k tol (firstHalf c) b) (split-replays k tol (secondHalf c) (one .after)))
 
 -- a path's cubic with its start
 abbrev pub blockOf : Point → Cubic → Block
@@ -139,7 +139,7 @@ module _ (tol : Float) where
 
   pub form-replays : (f : Form) (b : Budget) → Replays b (formPoints tol f b)
   unfolding formPoints
-  form-replays (curve start cs) b = then-replays b (plain (start ∷ []) b) (λ r. cubicsOf tol start cs r) (plain-replays (start ∷ []) b) (cubics-replays start cs b)
+  form-replays (curve start cs) b = then-replays b (withoutDraws (start ∷ []) b) (λ r. cubicsOf tol start cs r) (plain-replays (start ∷ []) b) (cubics-replays start cs b)
   form-replays (polyline ps) b = plain-replays ps b
 
   pub path-replays : (p : DrawnPath) (b : Budget) → Replays b (pathPointsOf tol p b)
@@ -165,7 +165,7 @@ module _ (step scale : Float) where
   pub densify-replays : (ps : List Point) (b : Budget) → Replays b (densifyPolylineOf step scale ps b)
   unfolding densifyPolylineOf
   densify-replays [] b = plain-replays [] b
-  densify-replays (p ∷ ps) b = then-replays b (plain (p ∷ []) b) (λ r. segmentsOf step scale p ps r) (plain-replays (p ∷ []) b) (segments-replays p ps b)
+  densify-replays (p ∷ ps) b = then-replays b (withoutDraws (p ∷ []) b) (λ r. segmentsOf step scale p ps r) (plain-replays (p ∷ []) b) (segments-replays p ps b)
 
   pub ellipse-replays : (tol : Float) (c : Point) (rx ry : Float) (b : Budget) → Replays b (ellipseRingOf step scale tol c rx ry b)
   unfolding ellipseRingOf

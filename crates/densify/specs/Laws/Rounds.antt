@@ -10,8 +10,8 @@ use lib.Ieee.{Float}
 use borrow.Author.Tests.{leb-false}
 use Rattle.budget.specs.declared.Budget.{Budget}
 use Rattle.scene.specs.Scene.{Point}
-use Rattle.densify.specs.declared.writing.Done.{Done}
-use Rattle.densify.specs.Densify.{plain, roundTo}
+use Rattle.densify.specs.declared.append.PointCursor.{PointCursor}
+use Rattle.densify.specs.Densify.{withoutDraws, roundTo}
 use Rattle.densify.specs.Contracts.Written.{Written}
 use Rattle.densify.specs.Positions.{flats}
 use Rattle.densify.specs.Laws.Writing.{flats-length, written-short, written-none, join-short, join-done}
@@ -20,16 +20,16 @@ use Rattle.densify.specs.Laws.Counts.{round-length}
 module _ (f : ℕ → Point) where
   -- the first k points stand from `at` to `next`
   abbrev pub Rounds : List Float → List Float → ℕ → Budget → ℕ → ℕ → Type 0
-  Rounds w w₁ at b next k = Written w w₁ at (plain (roundTo f k) b) (record { ok = true; at = next; budget = b })
+  Rounds w w₁ at b next k = Written w w₁ at (withoutDraws (roundTo f k) b) (record { ok = true; at = next; budget = b })
 
   pub round-none : (w : List Float) (at : ℕ) (b : Budget) → at ≤ length w → Rounds w w at b at 0
   unfolding roundTo
   round-none w at b h = written-none w at b h
 
-  module _ (k : ℕ) {w w₁ w₂ : List Float} {at next : ℕ} {b : Budget} {r : Done} (first : Rounds w w₁ at b next k) (one : Written w₁ w₂ next (plain (f k ∷ []) b) r) where
-    one-more : Written w w₂ at (plain (roundTo f (k + 1)) b) r
+  module _ (k : ℕ) {w w₁ w₂ : List Float} {at next : ℕ} {b : Budget} {r : PointCursor} (first : Rounds w w₁ at b next k) (one : Written w₁ w₂ next (withoutDraws (f k ∷ []) b) r) where
+    one-more : Written w w₂ at (withoutDraws (roundTo f (k + 1)) b) r
     unfolding roundTo
-    one-more = rw add-one (join-done first (plain (f k ∷ [])) refl one)
+    one-more = rw add-one (join-done first (withoutDraws (f k ∷ [])) refl one)
 
     pub round-next : r .ok ≡ true → Rounds w w₂ at b (r .at) (k + 1)
     round-next fits =
@@ -43,17 +43,17 @@ module _ (f : ℕ → Point) where
         }
 
     -- no room for one of n: none for all of them
-    pub round-short : (n : ℕ) → k < n → r .ok ≡ false → Written w w₂ at (plain (roundTo f n) b) r
+    pub round-short : (n : ℕ) → k < n → r .ok ≡ false → Written w w₂ at (withoutDraws (roundTo f n) b) r
     round-short n h short =
         let few : length w < at + length (flats (roundTo f (k + 1))) = leb-false _ _ (sym (one-more .asked) ∙ short) in
-        written-short w at (plain (roundTo f n) b) w₂ r
+        written-short w at (withoutDraws (roundTo f n) b) w₂ r
         (rw (flats-length, round-length) (omega (arith, rw (flats-length, round-length) at few)))
         short (one-more .before) (one-more .kept)
 
 -- ---- one run after another, both from the same budget
-module _ (p q : List Point) {w w₁ : List Float} {at : ℕ} {b : Budget} {r : Done} (one : Written w w₁ at (plain p b) r) where
-  pub runs-short : r .ok ≡ false → Written w w₁ at (plain (p ++ q) b) r
-  runs-short short = join-short one (plain q) short
+module _ (p q : List Point) {w w₁ : List Float} {at : ℕ} {b : Budget} {r : PointCursor} (one : Written w w₁ at (withoutDraws p b) r) where
+  pub runs-short : r .ok ≡ false → Written w w₁ at (withoutDraws (p ++ q) b) r
+  runs-short short = join-short one (withoutDraws q) short
 
-  pub runs-done : {w₂ : List Float} {s : Done} → r .ok ≡ true → Written w₁ w₂ (r .at) (plain q b) s → Written w w₂ at (plain (p ++ q) b) s
-  runs-done fits two = join-done one (plain q) fits (rw (one .left fits) two)
+  pub runs-done : {w₂ : List Float} {s : PointCursor} → r .ok ≡ true → Written w₁ w₂ (r .at) (withoutDraws q b) s → Written w w₂ at (withoutDraws (p ++ q) b) s
+  runs-done fits two = join-done one (withoutDraws q) fits (rw (one .left fits) two)

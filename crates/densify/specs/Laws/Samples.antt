@@ -9,7 +9,7 @@ use Rattle.elementary.specs.Constants as K
 use Rattle.budget.specs.declared.Budget.{Budget}
 use Rattle.budget.specs.Budget.{grantOf, takeOf}
 use Rattle.scene.specs.Scene.{Point}
-use Rattle.densify.specs.Densify.{clamped, partsOf, samePoint, closeRingOf, sharpCorners, leafOf}
+use Rattle.densify.specs.Densify.{clamped, segmentParts, samePoint, closeRingOf, sharpCorners, leafOf}
 
 -- 100 and 101
 abbrev c100 : Float
@@ -26,12 +26,12 @@ from left = record { left = left; hit = false }
 
 rows :
     -- 4: a segment of 100 m is one part, one of 101 m two
-    (partsOf c100 c100 ≡ 1)
-    × (partsOf c100 c101 ≡ 2)
+    (segmentParts c100 c100 ≡ 1)
+    × (segmentParts c100 c101 ≡ 2)
     -- 9: a sharp box of no width and height has 4 positions
     × (length (closeRingOf (sharpCorners origin K.zero K.zero)) ≡ 4)
     -- 12: a piece that is not flat, with 1 left: one point, short
     × (length (leafOf false origin (from 1) .points) ≡ 1)
     × (leafOf false origin (from 1) .after .hit ≡ true)
-unfolding partsOf clamped closeRingOf samePoint sharpCorners leafOf takeOf grantOf ceilOf toUnsigned ofBits ofInt neg add sub mul div lt eq le sum round units odd size climb span
+unfolding segmentParts clamped closeRingOf samePoint sharpCorners leafOf takeOf grantOf ceilOf toUnsigned ofBits ofInt neg add sub mul div lt eq le sum round units odd size climb span
 rows = (refl, refl, refl, refl, refl)

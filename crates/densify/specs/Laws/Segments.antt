@@ -11,8 +11,8 @@ use Rattle.budget.specs.declared.Budget.{Budget}
 use Rattle.budget.specs.declared.Taken.{Taken}
 use Rattle.budget.specs.Budget.{grantOf, takeOf}
 use Rattle.scene.specs.Scene.{Point}
-use Rattle.densify.specs.declared.writing.Done.{Done}
-use Rattle.densify.specs.Densify.{Made, plain, andThen, alongOf, samplesTo, segmentWant, segmentOf, segmentsOf, densifyPolylineOf}
+use Rattle.densify.specs.declared.append.PointCursor.{PointCursor}
+use Rattle.densify.specs.Densify.{Made, withoutDraws, andThen, alongOf, samplesTo, segmentWant, segmentOf, segmentsOf, densifyPolylineOf}
 use Rattle.densify.specs.Contracts.Written.{pointsIn, Written}
 use Rattle.densify.specs.Positions.{flats, pointOf, pointsOf}
 use Rattle.densify.specs.Laws.Writing.{flats-length, written-short, join-short, join-done, written-as, Leads, leads-next, leads-short, leads-end}
@@ -30,7 +30,7 @@ module _ (w : List Float) (i to : ℕ) where
 
 -- ---- a segment's samples, one by one
 -- an answer that says so of what had room
-written-fits : {w w′ : List Float} {at : ℕ} {m : Made} {r : Done} → Written w w′ at m r → r .ok ≡ true → Written w w′ at m (record { ok = true; at = r .at; budget = m .after })
+written-fits : {w w′ : List Float} {at : ℕ} {m : Made} {r : PointCursor} → Written w w′ at m r → r .ok ≡ true → Written w w′ at m (record { ok = true; at = r .at; budget = m .after })
 written-fits h fits =
     record {
       asked = sym fits ∙ h .asked;
@@ -43,7 +43,7 @@ written-fits h fits =
 
 module _ (f : ℕ → Point) where
   abbrev pub sampled : ℕ → Budget → Made
-  sampled k b = plain (samplesTo f k) b
+  sampled k b = withoutDraws (samplesTo f k) b
 
   samples-more : (k : ℕ) → 1 ≤ k → samplesTo f (k - 1) ++ (f k ∷ []) ≡ samplesTo f k
   unfolding samplesTo
@@ -53,11 +53,11 @@ module _ (f : ℕ → Point) where
   samples-room : (k : ℕ) → length (flats (samplesTo f k)) ≡ 2 * k
   samples-room k = rw (flats-length, samples-length)
 
-  module _ {w w₁ w₂ : List Float} {at next : ℕ} {b : Budget} {r : Done} (k : ℕ) (some : 1 ≤ k)
+  module _ {w w₁ w₂ : List Float} {at next : ℕ} {b : Budget} {r : PointCursor} (k : ℕ) (some : 1 ≤ k)
       (done : Written w w₁ at (sampled (k - 1) b) (record { ok = true; at = next; budget = b }))
-      (one : Written w₁ w₂ next (plain (f k ∷ []) b) r) where
+      (one : Written w₁ w₂ next (withoutDraws (f k ∷ []) b) r) where
     one-more : Written w w₂ at (sampled k b) r
-    one-more = written-as (plain _ b) (sampled k b) (samples-more k some) refl (join-done done (plain (f k ∷ [])) refl one)
+    one-more = written-as (withoutDraws _ b) (sampled k b) (samples-more k some) refl (join-done done (withoutDraws (f k ∷ [])) refl one)
 
     pub sample-next : r .ok ≡ true → Written w w₂ at (sampled (k + 1 - 1) b) (record { ok = true; at = r .at; budget = b })
     sample-next fits = let n : k + 1 - 1 ≡ k = omega arith in rw n (written-fits one-more fits)
@@ -83,16 +83,16 @@ abbrev pub onwards : Float → Float → List Float → ℕ → ℕ → Budget �
 onwards step scale w i to b = segmentsOf step scale (pointOf w i) (pointsIn w (i + 2) to) b
 
 module _ (step scale : Float) (w : List Float) (i to : ℕ) (b : Budget) where
-  pub polyline-none : to < i + 2 → densifyPolylineOf step scale (pointsIn w i to) b ≡ plain [] b
+  pub polyline-none : to < i + 2 → densifyPolylineOf step scale (pointsIn w i to) b ≡ withoutDraws [] b
   unfolding densifyPolylineOf
   polyline-none h = rw (points-none w i to h)
 
-  pub polyline-first : i + 2 ≤ to → densifyPolylineOf step scale (pointsIn w i to) b ≡ andThen (plain (pointOf w i ∷ []) b) (onwards step scale w i to)
+  pub polyline-first : i + 2 ≤ to → densifyPolylineOf step scale (pointsIn w i to) b ≡ andThen (withoutDraws (pointOf w i ∷ []) b) (onwards step scale w i to)
   unfolding densifyPolylineOf
   polyline-first h = rw (points-next w i to h)
 
   module _ (p : Point) where
-    pub segments-none : to < i + 2 → segmentsOf step scale p (pointsIn w i to) b ≡ plain [] b
+    pub segments-none : to < i + 2 → segmentsOf step scale p (pointsIn w i to) b ≡ withoutDraws [] b
     unfolding segmentsOf
     segments-none h = rw (points-none w i to h)
 
@@ -112,7 +112,7 @@ module _ (step scale : Float) (work : List Float) (i to : ℕ) (b : Budget) wher
     pub segments-end : to < i + 2 → next ≤ length w₁ → Written w w₁ at m (record { ok = true; at = next; budget = b })
     segments-end h k = leads-end (rw (segments-none step scale work i to b p h) at l) k
 
-    module _ (h : i + 2 ≤ to) {w₂ : List Float} {r : Done} (taken : Taken) (drawn : taken ≡ takeOf b (segmentWant step scale p (pointOf work i)) 1)
+    module _ (h : i + 2 ≤ to) {w₂ : List Float} {r : PointCursor} (taken : Taken) (drawn : taken ≡ takeOf b (segmentWant step scale p (pointOf work i)) 1)
         (one : Written w₁ w₂ next (sampled (λ k. alongOf p (pointOf work i) k (taken .granted)) (taken .granted) (taken .budget)) r) where
       turned : Leads w at m w₁ next (andThen (segmentOf step scale p (pointOf work i) b) (onwards step scale work i to))
       turned = subst (λ (x : Made). Leads w at m w₁ next x) (segments-next step scale work i to b p h) l
@@ -128,10 +128,10 @@ module _ (step scale : Float) (work : List Float) (i to : ℕ) (b : Budget) wher
       segment-next fits = rw (one .left fits) at (leads-next (onwards step scale work i to) turned written fits)
 
   -- the first point, and then the segments
-  module _ (h : i + 2 ≤ to) {w w₁ : List Float} {at : ℕ} {r : Done} (first : Written w w₁ at (plain (pointOf work i ∷ []) b) r) where
+  module _ (h : i + 2 ≤ to) {w w₁ : List Float} {at : ℕ} {r : PointCursor} (first : Written w w₁ at (withoutDraws (pointOf work i ∷ []) b) r) where
     pub polyline-short : r .ok ≡ false → Written w w₁ at (densifyPolylineOf step scale (pointsIn work i to) b) r
     polyline-short short = rw (polyline-first step scale work i to b h) (join-short first (onwards step scale work i to) short)
 
-    pub polyline-done : r .ok ≡ true → {w₂ : List Float} {s : Done} → Written w₁ w₂ (r .at) (onwards step scale work i to b) s
+    pub polyline-done : r .ok ≡ true → {w₂ : List Float} {s : PointCursor} → Written w₁ w₂ (r .at) (onwards step scale work i to b) s
         → Written w w₂ at (densifyPolylineOf step scale (pointsIn work i to) b) s
     polyline-done fits rest = rw (polyline-first step scale work i to b h) (join-done first (onwards step scale work i to) fits (rw (first .left fits) rest))

@@ -16,7 +16,7 @@ use Rattle.budget.specs.declared.Budget.{Budget}
 use Rattle.budget.specs.Budget.{grantOf, takeOf}
 use Rattle.budget.specs.Draws.{Draw, leftAfter}
 use Rattle.scene.specs.Scene.{Point, Cubic, Form, curve, polyline, DrawnPath}
-use Rattle.densify.specs.Densify.{Made, drawing, andThen, tiny, Block, flatOf, firstOf, secondOf, leafOf, pickMade, splitOf, flattenCubicOf, cubicsOf, formPoints, closedIf, pathPointsOf}
+use Rattle.densify.specs.Densify.{Made, withDraw, andThen, tiny, Block, flatOf, firstHalf, secondHalf, leafOf, pickMade, splitOf, flattenCubicOf, cubicsOf, formPoints, closedIf, pathPointsOf}
 use Rattle.densify.specs.Densify.{segmentOf, segmentsOf, densifyPolylineOf, arcVerticesOf, ellipseRingOf, quarterOf, boxRingOf}
 use Rattle.densify.specs.Laws.Replay.{Replays, grantsOf, blockOf, radiusOf}
 use Rattle.densify.specs.Draws.{drawsOf}
@@ -87,9 +87,9 @@ module _ (tol : Float) where
   unfolding splitOf
   split-halved zero c b = leaf-halved zero (flatOf tol c) (c .p3) b
   split-halved (suc k) c b =
-      let one = splitOf k tol (firstOf c) b in
+      let one = splitOf k tol (firstHalf c) b in
       pick-made (Halved (suc k) b) (flatOf tol c || ltb (b .left) 2) (leaf-halved (suc k) (flatOf tol c) (c .p3) b)
-      (then-halved k b one (λ r. splitOf k tol (secondOf c) r) (split-halved k (firstOf c) b) (split-halved k (secondOf c) (one .after)) (split-one k (secondOf c) (one .after)))
+      (then-halved k b one (λ r. splitOf k tol (secondHalf c) r) (split-halved k (firstHalf c) b) (split-halved k (secondHalf c) (one .after)) (split-one k (secondHalf c) (one .after)))
 
 halved-sized : {fuel : ℕ} {b : Budget} {m : Made} → Halved fuel b m → Sized (suc fuel) b m
 halved-sized {m = m} h = elim (eq-zero-or-pos (m .after .left)) [ inl z ↦ omega (arith, h .spent z) | inr p ↦ omega (arith, h .spare p) ]
@@ -124,7 +124,7 @@ module _ (tol : Float) where
       go false = omega (arith, form-sized (p .form) b)
 
 -- ---- rings: no more is granted than is wanted
-drawn-most : (b : Budget) (want floor : ℕ) (ps : List Point) → grantsOf (drawing b want floor (λ n. ps) .draws) ≤ want
+drawn-most : (b : Budget) (want floor : ℕ) (ps : List Point) → grantsOf (withDraw b want floor (λ n. ps) .draws) ≤ want
 unfolding grantsOf takeOf grantOf
 drawn-most b want floor ps = omega arith
 

@@ -12,8 +12,8 @@ use lib.Ieee.{Float}
 use borrow.Author.Tests.{le-leb, lt-leb, leb-true, leb-false}
 use Rattle.budget.specs.declared.Budget.{Budget}
 use Rattle.scene.specs.Scene.{Point}
-use Rattle.densify.specs.declared.writing.Done.{Done}
-use Rattle.densify.specs.Densify.{Made, plain, andThen}
+use Rattle.densify.specs.declared.append.PointCursor.{PointCursor}
+use Rattle.densify.specs.Densify.{Made, withoutDraws, andThen}
 use Rattle.densify.specs.Contracts.Written.{Written}
 use Rattle.densify.specs.Positions.{flats, put}
 
@@ -71,7 +71,7 @@ put-next w at ps p h =
 -- ---- Written
 module _ (w : List Float) (at : ℕ) (m : Made) where
   -- no room
-  pub written-short : (w′ : List Float) (r : Done) → length w < at + length (flats (m .points)) → r .ok ≡ false
+  pub written-short : (w′ : List Float) (r : PointCursor) → length w < at + length (flats (m .points)) → r .ok ≡ false
       → take at w′ ≡ take at w → length w′ ≡ length w → Written w w′ at m r
   written-short w′ r h short same whole =
       record {
@@ -84,7 +84,7 @@ module _ (w : List Float) (at : ℕ) (m : Made) where
       }
 
   -- all points stand there
-  pub written-all : (w′ : List Float) (r : Done) → at + length (flats (m .points)) ≤ length w → r .ok ≡ true
+  pub written-all : (w′ : List Float) (r : PointCursor) → at + length (flats (m .points)) ≤ length w → r .ok ≡ true
       → r .at ≡ at + length (flats (m .points)) → r .budget ≡ m .after → w′ ≡ put w at (flats (m .points)) → Written w w′ at m r
   written-all w′ r h fits n b there =
       record {
@@ -97,11 +97,11 @@ module _ (w : List Float) (at : ℕ) (m : Made) where
       }
 
 -- no points
-pub written-none : (w : List Float) (at : ℕ) (b : Budget) → at ≤ length w → Written w w at (plain [] b) (record { ok = true; at = at; budget = b })
+pub written-none : (w : List Float) (at : ℕ) (b : Budget) → at ≤ length w → Written w w at (withoutDraws [] b) (record { ok = true; at = at; budget = b })
 unfolding flats
-written-none w at b h = written-all w at (plain [] b) w _ (omega arith) refl (omega arith) refl (sym (put-none w at))
+written-none w at b h = written-all w at (withoutDraws [] b) w _ (omega arith) refl (omega arith) refl (sym (put-none w at))
 
-module _ {w w₁ : List Float} {at : ℕ} {a : Made} {r : Done} (one : Written w w₁ at a r) where
+module _ {w w₁ : List Float} {at : ℕ} {a : Made} {r : PointCursor} (one : Written w w₁ at a r) where
   pub written-room : r .ok ≡ true → at + length (flats (a .points)) ≤ length w
   written-room fits = leb-true _ _ (sym (one .asked) ∙ fits)
 
@@ -116,7 +116,7 @@ module _ {w w₁ : List Float} {at : ℕ} {a : Made} {r : Done} (one : Written w
       written-short w at (andThen a f) w₁ r (rw (flats-append, length-append) (omega arith)) short (one .before) (one .kept)
 
   -- a second from where the first ended
-  pub join-done : (f : Budget → Made) {w₂ : List Float} {s : Done} → r .ok ≡ true → Written w₁ w₂ (r .at) (f (r .budget)) s
+  pub join-done : (f : Budget → Made) {w₂ : List Float} {s : PointCursor} → r .ok ≡ true → Written w₁ w₂ (r .at) (f (r .budget)) s
       → Written w w₂ at (andThen a f) s
   join-done f {w₂} {s} fits two′ =
       let two : Written w₁ w₂ (r .at) (f (a .after)) s = rw (one .left fits) at two′ in
@@ -138,7 +138,7 @@ module _ {w w₁ : List Float} {at : ℕ} {a : Made} {r : Done} (one : Written w
       }
 
 -- only the points and what is left are told
-pub written-as : {w w′ : List Float} {at : ℕ} {r : Done} (m n : Made) → m .points ≡ n .points → m .after ≡ n .after → Written w w′ at m r → Written w w′ at n r
+pub written-as : {w w′ : List Float} {at : ℕ} {r : PointCursor} (m n : Made) → m .points ≡ n .points → m .after ≡ n .after → Written w w′ at m r → Written w w′ at n r
 written-as m n e f h =
     record {
       asked = rw (← e) (h .asked);
@@ -151,20 +151,20 @@ written-as m n e f h =
 
 -- ---- loops: whatever writes the rest from here has written the whole
 abbrev pub Leads : List Float → ℕ → Made → List Float → ℕ → Made → Type 0
-Leads w at m w₁ at₁ rest = (w₂ : List Float) (r : Done) → Written w₁ w₂ at₁ rest r → Written w w₂ at m r
+Leads w at m w₁ at₁ rest = (w₂ : List Float) (r : PointCursor) → Written w₁ w₂ at₁ rest r → Written w w₂ at m r
 
-module _ {w w₁ w₂ : List Float} {at at₁ : ℕ} {m a : Made} {r : Done} (f : Budget → Made) (l : Leads w at m w₁ at₁ (andThen a f)) (one : Written w₁ w₂ at₁ a r) where
+module _ {w w₁ w₂ : List Float} {at at₁ : ℕ} {m a : Made} {r : PointCursor} (f : Budget → Made) (l : Leads w at m w₁ at₁ (andThen a f)) (one : Written w₁ w₂ at₁ a r) where
   pub leads-next : r .ok ≡ true → Leads w at m w₂ (r .at) (f (r .budget))
   leads-next fits w₃ s h = l w₃ s (join-done one f fits h)
 
   pub leads-short : r .ok ≡ false → Written w w₂ at m r
   leads-short short = l w₂ r (join-short one f short)
 
-pub leads-end : {w w₁ : List Float} {at at₁ : ℕ} {m : Made} {b : Budget} → Leads w at m w₁ at₁ (plain [] b) → at₁ ≤ length w₁ → Written w w₁ at m (record { ok = true; at = at₁; budget = b })
+pub leads-end : {w w₁ : List Float} {at at₁ : ℕ} {m : Made} {b : Budget} → Leads w at m w₁ at₁ (withoutDraws [] b) → at₁ ≤ length w₁ → Written w w₁ at m (record { ok = true; at = at₁; budget = b })
 leads-end {w} {w₁} {at} {at₁} {m} {b} l h = l w₁ _ (written-none w₁ at₁ b h)
 
 -- ---- andThen
-pub andThen-none : (a : Made) → andThen a (plain []) ≡ a
+pub andThen-none : (a : Made) → andThen a (withoutDraws []) ≡ a
 andThen-none a = simp append-nil
 
 pub andThen-assoc : (a : Made) (f g : Budget → Made) → andThen (andThen a f) g ≡ andThen a (λ r. andThen (f r) g)

@@ -6,19 +6,19 @@ use Rattle.elementary.specs.Functions.{atanOf}
 use Rattle.elementary.proofs.atan.Statement.{statement}
 use Rattle.elementary.proofs.atan.Tie as tie
 
-atan-up-requires : tie.Need-atan-up-requires
-atan-up-requires c κs = search needs
+atan-nonneg-requires : tie.Need-atan-nonneg-requires
+atan-nonneg-requires c κs = search needs
 
 returns : tie.Need-returns
 unfolding atanOf
-returns c = ap neg (c .atan-up .ensures) ∙ taken _ _ _ (c .before .if1 .taken)
+returns c = ap neg (c .atan-nonneg .ensures) ∙ taken _ _ _ (c .before .if1 .taken)
 
-atan-up-requires-2 : tie.Need-atan-up-requires-2
-atan-up-requires-2 c κs = search needs
+atan-nonneg-requires-2 : tie.Need-atan-nonneg-requires-2
+atan-nonneg-requires-2 c κs = search needs
 
 returns-2 : tie.Need-returns-2
 unfolding atanOf
-returns-2 c = c .atan-up2 .ensures ∙ left _ _ _ (c .before .if1 .left)
+returns-2 c = c .atan-nonneg2 .ensures ∙ left _ _ _ (c .before .if1 .left)
 
 pub atan-spec : {M : Type 1} → statement M
-atan-spec = tie.close (tie.spec atan-up-requires returns atan-up-requires-2 returns-2)
+atan-spec = tie.close (tie.spec atan-nonneg-requires returns atan-nonneg-requires-2 returns-2)

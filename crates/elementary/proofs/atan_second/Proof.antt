@@ -6,19 +6,19 @@ use Rattle.elementary.specs.Contracts.Stages.{atanSecond}
 use Rattle.elementary.proofs.atan_second.Statement.{statement}
 use Rattle.elementary.proofs.atan_second.Tie as tie
 
-halved-requires : tie.Need-halved-requires
-halved-requires c κs = search needs
+half-angle-requires : tie.Need-half-angle-requires
+half-angle-requires c κs = search needs
 
 returns : tie.Need-returns
 unfolding atanSecond
-returns c = ap neg (c .halved .ensures) ∙ taken _ _ _ (c .before .if1 .taken)
+returns c = ap neg (c .half-angle .ensures) ∙ taken _ _ _ (c .before .if1 .taken)
 
-halved-requires-2 : tie.Need-halved-requires-2
-halved-requires-2 c κs = search needs
+half-angle-requires-2 : tie.Need-half-angle-requires-2
+half-angle-requires-2 c κs = search needs
 
 returns-2 : tie.Need-returns-2
 unfolding atanSecond
-returns-2 c = c .halved2 .ensures ∙ left _ _ _ (c .before .if1 .left)
+returns-2 c = c .half-angle2 .ensures ∙ left _ _ _ (c .before .if1 .left)
 
 pub atan-second-spec : {M : Type 1} → statement M
-atan-second-spec = tie.close (tie.spec halved-requires returns halved-requires-2 returns-2)
+atan-second-spec = tie.close (tie.spec half-angle-requires returns half-angle-requires-2 returns-2)

@@ -11,20 +11,20 @@ use Rattle.elementary.proofs.ln_positive.Tie as tie
 held : (c : tie.Start) → T (fits binary64 (c .args .v))
 held c = subst T (sym (c .good .0 .1)) tt
 
-float-to-bits-split : tie.Need-float-to-bits-split
-float-to-bits-split c = positive-number (c .args .v) (c .pre)
+float-to-bits-decompose : tie.Need-float-to-bits-decompose
+float-to-bits-decompose c = positive-number (c .args .v) (c .pre)
 
-split-requires : tie.Need-split-requires
-split-requires c κs = positive-bits (c .args .v) (c .pre) (held c)
+decompose-requires : tie.Need-decompose-requires
+decompose-requires c κs = positive-bits (c .args .v) (c .pre) (held c)
 
 add-m : tie.Need-add-m
 add-m c = search needs
 
 float-from-bits-m : tie.Need-float-from-bits-m
-float-from-bits-m c = pattern-no-nan (c .before .split .result .m) (c .before .split .ensures .full) (c .before .split .ensures .small)
+float-from-bits-m c = pattern-no-nan (c .before .decompose .result .m) (c .before .decompose .ensures .full) (c .before .decompose .ensures .small)
 
 int-to-float-e : tie.Need-int-to-float-e
-int-to-float-e c = exponent-fits (c .before .before .split .result .e) (c .before .before .split .ensures .high)
+int-to-float-e c = exponent-fits (c .before .before .decompose .result .e) (c .before .before .decompose .ensures .high)
 
 ln-at-requires : tie.Need-ln-at-requires
 ln-at-requires c κs = search needs
@@ -32,14 +32,14 @@ ln-at-requires c κs = search needs
 returns : tie.Need-returns
 returns c =
     let s = c .before .before .before in
-    c .ln-at .ensures ∙ ln-split (s .before .args .v) (s .split .result .m) (s .split .result .e) (s .before .pre) (held (s .before)) (s .split .ensures)
+    c .ln-at .ensures ∙ ln-split (s .before .args .v) (s .decompose .result .m) (s .decompose .result .e) (s .before .pre) (held (s .before)) (s .decompose .ensures)
 
 pub ln-positive-spec : {M : Type 1} → statement M
 ln-positive-spec =
     tie.close
     (tie.spec
-    float-to-bits-split
-    split-requires
+    float-to-bits-decompose
+    decompose-requires
     add-m
     float-from-bits-m
     int-to-float-e

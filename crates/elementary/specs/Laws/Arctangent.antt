@@ -21,9 +21,9 @@ use Rattle.root.specs.Root.{rootOf}
 use Rattle.root.specs.Laws.Root.{minusOne, rootTwo, unit-root}
 use Rattle.elementary.specs.Constants as K
 use Rattle.elementary.specs.Series.{oddOf, arctangentTable}
-use Rattle.elementary.specs.Functions.{heldOf, halvedOf, atanAt, atanUp, atanOf}
+use Rattle.elementary.specs.Functions.{clampOf, halfAngleOf, atanSmall, atanNonneg, atanOf}
 use Rattle.elementary.specs.Laws.Codes.{encloses, enclosed, odd-code, odd-is}
-use Rattle.elementary.specs.Laws.Held.{held-keeps}
+use Rattle.elementary.specs.Laws.Clamp.{held-keeps}
 use Rattle.elementary.specs.Laws.Powers.{power}
 use Rattle.elementary.specs.Laws.Exponential.{c1/64, c64}
 
@@ -68,8 +68,8 @@ abbrev pub halved-encloses : Float → Float → Bool
 halved-encloses a b = encloses (halved-code (var 0) (var 1)) (iv a K.one ∷ roots ∷ []) b K.one
 
 -- from a to 1, with a not below 0
-pub halved-from : (a b v : Float) → T (le K.zero a) → T (halved-encloses a b) → Between a K.one v → Between b K.one (halvedOf v)
-unfolding halvedOf
+pub halved-from : (a b v : Float) → T (le K.zero a) → T (halved-encloses a b) → Between a K.one v → Between b K.one (halfAngleOf v)
+unfolding halfAngleOf
 halved-from a b v z t i =
     enclosed (halved-code (var 0) (var 1)) (iv a K.one ∷ roots ∷ []) (v ∷ rootOf (add binary64 K.one (mul binary64 v v)) ∷ []) b K.one t
     (i, (root-in v (record { low = le-trans K.zero a v z (i .low); high = i .high; fl = unfold ofBits in tt; fh = i .fh }), tt))
@@ -78,7 +78,7 @@ halved-test : T (le K.zero K.zero) × T (halved-encloses K.zero K.zero)
 unfolding ofBits add div le
 halved-test = (tt, tt)
 
-halved-in : (v : Float) → Between K.zero K.one v → Between K.zero K.one (halvedOf v)
+halved-in : (v : Float) → Between K.zero K.one v → Between K.zero K.one (halfAngleOf v)
 halved-in v i = halved-from K.zero K.zero v (halved-test .0) (halved-test .1) i
 
 -- over v, the root for v and the root for its half
@@ -103,38 +103,38 @@ record Ends (a lo hi : Float) : Type 0 where
   rest : T (encloses rest-code (iv lo K.one ∷ []) lo hi)
 
 module _ (a lo hi : Float) (t : Ends a lo hi) where
-  at-in : (v : Float) → Between a K.one v → Between lo K.one (atanAt v)
-  unfolding atanAt halvedOf
+  at-in : (v : Float) → Between a K.one v → Between lo K.one (atanSmall v)
+  unfolding atanSmall halfAngleOf
   at-in v i =
       let j : Between K.zero K.one v = record { low = le-trans K.zero a v (t .from) (i .low); high = i .high; fl = unfold ofBits in tt; fh = i .fh } in
-      let h = halvedOf v in
-      let w = halvedOf h in
+      let h = halfAngleOf v in
+      let w = halfAngleOf h in
       let r = rootOf (add binary64 K.one (mul binary64 v v)) in
       let q = rootOf (add binary64 K.one (mul binary64 h h)) in
       held-keeps K.zero K.fracPi2 lo K.one (mul binary64 K.four (oddOf arctangentTable w)) (t .least) unit-end
       (subst (λ (z : Float). Between lo K.one (mul binary64 K.four z)) (odd-is arctangentTable w (v ∷ r ∷ q ∷ []))
       (enclosed at-code (iv a K.one ∷ roots ∷ roots ∷ []) (v ∷ r ∷ q ∷ []) lo K.one (t .unit) (i, (root-in v j, (root-in h (halved-in v j), tt)))))
 
-  up-in : (v : Float) → (T (not (lt K.one v)) → Between a K.one v) → (T (lt K.one v) → Between a K.one (div binary64 K.one v)) → Between lo hi (atanUp v)
-  unfolding atanUp
+  up-in : (v : Float) → (T (not (lt K.one v)) → Between a K.one v) → (T (lt K.one v) → Between a K.one (div binary64 K.one v)) → Between lo hi (atanNonneg v)
+  unfolding atanNonneg
   up-in v f g = go (lt K.one v) f g
     where
       turned : Float
-      turned = heldOf K.zero K.fracPi2 (sub binary64 K.fracPi2 (atanAt (div binary64 K.one v)))
+      turned = clampOf K.zero K.fracPi2 (sub binary64 K.fracPi2 (atanSmall (div binary64 K.one v)))
 
-      go : (b : Bool) → (T (not b) → Between a K.one v) → (T b → Between a K.one (div binary64 K.one v)) → Between lo hi (pick b turned (atanAt v))
+      go : (b : Bool) → (T (not b) → Between a K.one v) → (T b → Between a K.one (div binary64 K.one v)) → Between lo hi (pick b turned (atanSmall v))
       go true f g =
-          let z = atanAt (div binary64 K.one v) in
+          let z = atanSmall (div binary64 K.one v) in
           held-keeps K.zero K.fracPi2 lo hi (sub binary64 K.fracPi2 z) (t .least) (t .within) (enclosed rest-code (iv lo K.one ∷ []) (z ∷ []) lo hi (t .rest) (at-in (div binary64 K.one v) (g tt), tt))
       go false f g =
           let i = at-in v (f tt) in
-          record { low = i .low; high = le-trans (atanAt v) K.one hi (i .high) (t .most); fl = i .fl; fh = t .is-finite }
+          record { low = i .low; high = le-trans (atanSmall v) K.one hi (i .high) (t .most); fl = i .fl; fh = t .is-finite }
 
   of-in : (v : Float) → T (le K.zero v) → (T (not (lt K.one v)) → Between a K.one v) → (T (lt K.one v) → Between a K.one (div binary64 K.one v)) → Between lo hi (atanOf v)
   unfolding atanOf
   of-in v h f g = go (lt v K.zero) (le→not-lt K.zero v (unfold ofBits in tt) h)
     where
-      go : (b : Bool) → T (not b) → Between lo hi (pick b (neg (atanUp (neg v))) (atanUp v))
+      go : (b : Bool) → T (not b) → Between lo hi (pick b (neg (atanNonneg (neg v))) (atanNonneg v))
       go true n = absurd n
       go false n = up-in v f g
 

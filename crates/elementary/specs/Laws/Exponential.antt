@@ -23,10 +23,10 @@ use Rattle.float.specs.Laws.Every.{every, every-at, split-at}
 use Rattle.float.specs.Laws.Whole.{round-cuts, whole-value}
 use Rattle.elementary.specs.Constants as K
 use Rattle.elementary.specs.Series.{seriesOf, exponentialTable}
-use Rattle.elementary.specs.Functions.{heldOf, twoTo, expAt, expOf}
+use Rattle.elementary.specs.Functions.{clampOf, twoTo, expAt, expOf}
 use Rattle.elementary.specs.Contracts.Powers.{Small}
 use Rattle.elementary.specs.Laws.Codes.{encloses, enclosed, plain-code, plain-range}
-use Rattle.elementary.specs.Laws.Held.{held-in, held-keeps}
+use Rattle.elementary.specs.Laws.Clamp.{held-in, held-keeps}
 use Rattle.elementary.specs.Laws.Powers.{power, two-to-in}
 
 -- ---- the whole number nearest to y, and where y lies then
@@ -121,7 +121,7 @@ ends : T (le K.m700 K.c700)
 unfolding ofBits neg le
 ends = tt
 
-held-700 : (v : Float) → T (not (isNan v)) → Between K.m700 K.c700 (heldOf K.m700 K.c700 v)
+held-700 : (v : Float) → T (not (isNan v)) → Between K.m700 K.c700 (clampOf K.m700 K.c700 v)
 unfolding ofBits neg
 held-700 v n = held-in K.m700 K.c700 v tt tt ends n
 
@@ -132,13 +132,13 @@ quotient-test : T (encloses over-ln2 (iv K.m700 K.c700 ∷ []) (whole true 1010)
 unfolding ofBits neg div le
 quotient-test = tt
 
-quotient-in : (v : Float) → T (not (isNan v)) → Between (whole true 1010) (whole false 1010) (div binary64 (heldOf K.m700 K.c700 v) K.ln2)
-quotient-in v n = enclosed over-ln2 (iv K.m700 K.c700 ∷ []) (heldOf K.m700 K.c700 v ∷ []) (whole true 1010) (whole false 1010) quotient-test (held-700 v n, tt)
+quotient-in : (v : Float) → T (not (isNan v)) → Between (whole true 1010) (whole false 1010) (div binary64 (clampOf K.m700 K.c700 v) K.ln2)
+quotient-in v n = enclosed over-ln2 (iv K.m700 K.c700 ∷ []) (clampOf K.m700 K.c700 v ∷ []) (whole true 1010) (whole false 1010) quotient-test (held-700 v n, tt)
 
-pub exponent-small : (v : Float) → T (not (isNan v)) → Small (roundOf (div binary64 (heldOf K.m700 K.c700 v) K.ln2))
+pub exponent-small : (v : Float) → T (not (isNan v)) → Small (roundOf (div binary64 (clampOf K.m700 K.c700 v) K.ln2))
 exponent-small v n =
-    let y = div binary64 (heldOf K.m700 K.c700 v) K.ln2 in
-    let r = nearest 1010 y (div-fits binary64 (heldOf K.m700 K.c700 v) K.ln2) (quotient-in v n) in
+    let y = div binary64 (clampOf K.m700 K.c700 v) K.ln2 in
+    let r = nearest 1010 y (div-fits binary64 (clampOf K.m700 K.c700 v) K.ln2) (quotient-in v n) in
     record { minus = r .minus; size = r .size; whole = r .whole; most = r .few }
 
 at-nan : nan ≡ expOf nan
@@ -337,7 +337,7 @@ mid-ends = (refl, refl)
 pub exp-in : (v : Float) → T (not (isNan v)) → Between exp-least exp-most (expOf v)
 unfolding expOf
 exp-in v n =
-    let w = heldOf K.m700 K.c700 v in
+    let w = clampOf K.m700 K.c700 v in
     exp-at 1010 exp-least exp-most w (lit≤ tt) (wide-ends .0) (wide-ends .1) tt tt (in-finite K.m700 K.c700 w (held-700 v n)) (quotient-in v n)
 
 pub exp-finite : (v : Float) → T (not (isNan v)) → T (finite (expOf v))
@@ -357,6 +357,6 @@ mid-test = tt
 pub exp-mid : (v : Float) → Between m3·25 c3·25 v → Between c1/64 c64 (expOf v)
 unfolding expOf
 exp-mid v i =
-    let w = heldOf K.m700 K.c700 v in
+    let w = clampOf K.m700 K.c700 v in
     let j = held-keeps K.m700 K.c700 m3·25 c3·25 v (mid-held .0) (mid-held .1) i in
     exp-at 5 c1/64 c64 w (lit≤ tt) (mid-ends .0) (mid-ends .1) tt tt (in-finite m3·25 c3·25 w j) (enclosed over-ln2 (iv m3·25 c3·25 ∷ []) (w ∷ []) (whole true 5) (whole false 5) mid-test (j, tt))

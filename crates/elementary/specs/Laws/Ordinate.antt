@@ -20,7 +20,7 @@ use Rattle.float.specs.Laws.Remainder.{fits-digits}
 use Rattle.float.specs.Laws.Exact.{fits-top, own-round}
 use Rattle.elementary.specs.Constants as K
 use Rattle.elementary.specs.Series.{sineTable, cosineTable, logarithmTable}
-use Rattle.elementary.specs.Functions.{toRadiansOf, turnOf, restOf, sinOf, cosOf, tanOf, lnAt, lnOf}
+use Rattle.elementary.specs.Functions.{toRadiansOf, remTauOf, restOf, sinOf, cosOf, tanOf, lnAt, lnOf}
 use Rattle.elementary.specs.Laws.Codes.{encloses, enclosed, even-code, odd-code}
 use Rattle.elementary.specs.Laws.Logarithm.{Digits, digits, units-some, units-few, significand-on, significand-in, exponent-on, log-code, whole, ln-on}
 use Rattle.elementary.specs.Laws.Sine.{bound, rest-code}
@@ -63,7 +63,7 @@ slanted : (a : Float) → Between lo hi a → Slanted a
 slanted a i = record { low = le-trans c1/256 lo a (slant-ends .0) (i .low); high = le-trans a hi c1·5707 (i .high) (slant-ends .1); fl = tt; fh = tt }
 
 -- ---- the tangent: a value of the format below FRAC_PI_2 is its own turn's part
-turn-own : (a : Float) → T (positive a) → Slanted a → T (fits binary64 a) → turnOf a ≡ a
+turn-own : (a : Float) → T (positive a) → Slanted a → T (fits binary64 a) → remTauOf a ≡ a
 turn-own nan p i f = absurd p
 turn-own (inf s) p i f = absurd p
 turn-own (fin true m e) p i f = absurd p
@@ -73,7 +73,7 @@ rest-test : T (encloses (rest-code K.zero) (iv lo hi ∷ []) lo hi)
 unfolding ofBits sub mul le
 rest-test = tt
 
-rest-in : (a : Float) → T (fits binary64 a) → Between lo hi a → Between lo hi (restOf (turnOf a))
+rest-in : (a : Float) → T (fits binary64 a) → Between lo hi a → Between lo hi (restOf (remTauOf a))
 rest-in a f i =
     let j = slanted a i in
     subst (λ (z : Float). Between lo hi (restOf z)) (sym (turn-own a (slanted-positive a j) j f)) (rest-on lo hi a rest-test j i)

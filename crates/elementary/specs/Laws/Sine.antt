@@ -19,7 +19,7 @@ use Rattle.float.specs.Laws.Expressions.{Expr, var, lit, less, times, over, fit
 use Rattle.float.specs.Laws.Remainder.{Own, rem-high, rem-nonneg, floor-low, floor-high}
 use Rattle.elementary.specs.Constants as K
 use Rattle.elementary.specs.Series.{evenOf, oddOf, sineTable, cosineTable}
-use Rattle.elementary.specs.Functions.{turnOf, quadrantOf, restOf, sineAt, cosineAt, sinOf, cosOf}
+use Rattle.elementary.specs.Functions.{remTauOf, quadrantOf, restOf, sineAt, cosineAt, sinOf, cosOf}
 use Rattle.elementary.specs.Laws.Codes.{encloses, enclosed, even-code, odd-code, even-range, odd-range}
 
 -- 1 + 1/64, and its opposite
@@ -76,14 +76,14 @@ own : Own K.tau
 unfolding ofBits round
 own = refl
 
-pub turn-in : (t : Float) → T (finite t) → Between K.zero K.tau (turnOf t)
-unfolding turnOf ofBits
+pub turn-in : (t : Float) → T (finite t) → Between K.zero K.tau (remTauOf t)
+unfolding remTauOf ofBits
 turn-in t p =
     let s = abs-plain t p in
     record { low = rem-nonneg (absOf t) K.tau (s .0) tt (lit< tt) (s .1); high = rem-high (absOf t) K.tau (s .0) tt (lit< tt) own; fl = tt; fh = tt }
 
-turn-sign : (t : Float) → T (finite t) → T (nonneg (turnOf t))
-unfolding turnOf absOf rem ofBits
+turn-sign : (t : Float) → T (finite t) → T (nonneg (remTauOf t))
+unfolding remTauOf absOf rem ofBits
 turn-sign nan p = absurd p
 turn-sign (inf s) p = absurd p
 turn-sign (fin s m e) p = round-nonneg binary64 (m * up e * 2 ^ 47 % (884279719003555 * 1 * down e)) (down e * 2 ^ 47)
@@ -227,10 +227,10 @@ module _ (r : Float) (i : Between K.zero K.tau r) where
       four : T (le (fin false m d) K.four) → T (le (fin false m d) (whole 4))
       four h = le-trans (fin false m d) K.four (whole 4) h (unfold le in tt)
 
-pub quadrant : (t : Float) → T (finite t) → Quadrant (turnOf t)
+pub quadrant : (t : Float) → T (finite t) → Quadrant (remTauOf t)
 quadrant t f =
     let i = turn-in t f in
-    by-quotient (turnOf t) i (div binary64 (turnOf t) K.fracPi2) refl (quotient-sign (turnOf t) (in-finite K.zero K.tau (turnOf t) i) (turn-sign t f)) (quotient-in (turnOf t) i)
+    by-quotient (remTauOf t) i (div binary64 (remTauOf t) K.fracPi2) refl (quotient-sign (remTauOf t) (in-finite K.zero K.tau (remTauOf t) i) (turn-sign t f)) (quotient-in (remTauOf t) i)
 
 -- ---- the bounds
 at-quadrant : (r : Float) → Quadrant r → UnitSize (sineAt (quadrantOf r) (restOf r)) × UnitSize (cosineAt (quadrantOf r) (restOf r))
@@ -253,7 +253,7 @@ at-quadrant r Q =
 
 pub sin-unit : (t : Float) → T (finite t) → UnitSize (sinOf t)
 unfolding sinOf
-sin-unit t f = go (lt t K.zero) (sineAt (quadrantOf (turnOf t)) (restOf (turnOf t))) (at-quadrant (turnOf t) (quadrant t f) .0)
+sin-unit t f = go (lt t K.zero) (sineAt (quadrantOf (remTauOf t)) (restOf (remTauOf t))) (at-quadrant (remTauOf t) (quadrant t f) .0)
   where
     go : (b : Bool) (v : Float) → UnitSize v → UnitSize (pick b (neg v) v)
     go true v h = minus-unit v h
@@ -261,4 +261,4 @@ sin-unit t f = go (lt t K.zero) (sineAt (quadrantOf (turnOf t)) (restOf (turnOf 
 
 pub cos-unit : (t : Float) → T (finite t) → UnitSize (cosOf t)
 unfolding cosOf
-cos-unit t f = at-quadrant (turnOf t) (quadrant t f) .1
+cos-unit t f = at-quadrant (remTauOf t) (quadrant t f) .1

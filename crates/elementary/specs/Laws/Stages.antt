@@ -18,7 +18,7 @@ use Rattle.float.specs.Laws.Intervals.{iv, Between}
 use Rattle.float.specs.Laws.Order.{le-trans}
 use Rattle.float.specs.Laws.Expressions.{var, lit, over}
 use Rattle.elementary.specs.Constants as K
-use Rattle.elementary.specs.Functions.{heldOf, expOf, halvedOf, atanAt, atanUp, atanOf}
+use Rattle.elementary.specs.Functions.{clampOf, expOf, halfAngleOf, atanSmall, atanNonneg, atanOf}
 use Rattle.elementary.specs.Contracts.Stages.{atanFirst, atanSecond, quadrupled, atanThird}
 use Rattle.elementary.specs.Laws.Codes.{encloses, enclosed}
 use Rattle.elementary.specs.Laws.Powers.{power}
@@ -65,21 +65,21 @@ unfolding ofBits add div le
 halved-tests = (tt, tt)
 
 module _ (v : Float) (i : Between exp-least K.one v) where
-  once : Between (power true 1013) K.one (halvedOf v)
+  once : Between (power true 1013) K.one (halfAngleOf v)
   once = halved-from exp-least (power true 1013) v (zero-low 1011) (halved-tests .0) i
 
-  first : Above (halvedOf v)
-  first = above 1013 (halvedOf v) once
+  first : Above (halfAngleOf v)
+  first = above 1013 (halfAngleOf v) once
 
-  second : Above (halvedOf (halvedOf v))
-  second = above 1015 (halvedOf (halvedOf v)) (halved-from (power true 1013) (power true 1015) (halvedOf v) (zero-low 1013) (halved-tests .1) once)
+  second : Above (halfAngleOf (halfAngleOf v))
+  second = above 1015 (halfAngleOf (halfAngleOf v)) (halved-from (power true 1013) (power true 1015) (halfAngleOf v) (zero-low 1013) (halved-tests .1) once)
 
-  within : atanThird (atanSecond (halvedOf v)) ≡ atanAt v
-  unfolding atanSecond atanThird quadrupled atanAt
+  within : atanThird (atanSecond (halfAngleOf v)) ≡ atanSmall v
+  unfolding atanSecond atanThird quadrupled atanSmall
   within = rw (first .plus, second .plus)
 
-  beyond : atanThird (atanSecond (neg (halvedOf v))) ≡ heldOf K.zero K.fracPi2 (sub binary64 K.fracPi2 (atanAt v))
-  unfolding atanSecond atanThird quadrupled atanAt
+  beyond : atanThird (atanSecond (neg (halfAngleOf v))) ≡ clampOf K.zero K.fracPi2 (sub binary64 K.fracPi2 (atanSmall v))
+  unfolding atanSecond atanThird quadrupled atanSmall
   beyond = rw (first .minus, first .back, second .minus, second .back)
 
 -- ---- both
@@ -88,15 +88,15 @@ unfolding ofBits div le
 inverse-test = tt
 
 stages : (v : Float) → Between exp-least exp-most v → atanThird (atanSecond (atanFirst v)) ≡ atanOf v
-unfolding atanFirst atanOf atanUp
+unfolding atanFirst atanOf atanNonneg
 stages v i = rw (is-false (lt v K.zero) (le→not-lt K.zero v (unfold ofBits in tt) low)) (go (lt K.one v) (lt→le K.one v) (unit-high v low))
   where
     low : T (le K.zero v)
     low = le-trans K.zero exp-least v (zero-low 1011) (i .low)
 
     go : (b : Bool) → (T b → T (le K.one v)) → (T (not b) → T (le v K.one))
-        → atanThird (atanSecond (pick b (neg (halvedOf (div binary64 K.one v))) (halvedOf v)))
-        ≡ pick b (heldOf K.zero K.fracPi2 (sub binary64 K.fracPi2 (atanAt (div binary64 K.one v)))) (atanAt v)
+        → atanThird (atanSecond (pick b (neg (halfAngleOf (div binary64 K.one v))) (halfAngleOf v)))
+        ≡ pick b (clampOf K.zero K.fracPi2 (sub binary64 K.fracPi2 (atanSmall (div binary64 K.one v)))) (atanSmall v)
     go true f g =
         beyond (div binary64 K.one v)
         (enclosed (over (lit K.one) (var 0)) (iv K.one exp-most ∷ []) (v ∷ []) exp-least K.one inverse-test (record { low = f tt; high = i .high; fl = unfold ofBits in tt; fh = i .fh }, tt))
@@ -104,7 +104,7 @@ stages v i = rw (is-false (lt v K.zero) (le→not-lt K.zero v (unfold ofBits in 
 
 -- every test of a NaN fails
 at-nan : atanThird (atanSecond (atanFirst nan)) ≡ atanOf nan
-unfolding atanFirst atanSecond atanThird quadrupled atanOf atanUp atanAt halvedOf lt div ofBits
+unfolding atanFirst atanSecond atanThird quadrupled atanOf atanNonneg atanSmall halfAngleOf lt div ofBits
 at-nan = refl
 
 pub stages-exp : (u : Float) → atanThird (atanSecond (atanFirst (expOf u))) ≡ atanOf (expOf u)

@@ -20,7 +20,7 @@ use Rattle.float.specs.Laws.Intervals.{iv, Between}
 use Rattle.float.specs.Laws.Expressions.{var, over, fits-in}
 use Rattle.elementary.specs.Constants as K
 use Rattle.elementary.specs.Series.{evenOf, oddOf, sineTable, cosineTable}
-use Rattle.elementary.specs.Functions.{turnOf, quadrantOf, restOf, sineAt, cosineAt, sinOf, cosOf, tanOf}
+use Rattle.elementary.specs.Functions.{remTauOf, quadrantOf, restOf, sineAt, cosineAt, sinOf, cosOf, tanOf}
 use Rattle.elementary.specs.Laws.Codes.{encloses, enclosed, even-code, odd-code, even-range, odd-range}
 use Rattle.elementary.specs.Laws.Powers.{power}
 use Rattle.elementary.specs.Laws.Sine.{bound, quotient-code, rest-code}
@@ -59,14 +59,14 @@ rounded-in m e i =
 short : (x d : ℕ) → 0 < d → x * 2 ^ 51 ≤ 3536901967355419 * d → x * 2 ^ 47 < 884279719003555 * 1 * d
 short x d D h = omega arith
 
-pub turn-is : (m : ℕ) (e : ℤ) → Slanted (fin false m e) → turnOf (fin false m e) ≡ round binary64 false (m * up e) (down e)
-unfolding turnOf absOf rem ofBits
+pub turn-is : (m : ℕ) (e : ℤ) → Slanted (fin false m e) → remTauOf (fin false m e) ≡ round binary64 false (m * up e) (down e)
+unfolding remTauOf absOf rem ofBits
 turn-is m e i =
     let h = le→ (fin false m e) c1·5707 tt tt (i .high) in
     ap (λ (j : ℕ). round binary64 false j (down e * 2 ^ 47)) (mod-eq-of-lt (short (m * up e) (down e) (down-pos e) (omega arith)))
     ∙ round-same binary64 false (m * up e * 2 ^ 47) (down e * 2 ^ 47) (m * up e) (down e) (mul-pos (down-pos e) (pow-pos 47)) (down-pos e) (omega arith)
 
-turn-in : (a : Float) → T (positive a) → Slanted a → Slanted (turnOf a)
+turn-in : (a : Float) → T (positive a) → Slanted a → Slanted (remTauOf a)
 turn-in nan p i = absurd p
 turn-in (inf s) p i = absurd p
 turn-in (fin true m e) p i = absurd p
@@ -141,29 +141,29 @@ unfolding ofBits le
 above-zero = tt
 
 -- what the series give where the rest lies from a to b
-pub sin-on : (lo hi a b x : Float) → T (finite lo) → T (finite hi) → T (fits-in 20 (odd-code sineTable) lo hi a b) → Slanted x → Between a b (restOf (turnOf x)) → Between lo hi (sinOf x)
+pub sin-on : (lo hi a b x : Float) → T (finite lo) → T (finite hi) → T (fits-in 20 (odd-code sineTable) lo hi a b) → Slanted x → Between a b (restOf (remTauOf x)) → Between lo hi (sinOf x)
 unfolding sinOf
 sin-on lo hi a b x p q t i k = go (lt x K.zero) (le→not-lt K.zero x (unfold ofBits in tt) (le-trans K.zero c1/256 x above-zero (i .low)))
   where
     r : Float
-    r = turnOf x
+    r = remTauOf x
 
     go : (b : Bool) → T (not b) → Between lo hi (pick b (neg (sineAt (quadrantOf r) (restOf r))) (sineAt (quadrantOf r) (restOf r)))
     go true n = absurd n
     go false n =
         subst (Between lo hi) (first-sine (quadrantOf r) (restOf r) (quadrant-is r (turn-in x (slanted-positive x i) i))) (odd-range 20 sineTable lo hi a b (restOf r) p q t k)
 
-pub cos-on : (lo hi a b x : Float) → T (finite lo) → T (finite hi) → T (fits-in 20 (even-code cosineTable) lo hi a b) → Slanted x → Between a b (restOf (turnOf x)) → Between lo hi (cosOf x)
+pub cos-on : (lo hi a b x : Float) → T (finite lo) → T (finite hi) → T (fits-in 20 (even-code cosineTable) lo hi a b) → Slanted x → Between a b (restOf (remTauOf x)) → Between lo hi (cosOf x)
 unfolding cosOf
 cos-on lo hi a b x p q t i k =
-    let r = turnOf x in
+    let r = remTauOf x in
     subst (Between lo hi) (first-cosine (quadrantOf r) (restOf r) (quadrant-is r (turn-in x (slanted-positive x i) i))) (even-range 20 cosineTable lo hi a b (restOf r) p q t k)
 
 sin-in : (a : Float) → Slanted a → Between sine-least bound (sinOf a)
-sin-in a i = sin-on sine-least bound c1/256 c1·5707 a tt tt sine-test i (rest-in (turnOf a) (turn-in a (slanted-positive a i) i))
+sin-in a i = sin-on sine-least bound c1/256 c1·5707 a tt tt sine-test i (rest-in (remTauOf a) (turn-in a (slanted-positive a i) i))
 
 cos-in : (a : Float) → Slanted a → Between cosine-least bound (cosOf a)
-cos-in a i = cos-on cosine-least bound c1/256 c1·5707 a tt tt cosine-test i (rest-in (turnOf a) (turn-in a (slanted-positive a i) i))
+cos-in a i = cos-on cosine-least bound c1/256 c1·5707 a tt tt cosine-test i (rest-in (remTauOf a) (turn-in a (slanted-positive a i) i))
 
 -- ---- the law
 abbrev pub tan-least : Float

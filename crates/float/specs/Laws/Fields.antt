@@ -12,8 +12,8 @@ use lib.Ieee.Digits.{size-le}
 use lib.Ieee.Fits.{down-pos}
 use lib.Ieee.Exact.{HasValue, odd-sign}
 use lib.Ieee.Bits.{ofBits-toBits}
-use Rattle.float.specs.Contracts.Split.{unitsAt}
-use Rattle.float.specs.Contracts.Pointed.{signOf, fieldOf}
+use Rattle.float.specs.Contracts.Decomposition.{unitsAt}
+use Rattle.float.specs.Contracts.Fraction.{signOf, fieldOf}
 use Rattle.float.specs.Laws.Quick.{size-gt}
 
 -- ---- from a pattern to its value

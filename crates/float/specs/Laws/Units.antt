@@ -14,9 +14,9 @@ use lib.Ieee.Digits.{size-le}
 use lib.Ieee.Exact.{HasValue}
 use lib.Ieee.Fits.{up-pos, down-pos, kept-lt}
 use lib.Ieee.Positive.{positive}
-use Rattle.float.specs.Contracts.Split.{unitsAt}
+use Rattle.float.specs.Contracts.Decomposition.{unitsAt}
 use Rattle.float.specs.Laws.Remainder.{fits-digits}
-use Rattle.float.specs.Contracts.Pointed.{fieldOf}
+use Rattle.float.specs.Contracts.Fraction.{fieldOf}
 use Rattle.float.specs.Laws.Exact.{fits-top}
 use Rattle.float.specs.Laws.Fields.{of-fields, fields-value}
 

@@ -7,8 +7,8 @@ use Rattle.geodesy.specs.Geodesy.{radius, normalizeLonOf}
 unfoldable pub longitudeOf : Float → Float
 longitudeOf x = normalizeLonOf (toDegreesOf (div binary64 x radius))
 
-unfoldable pub stretchOf : Float → Float
-stretchOf y = expOf (div binary64 y radius)
+unfoldable pub expOrdinateOf : Float → Float
+expOrdinateOf y = expOf (div binary64 y radius)
 
-unfoldable pub northOf : Float → Float
-northOf a = toDegreesOf (sub binary64 (mul binary64 K.two a) K.fracPi2)
+unfoldable pub latitudeOf : Float → Float
+latitudeOf a = toDegreesOf (sub binary64 (mul binary64 K.two a) K.fracPi2)

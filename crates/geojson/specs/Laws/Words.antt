@@ -8,8 +8,8 @@ use lib.ListN.{length, take, drop, set, length-append, length-drop}
 use lib.Seq.{sets, sets-eq, length-take-le}
 use borrow.Author.Tests.{le-leb, lt-leb}
 use Rattle.geojson.specs.declared.Feature.{Feature}
-use Rattle.geojson.specs.Lines.{putWords, wordsOf}
-use Rattle.geojson.specs.Contracts.Lined.{Lined}
+use Rattle.geojson.specs.Features.{putWords, wordsOf}
+use Rattle.geojson.specs.Contracts.Features.{FeatureWritten}
 
 pub putWords-length : (w : List ℕ) (at : ℕ) (vs : List ℕ) → at + length vs ≤ length w → length (putWords w at vs) ≡ length w
 unfolding putWords
@@ -36,8 +36,8 @@ line-put w at f h =
     rw (u .0, u .1, u .2, u .3, u .4) (sets-put (wordsOf f) w at h)
 
 module _ (w : List ℕ) (at : ℕ) (f : Feature) where
-  pub lined : {w′ : List ℕ} → at + 6 ≤ length w → w′ ≡ putWords w at (wordsOf f) → Lined w w′ at f
+  pub lined : {w′ : List ℕ} → at + 6 ≤ length w → w′ ≡ putWords w at (wordsOf f) → FeatureWritten w w′ at f
   lined h e = record { fits = λ t. e; short = λ t. absurd (false≢true (sym t ∙ le-leb _ _ h)) }
 
-  pub unlined : length w < at + 6 → Lined w w at f
+  pub unlined : length w < at + 6 → FeatureWritten w w at f
   unlined h = record { fits = λ t. absurd (false≢true (sym (lt-leb _ _ h) ∙ t)); short = λ t. refl }

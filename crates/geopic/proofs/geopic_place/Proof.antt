@@ -1,10 +1,10 @@
 use borrow.Author.Needs.{needs}
-use Rattle.geopic.specs.Geopic.{Lent}
+use Rattle.geopic.specs.Geopic.{Buffers}
 use Rattle.geopic.specs.Laws.Calls.{early-answer, early-lent, is-registered, is-refused}
 use Rattle.geopic.proofs.geopic_place.Statement.{statement}
 use Rattle.geopic.proofs.geopic_place.Tie as tie
 
-abbrev lent : tie.Start → Lent
+abbrev lent : tie.Start → Buffers
 lent a = record { work = a .args .work .now; positions = a .args .positions .now; features = a .args .features .now; warnings = a .args .warnings .now }
 
 slice-aggregate-open-stream : tie.Need-slice-aggregate-open-stream
@@ -22,11 +22,11 @@ refuse-requires c κs = search needs
 enum-known-v : tie.Need-enum-known-v
 enum-known-v c = search needs
 
-slice-aggregate-fill : tie.Need-slice-aggregate-fill
-slice-aggregate-fill c = search needs
+slice-aggregate-place-registered : tie.Need-slice-aggregate-place-registered
+slice-aggregate-place-registered c = search needs
 
-fill-requires : tie.Need-fill-requires
-fill-requires c κs = is-registered (c .before .before .before .before .before .before .before .before .before .before .before .before .before .before .before .before .args .s .now) (c .before .before .before .before .before .before .before .before .before .open-stream .ensures) (c .before .before .before .before .before .before .v .given .1)
+place-registered-requires : tie.Need-place-registered-requires
+place-registered-requires c κs = is-registered (c .before .before .before .before .before .before .before .before .before .before .before .before .before .before .before .before .args .s .now) (c .before .before .before .before .before .before .before .before .before .open-stream .ensures) (c .before .before .before .before .before .before .v .given .1)
 
 returns : tie.Need-returns
 returns c =
@@ -58,8 +58,8 @@ geopic-place-spec =
     enum-known-number
     refuse-requires
     enum-known-v
-    slice-aggregate-fill
-    fill-requires
+    slice-aggregate-place-registered
+    place-registered-requires
     returns
     same-length
     same-length-2

@@ -27,11 +27,11 @@ pub record Registers (s : List ℕ) (v : Survey) (r : Registration) (kept : List
   pub room-kept : length kept ≡ 64
   pub kept-so : Kept (sceneOf (payload s)) kept
 
-abbrev pub Comes : List ℕ → List ℕ → Opened → Type 0
-Comes s kept (Refused n) = n ≡ 0 → ⊥
-Comes s kept (Registered v r) = Registers s v r kept
+abbrev pub OpenedAs : List ℕ → List ℕ → Opened → Type 0
+OpenedAs s kept (Refused n) = n ≡ 0 → ⊥
+OpenedAs s kept (Registered v r) = Registers s v r kept
 
 -- the number of the first early condition that holds; the registration where none does
 pub record Opens (s kept : List ℕ) (o : Opened) : Type 0 where
   pub number : numberBy o ≡ firstOf (early s)
-  pub comes : Comes s kept o
+  pub comes : OpenedAs s kept o

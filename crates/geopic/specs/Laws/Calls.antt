@@ -18,42 +18,42 @@ use Rattle.similarity.specs.declared.fit.Control.{Control}
 use Rattle.similarity.specs.declared.projection.Projection.{Projection}
 use Rattle.similarity.specs.declared.projection.Registration.{Registration}
 use Rattle.similarity.specs.Projection.{projectionOf}
-use Rattle.register.specs.declared.warnings.Warned.{Warned}
+use Rattle.register.specs.declared.warnings.WarningCursor.{WarningCursor}
 use Rattle.register.specs.declared.outcome.Outcome.{Outcome}
 use Rattle.register.specs.declared.survey.Survey.{Survey}
 use Rattle.register.specs.Contracts.Survey.{Surveyed}
 use Rattle.register.specs.Contracts.Gathered.{Kept}
 use Rattle.register.specs.Register.{Warning, f0, controlsOf, anchorOf, registrationBy, registrationOf, registerWarnings}
 use Rattle.register.specs.Contracts.Outcome.{registerRefusal, accepted, refusedBy, pickOutcome, outcomeOf}
-use Rattle.register.specs.Contracts.Warned.{pushed, allPushed}
-use Rattle.register.specs.Contracts.Warned as register
+use Rattle.register.specs.Contracts.Warnings.{pushed, allPushed}
+use Rattle.register.specs.Contracts.Warnings as register
 use Rattle.budget.specs.declared.Budget.{Budget}
-use Rattle.geojson.specs.Lines.{putWords}
+use Rattle.geojson.specs.Features.{putWords}
 use Rattle.geojson.specs.Laws.Words.{pair-put}
 use Rattle.geopic.specs.declared.Answer.{Answer}
 use Rattle.convert.specs.Convert.{warned, Trace, onScreen, convertOf}
-use Rattle.convert.specs.Space.{Sheet, lacking, withWarning}
-use Rattle.convert.specs.Contracts.Space.{sheetBy, Fits, Played}
-use Rattle.geopic.specs.Geopic.{maxStep, fresh, ctxOf, traceOf, Lent, blank, sheetOf, early, conditions, numberOf, refusal, acceptance, answerOf, clear, sliceBy, lentAfter}
-use Rattle.convert.specs.Laws.Playing.{played-quiet, played-stuck, played-then}
+use Rattle.convert.specs.Space.{Output, outOfRoom, withWarning}
+use Rattle.convert.specs.Contracts.Space.{outputBy, Fits, Applied}
+use Rattle.geopic.specs.Geopic.{maxStep, fresh, ctxOf, traceOf, Buffers, unused, outputOf, early, conditions, numberOf, refusal, acceptance, answerOf, clear, sliceBy, buffersAfter}
+use Rattle.convert.specs.Laws.Applying.{played-quiet, played-stuck, played-then}
 use Rattle.convert.specs.Laws.Events.{warned-fits, warned-lacks}
 use Rattle.geopic.specs.declared.Opened.{Opened}
 use Rattle.geopic.specs.declared.Opened.the-variants.{Refused, Registered}
-use Rattle.geopic.specs.Contracts.Opened.{numberBy, Registers, Comes, Opens}
+use Rattle.geopic.specs.Contracts.Opened.{numberBy, Registers, OpenedAs, Opens}
 use Rattle.geopic.specs.Laws.Conditions.{number-is, early-stream, early-registration, by-early, by-space}
 
 -- ---- the registration's warnings: what `register` pushes is what is played
 abbrev Pushed : Type 0
-Pushed = register.Sheet
+Pushed = register.WarningSlice
 
 abbrev pushing : List ℕ → Bool → ℕ → Pushed
-pushing out ok n = record { out = out; said = record { ok = ok; used = n } }
+pushing out ok n = record { out = out; cursor = record { ok = ok; used = n } }
 
 abbrev telling : List Warning → Budget → Trace
 telling ws b = record { events = map warned ws; after = b }
 
 -- the sheet with the warnings as they were pushed
-abbrev toldBy : Sheet → Pushed → Sheet
+abbrev toldBy : Output → Pushed → Output
 toldBy t r =
     record {
       work = t .work;
@@ -62,8 +62,8 @@ toldBy t r =
       warnings = r .out;
       usedPositions = t .usedPositions;
       usedFeatures = t .usedFeatures;
-      usedWarnings = r .said .used;
-      number = cond (r .said .ok) 0 18;
+      usedWarnings = r .cursor .used;
+      number = cond (r .cursor .ok) 0 18;
     }
 
 module _ (w : Warning) (out : List ℕ) (n : ℕ) where
@@ -82,27 +82,27 @@ push-none (w ∷ ws) out n = push-none ws out n
 
 abbrev Tells : List Warning → Budget → Type 0
 Tells ws b =
-    (t : Sheet) → t .number ≡ 0 → Fits t b → Played (telling ws b) t (toldBy t (allPushed ws (pushing (t .warnings) true (t .usedWarnings)))) b
+    (t : Output) → t .number ≡ 0 → Fits t b → Applied (telling ws b) t (toldBy t (allPushed ws (pushing (t .warnings) true (t .usedWarnings)))) b
 
 one-told : (w : Warning) (ws : List Warning) (b : Budget) → Tells ws b → Tells (w ∷ ws) b
 unfolding allPushed
 one-told w ws b rest t start h = go (leb (t .usedWarnings + 2) (length (t .warnings))) refl
   where
     Goal : Pushed → Type 0
-    Goal r = Played (telling (w ∷ ws) b) t (toldBy t (allPushed ws r)) b
+    Goal r = Applied (telling (w ∷ ws) b) t (toldBy t (allPushed ws r)) b
 
     go : (x : Bool) → leb (t .usedWarnings + 2) (length (t .warnings)) ≡ x → Goal (pushed w (pushing (t .warnings) true (t .usedWarnings)))
     go true e =
         let one = warned-fits w t b start h (leb-true _ _ e) in
-        subst Goal (sym (push-fits w (t .warnings) (t .usedWarnings) e)) (played-then (telling ws) one (rest (lacking 0 (withWarning w t)) refl (one .fits)))
+        subst Goal (sym (push-fits w (t .warnings) (t .usedWarnings) e)) (played-then (telling ws) one (rest (outOfRoom 0 (withWarning w t)) refl (one .fits)))
     go false e =
         let one = warned-lacks w t b start h (leb-false _ _ e) in
         subst Goal (sym (push-lacks w (t .warnings) (t .usedWarnings) e))
-        (rw (push-none ws (t .warnings) (t .usedWarnings)) (played-then (telling ws) one (played-stuck (telling ws b) (lacking 18 t) b (λ z. eqb-false 18 0 refl z) (one .fits))))
+        (rw (push-none ws (t .warnings) (t .usedWarnings)) (played-then (telling ws) one (played-stuck (telling ws b) (outOfRoom 18 t) b (λ z. eqb-false 18 0 refl z) (one .fits))))
 
 all-told : (ws : List Warning) (b : Budget) → Tells ws b
 unfolding allPushed
-all-told [] b t start h = subst (λ (u : Sheet). Played (telling [] b) t u b) (ap (λ (n : ℕ). lacking n t) start) (played-quiet t b h)
+all-told [] b t start h = subst (λ (u : Output). Applied (telling [] b) t u b) (ap (λ (n : ℕ). outOfRoom n t) start) (played-quiet t b h)
 all-told (w ∷ ws) b t start h = one-told w ws b (all-told ws b) t start h
 
 -- ---- everything that is drawn
@@ -120,20 +120,20 @@ module _ (s : List ℕ) where
   unfolding registrationOf
   controls-are e = rw e (counted (anchorOf sc) (controlsOf sc))
 
-  module _ (t : Lent) {v : List ℕ} {w : Warned} {number : ℕ} (told : record { out = v; said = w } ≡ allPushed (registerWarnings sc) (pushing (t .warnings) true 0))
+  module _ (t : Buffers) {v : List ℕ} {w : WarningCursor} {number : ℕ} (told : record { out = v; cursor = w } ≡ allPushed (registerWarnings sc) (pushing (t .warnings) true 0))
       (short : number ≡ cond (w .ok) 0 18) where
     -- the sheet with which the items begin
-    abbrev begin : Sheet
-    begin = sheetBy (length (t .work)) (t .positions) (t .features) v (record { number = number; positions = 0; features = 0; warnings = w .used; budget = fresh })
+    abbrev begin : Output
+    begin = outputBy (length (t .work)) (t .positions) (t .features) v (record { number = number; positions = 0; features = 0; warnings = w .used; budget = fresh })
 
-    pub begun : Played (telling (registerWarnings sc) fresh) (blank t) begin fresh
+    pub begun : Applied (telling (registerWarnings sc) fresh) (unused t) begin fresh
     begun =
         rw short
-        (subst (λ (r : Pushed). Played (telling (registerWarnings sc) fresh) (blank t) (toldBy (blank t) r) fresh) (sym told)
-        (all-told (registerWarnings sc) fresh (blank t) refl (record { positions = omega arith; features = omega arith; warnings = omega arith; left = omega arith })))
+        (subst (λ (r : Pushed). Applied (telling (registerWarnings sc) fresh) (unused t) (toldBy (unused t) r) fresh) (sym told)
+        (all-told (registerWarnings sc) fresh (unused t) refl (record { positions = omega arith; features = omega arith; warnings = omega arith; left = omega arith })))
 
-    pub drawn : {r : Registration} {p : Projection} {tol : Float} {u : Sheet} {b : Budget} → r ≡ registrationOf sc → p ≡ projectionOf r → tol ≡ sc .flatten
-        → Played (convertOf onScreen (record { projection = p; step = maxStep; flatten = tol }) (itemsAt (payload s) 0) fresh) begin u b → Played (traceOf sc) (blank t) u b
+    pub drawn : {r : Registration} {p : Projection} {tol : Float} {u : Output} {b : Budget} → r ≡ registrationOf sc → p ≡ projectionOf r → tol ≡ sc .flatten
+        → Applied (convertOf onScreen (record { projection = p; step = maxStep; flatten = tol }) (itemsAt (payload s) 0) fresh) begin u b → Applied (traceOf sc) (unused t) u b
     unfolding traceOf
     drawn e f g d = played-then (convertOf onScreen (ctxOf sc) (sc .items)) begun (rw (f, e, g, ← scene-lists (payload s) .3) at d)
 
@@ -155,7 +155,7 @@ module _ (sc : Scene) {o : Outcome} (e : o ≡ outcomeOf sc) where
   outcome-is h = outcome .1 (sym (outcome .0) ∙ h)
 
 -- ---- the answer and the slices
-module _ (s : List ℕ) (t : Lent) where
+module _ (s : List ℕ) (t : Buffers) where
   refused : {n : ℕ} → numberOf s t ≡ n → (n ≡ 0 → ⊥) → {a : Answer} → a ≡ refusal n → a ≡ answerOf s t
   unfolding answerOf
   refused {n} is some e = rw (e, is, ne-eqb n 0 some)
@@ -168,21 +168,21 @@ module _ (s : List ℕ) (t : Lent) where
     pub early-answer : {a : Answer} → a ≡ refusal n → a ≡ answerOf s t
     early-answer e = refused (by-early s t first ∙ sym is) some e
 
-    pub early-lent : t ≡ lentAfter s t
-    unfolding lentAfter sliceBy
+    pub early-lent : t ≡ buffersAfter s t
+    unfolding buffersAfter sliceBy
     early-lent = rw (ne-eqb (firstOf (early s)) 0 first)
 
-  pub untouched : (firstOf (early s) ≡ 0 → ⊥) → lentAfter s t ≡ t
+  pub untouched : (firstOf (early s) ≡ 0 → ⊥) → buffersAfter s t ≡ t
   untouched h = sym (early-lent refl h)
 
-  pub cleared : firstOf (early s) ≡ 0 → (answerOf s t .number ≡ 0 → ⊥) → lentAfter s t
+  pub cleared : firstOf (early s) ≡ 0 → (answerOf s t .number ≡ 0 → ⊥) → buffersAfter s t
       ≡ record { work = clear f0 (length (t .work)); positions = clear f0 (length (t .positions)); features = clear 0 (length (t .features)); warnings = clear 0 (length (t .warnings)) }
-  unfolding lentAfter sliceBy numberOf
+  unfolding buffersAfter sliceBy numberOf
   cleared e h = rw (e, ne-eqb (firstOf (conditions s t)) 0 (λ z. h (number-is s t ∙ z)))
 
-  module _ (none : firstOf (early s) ≡ 0) {u : Sheet} {b : Budget} (d : Played (traceOf (sc s)) (blank t) u b) where
-    space : u .number ≡ sheetOf (sc s) t .number
-    unfolding sheetOf
+  module _ (none : firstOf (early s) ≡ 0) {u : Output} {b : Budget} (d : Applied (traceOf (sc s)) (unused t) u b) where
+    space : u .number ≡ outputOf (sc s) t .number
+    unfolding outputOf
     space = d .number
 
     late-number : numberOf s t ≡ u .number
@@ -194,22 +194,22 @@ module _ (s : List ℕ) (t : Lent) where
       late-answer e = refused late-number some e
 
       pub late-lent : {w p : List Float} {f v : List ℕ} → w ≡ clear f0 (u .work) → p ≡ clear f0 (length (u .positions)) → f ≡ clear 0 (length (u .features)) → v ≡ clear 0 (length (u .warnings))
-          → record { work = w; positions = p; features = f; warnings = v } ≡ lentAfter s t
-      unfolding lentAfter sliceBy
+          → record { work = w; positions = p; features = f; warnings = v } ≡ buffersAfter s t
+      unfolding buffersAfter sliceBy
       late-lent work positions features warnings =
           rw (work, positions, features, warnings, d .work, d .positions, d .features, d .warnings, none, late-number, ne-eqb (u .number) 0 some)
 
     module _ (room : u .number ≡ 0) where
-      sheet : u ≡ sheetOf (sc s) t
-      unfolding sheetOf
+      sheet : u ≡ outputOf (sc s) t
+      unfolding outputOf
       sheet = d .same room
 
       pub accepted-answer : {r : Registration} {a : Answer} → r ≡ registrationOf (sc s) → a ≡ acceptance r u b → a ≡ answerOf s t
       unfolding answerOf
       accepted-answer e f = rw (late-number, eq-eqb (u .number) 0 room, ← e, ← sheet, ← d .after room) f
 
-      pub accepted-lent : {w : List Float} → w ≡ clear f0 (u .work) → record { work = w; positions = u .positions; features = u .features; warnings = u .warnings } ≡ lentAfter s t
-      unfolding lentAfter sliceBy
+      pub accepted-lent : {w : List Float} → w ≡ clear f0 (u .work) → record { work = w; positions = u .positions; features = u .features; warnings = u .warnings } ≡ buffersAfter s t
+      unfolding buffersAfter sliceBy
       accepted-lent e = rw (e, none, late-number, eq-eqb (u .number) 0 room, ← sheet, d .work)
 
 -- ---- what `open_stream` comes to
@@ -232,7 +232,7 @@ module _ (s : List ℕ) where
   -- the same by the answer's case
   module _ {kept : List ℕ} {o : Opened} (h : Opens s kept o) where
     pub is-registered : {v : Survey} {r : Registration} → o ≡ Registered v r → Registers s v r kept
-    is-registered e = subst (λ (x : Opened). Comes s kept x) e (h .comes)
+    is-registered e = subst (λ (x : Opened). OpenedAs s kept x) e (h .comes)
 
     pub is-refused : {n : ℕ} → o ≡ Refused n → (n ≡ firstOf (early s)) × (n ≡ 0 → ⊥)
-    is-refused e = (sym (ap numberBy e) ∙ h .number, subst (λ (x : Opened). Comes s kept x) e (h .comes))
+    is-refused e = (sym (ap numberBy e) ∙ h .number, subst (λ (x : Opened). OpenedAs s kept x) e (h .comes))

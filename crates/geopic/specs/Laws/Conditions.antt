@@ -19,32 +19,32 @@ use Rattle.register.specs.Contracts.Outcome.{registerRefusal}
 use Rattle.register.specs.Laws.Outcomes.{registration-numbered}
 use Rattle.densify.specs.Positions.{flats}
 use Rattle.convert.specs.Convert.{Event, drew, need, feature, warned}
-use Rattle.convert.specs.Space.{Sheet, pickSheet, lacking, withFeature, withWarning, played, playAll, ofSpace}
+use Rattle.convert.specs.Space.{Output, pickOutput, outOfRoom, withFeature, withWarning, apply, applyAll, ofSpace}
 use Rattle.geopic.specs.declared.Answer.{Answer}
-use Rattle.geopic.specs.Geopic.{traceOf, Lent, blank, sheetOf, early, conditions, numberOf, refusal, pickAnswer, answerOf}
+use Rattle.geopic.specs.Geopic.{traceOf, Buffers, unused, outputOf, early, conditions, numberOf, refusal, pickAnswer, answerOf}
 
--- ---- 15 to 18: what is played onto a sheet
+-- ---- 15 to 18: what is apply onto a sheet
 abbrev known : ℕ → Bool
 known n = eqb n 0 || (eqb n 15 || (eqb n 16 || (eqb n 17 || eqb n 18)))
 
-known-pick : (b : Bool) (t u : Sheet) → known (t .number) ≡ true → known (u .number) ≡ true → known (pickSheet b t u .number) ≡ true
+known-pick : (b : Bool) (t u : Output) → known (t .number) ≡ true → known (u .number) ≡ true → known (pickOutput b t u .number) ≡ true
 known-pick true t u h k = h
 known-pick false t u h k = k
 
-known-played : (e : Event) (t : Sheet) → known (t .number) ≡ true → known (played e t .number) ≡ true
-unfolding played
+known-played : (e : Event) (t : Output) → known (t .number) ≡ true → known (apply e t .number) ≡ true
+unfolding apply
 known-played (drew d) t h = h
-known-played (need n) t h = known-pick (leb (2 * n) (t .work)) t (lacking 15 t) h refl
+known-played (need n) t h = known-pick (leb (2 * n) (t .work)) t (outOfRoom 15 t) h refl
 known-played (feature f ps) t h =
     known-pick (leb (t .usedPositions + length (flats ps)) (length (t .positions)))
-    (pickSheet (leb (t .usedFeatures + 6) (length (t .features))) (withFeature f ps t) (lacking 17 t))
-    (lacking 16 t)
-    (known-pick (leb (t .usedFeatures + 6) (length (t .features))) (withFeature f ps t) (lacking 17 t) h refl)
+    (pickOutput (leb (t .usedFeatures + 6) (length (t .features))) (withFeature f ps t) (outOfRoom 17 t))
+    (outOfRoom 16 t)
+    (known-pick (leb (t .usedFeatures + 6) (length (t .features))) (withFeature f ps t) (outOfRoom 17 t) h refl)
     refl
-known-played (warned w) t h = known-pick (leb (t .usedWarnings + 2) (length (t .warnings))) (withWarning w t) (lacking 18 t) h refl
+known-played (warned w) t h = known-pick (leb (t .usedWarnings + 2) (length (t .warnings))) (withWarning w t) (outOfRoom 18 t) h refl
 
-known-all : (es : List Event) (t : Sheet) → known (t .number) ≡ true → known (playAll es t .number) ≡ true
-unfolding playAll
+known-all : (es : List Event) (t : Output) → known (t .number) ≡ true → known (applyAll es t .number) ≡ true
+unfolding applyAll
 known-all [] t h = h
 known-all (e ∷ es) t h = known-all es _ (known-pick (eqb (t .number) 0) _ t (known-played e t h) h)
 
@@ -58,11 +58,11 @@ late a false false false true n p q r s u h = sym (eqb-true n 18 (sym u))
 late true false false false false n p q r s u h = sym (eqb-true n 0 (sym p))
 late false false false false false n p q r s u h = absurd (false≢true h)
 
-space-first : (t : Sheet) → known (t .number) ≡ true → firstOf (ofSpace t) ≡ t .number
+space-first : (t : Output) → known (t .number) ≡ true → firstOf (ofSpace t) ≡ t .number
 unfolding ofSpace
 space-first t h = late _ _ _ _ _ (t .number) refl refl refl refl refl h
 
-space-numbered : (t : Sheet) → Numbered (ofSpace t)
+space-numbered : (t : Output) → Numbered (ofSpace t)
 unfolding ofSpace
 space-numbered t = (omega arith, (omega arith, (omega arith, (omega arith, tt))))
 
@@ -92,23 +92,23 @@ module _ (s : List ℕ) where
   unfolding early
   early-none h = append-none (ofStream s) (ofRegistration sc) (stream-numbered s) h
 
-  module _ (t : Lent) where
-    space-known : known (sheetOf sc t .number) ≡ true
-    unfolding sheetOf
-    space-known = known-all (traceOf sc .events) (blank t) refl
+  module _ (t : Buffers) where
+    space-known : known (outputOf sc t .number) ≡ true
+    unfolding outputOf
+    space-known = known-all (traceOf sc .events) (unused t) refl
 
     -- an early condition decides, and else what lacks room
     pub by-early : (firstOf (early s) ≡ 0 → ⊥) → numberOf s t ≡ firstOf (early s)
     unfolding numberOf conditions
-    by-early h = first-ahead (early s) (ofSpace (sheetOf sc t)) early-numbered h
+    by-early h = first-ahead (early s) (ofSpace (outputOf sc t)) early-numbered h
 
-    pub by-space : firstOf (early s) ≡ 0 → numberOf s t ≡ sheetOf sc t .number
+    pub by-space : firstOf (early s) ≡ 0 → numberOf s t ≡ outputOf sc t .number
     unfolding numberOf conditions
-    by-space h = first-behind (early s) (ofSpace (sheetOf sc t)) early-numbered h ∙ space-first (sheetOf sc t) space-known
+    by-space h = first-behind (early s) (ofSpace (outputOf sc t)) early-numbered h ∙ space-first (outputOf sc t) space-known
 
     pub none-early : numberOf s t ≡ 0 → firstOf (early s) ≡ 0
     unfolding numberOf conditions
-    none-early h = append-none (early s) (ofSpace (sheetOf sc t)) early-numbered h .0
+    none-early h = append-none (early s) (ofSpace (outputOf sc t)) early-numbered h .0
 
     -- ---- the answer's number
     pub number-is : answerOf s t .number ≡ firstOf (conditions s t)
@@ -120,7 +120,7 @@ module _ (s : List ℕ) where
 
     numbered : Numbered (conditions s t)
     unfolding conditions
-    numbered = numbered-append (early s) (ofSpace (sheetOf sc t)) early-numbered (space-numbered (sheetOf sc t))
+    numbered = numbered-append (early s) (ofSpace (outputOf sc t)) early-numbered (space-numbered (outputOf sc t))
 
     pub number-none : answerOf s t .number ≡ 0 → NoneHolds (conditions s t)
     number-none h = first-none (conditions s t) numbered (sym number-is ∙ h)

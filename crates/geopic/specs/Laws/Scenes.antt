@@ -15,20 +15,20 @@ use Rattle.scene.specs.Scene.{Maybe, none, some, Point, NamedFeature, NamedValu
 use Rattle.similarity.specs.Projection.{geoOf}
 use Rattle.similarity.specs.Laws.Projects.{geo-projects}
 use Rattle.register.specs.Register as register
-use Rattle.register.specs.Register.{Warning, f0, isLon, stem, suffixLat, var, resolved, mentioned, eventOf, featureEvent, featureEvents, lonEvent, onto, variableEvents, events, registrationOf, isSome, anchorOf, pxMode, halfAnchor, controlsOf, only, ignored, anyDeclared, ignoredWith, viewWarnings, halfWarnings, registerWarnings}
+use Rattle.register.specs.Register.{Warning, f0, isLon, stem, suffixLat, var, resolved, mentioned, eventOf, featureEvent, featureEvents, lonEvent, consIf, variableEvents, events, registrationOf, isSome, anchorOf, pxMode, halfAnchor, controlsOf, only, ignored, anyDeclared, ignoredWith, viewWarnings, halfWarnings, registerWarnings}
 use Rattle.register.specs.Contracts.Outcome.{registerRefusal}
 use Rattle.register.specs.Laws.Sound.{accepted-tame, accepted-sound}
 use Rattle.budget.specs.Draws.{leftAfter, Claim}
 use Rattle.budget.specs.Laws.Draws.{claim}
-use Rattle.densify.specs.Densify.{Drawn}
-use Rattle.densify.specs.Positions.{placedBy}
+use Rattle.densify.specs.Densify.{GrantedDraw}
+use Rattle.densify.specs.Positions.{projectPoint}
 use Rattle.densify.specs.Draws.{drawsOf, Granted, fellShort}
 use Rattle.convert.specs.Convert.{Event, warned, onScreen, convertOf, drawsIn}
 use Rattle.convert.specs.Features.{AllWellFormed, positionsIn, featuresIn, warningsIn, featuresAt, warningsAt, anyOfKind}
 use Rattle.convert.specs.Laws.Draws.{trace-left, trace-hit, convert-replays, any-append, spent-warned}
 use Rattle.convert.specs.Laws.Features.{convert-well-formed}
 use Rattle.convert.specs.Laws.Reading.{ReadBack, reads-back}
-use Rattle.geopic.specs.Geopic.{maxStep, fresh, ctxOf, traceOf, Lent, blank, sheetOf, early, numberOf, acceptance, answerOf, clear, lentAfter, sliceBy}
+use Rattle.geopic.specs.Geopic.{maxStep, fresh, ctxOf, traceOf, Buffers, unused, outputOf, early, numberOf, acceptance, answerOf, clear, buffersAfter, sliceBy}
 use Rattle.geopic.specs.Laws.Conditions.{number-is, none-early, early-none, by-space}
 
 -- the registration's warnings draw nothing and give no feature
@@ -78,7 +78,7 @@ lon-no-six sc i name lon none es n = n
 lon-no-six sc i name lon (some lat) es n =
     event-no-six (resolved sc name) (mentioned name (sc .features)) lon lat (record { kind = 2; index = i }) (record { kind = 3; index = i }) es refl refl n
 
-onto-no-six : (b : Bool) (e : register.Event) (es : List register.Event) → NoSix (register.warningsIn (e ∷ es)) → NoSix (register.warningsIn es) → NoSix (register.warningsIn (onto b e es))
+onto-no-six : (b : Bool) (e : register.Event) (es : List register.Event) → NoSix (register.warningsIn (e ∷ es)) → NoSix (register.warningsIn es) → NoSix (register.warningsIn (consIf b e es))
 onto-no-six true e es h k = h
 onto-no-six false e es h k = k
 
@@ -129,8 +129,8 @@ module _ (s : List ℕ) where
   pub scene-claim : Claim 2000000 (drawsOf (drawsIn (traceOf sc .events)))
   scene-claim = claim 2000000 (drawsOf (drawsIn (traceOf sc .events)))
 
-  pub scene-geo : (p : Point) → placedBy (ctxOf sc .projection) p ≡ (let g = geoOf (registrationOf sc) (p .x) (p .y) in record { x = g .lon; y = g .lat })
-  unfolding placedBy
+  pub scene-geo : (p : Point) → projectPoint (ctxOf sc .projection) p ≡ (let g = geoOf (registrationOf sc) (p .x) (p .y) in record { x = g .lon; y = g .lat })
+  unfolding projectPoint
   scene-geo p = rw geo-projects
 
   pub scene-grants : Granted fresh (drawsIn (traceOf sc .events))
@@ -138,7 +138,7 @@ module _ (s : List ℕ) where
 
   left-is : traceOf sc .after .left ≡ leftAfter 2000000 (drawsOf (drawsIn (traceOf sc .events)))
   unfolding traceOf
-  left-is = trace-left (convert-replays onScreen (ctxOf sc) (sc .items) fresh) ∙ ap (λ (ds : List Drawn). leftAfter 2000000 (drawsOf ds)) (sym draws-are)
+  left-is = trace-left (convert-replays onScreen (ctxOf sc) (sc .items) fresh) ∙ ap (λ (ds : List GrantedDraw). leftAfter 2000000 (drawsOf ds)) (sym draws-are)
 
   hit-is : traceOf sc .after .hit ≡ fellShort (drawsIn (traceOf sc .events))
   unfolding traceOf
@@ -151,7 +151,7 @@ module _ (s : List ℕ) where
       ∙ any-append 6 (registerWarnings sc) _
       ∙ rw (register-no-six sc) (spent-warned onScreen (ctxOf sc) (sc .items) fresh)
 
-  module _ (t : Lent) (h : answerOf s t .number ≡ 0) where
+  module _ (t : Buffers) (h : answerOf s t .number ≡ 0) where
     is-number : numberOf s t ≡ 0
     unfolding numberOf
     is-number = sym (number-is s t) ∙ h
@@ -169,7 +169,7 @@ module _ (s : List ℕ) where
         (convert-well-formed onScreen (registrationOf sc) maxStep (sc .flatten) (sc .items) fresh (accepted-sound s read registered) (accepted-tame s read .points .items))
 
     -- ---- the answer
-    answer-is : answerOf s t ≡ acceptance (registrationOf sc) (sheetOf sc t) (traceOf sc .after)
+    answer-is : answerOf s t ≡ acceptance (registrationOf sc) (outputOf sc t) (traceOf sc .after)
     unfolding answerOf
     answer-is = rw (eq-eqb (numberOf s t) 0 is-number)
 
@@ -180,27 +180,27 @@ module _ (s : List ℕ) where
     scene-spent = rw (answer-is, hit-is)
 
     -- ---- the slices
-    lent-is : lentAfter s t ≡ record { work = clear f0 (length (t .work)); positions = sheetOf sc t .positions; features = sheetOf sc t .features; warnings = sheetOf sc t .warnings }
-    unfolding lentAfter sliceBy
+    lent-is : buffersAfter s t ≡ record { work = clear f0 (length (t .work)); positions = outputOf sc t .positions; features = outputOf sc t .features; warnings = outputOf sc t .warnings }
+    unfolding buffersAfter sliceBy
     lent-is = rw (is-early, is-number)
 
-    sheet-number : sheetOf sc t .number ≡ 0
+    sheet-number : outputOf sc t .number ≡ 0
     sheet-number = sym (by-space s t is-early) ∙ is-number
 
-    read-back : ReadBack (traceOf sc .events) (blank t) (sheetOf sc t)
-    unfolding sheetOf
-    read-back = reads-back (traceOf sc .events) (blank t) refl refl refl scene-well-formed sheet-number
+    read-back : ReadBack (traceOf sc .events) (unused t) (outputOf sc t)
+    unfolding outputOf
+    read-back = reads-back (traceOf sc .events) (unused t) refl refl refl scene-well-formed sheet-number
 
-    pub scene-features : featuresAt (lentAfter s t .features) (lentAfter s t .positions) 0 0 (answerOf s t .features) ≡ featuresIn (traceOf sc .events)
+    pub scene-features : featuresAt (buffersAfter s t .features) (buffersAfter s t .positions) 0 0 (answerOf s t .features) ≡ featuresIn (traceOf sc .events)
     scene-features = rw (lent-is, answer-is) (read-back .features)
 
-    pub formed-read : AllWellFormed (featuresAt (lentAfter s t .features) (lentAfter s t .positions) 0 0 (answerOf s t .features))
+    pub formed-read : AllWellFormed (featuresAt (buffersAfter s t .features) (buffersAfter s t .positions) 0 0 (answerOf s t .features))
     formed-read = rw scene-features scene-well-formed
 
-    pub scene-warnings : warningsAt (lentAfter s t .warnings) 0 (answerOf s t .warnings) ≡ warningsIn (traceOf sc .events)
+    pub scene-warnings : warningsAt (buffersAfter s t .warnings) 0 (answerOf s t .warnings) ≡ warningsIn (traceOf sc .events)
     scene-warnings = rw (lent-is, answer-is) (read-back .warnings)
 
-    pub scene-six : anyOfKind 6 (warningsAt (lentAfter s t .warnings) 0 (answerOf s t .warnings)) ≡ fellShort (drawsIn (traceOf sc .events))
+    pub scene-six : anyOfKind 6 (warningsAt (buffersAfter s t .warnings) 0 (answerOf s t .warnings)) ≡ fellShort (drawsIn (traceOf sc .events))
     scene-six = ap (anyOfKind 6) scene-warnings ∙ warning-is ∙ hit-is
 
     -- ---- the counts, and what stands behind what is used
@@ -208,11 +208,11 @@ module _ (s : List ℕ) where
         × (answerOf s t .warnings ≡ length (warningsIn (traceOf sc .events)))
     scene-counts = rw answer-is (omega (arith, read-back .usedPositions), omega (arith, read-back .usedFeatures), omega (arith, read-back .usedWarnings))
 
-    pub scene-tails : (drop (2 * answerOf s t .positions) (lentAfter s t .positions) ≡ drop (2 * answerOf s t .positions) (t .positions))
-        × (drop (6 * answerOf s t .features) (lentAfter s t .features) ≡ drop (6 * answerOf s t .features) (t .features))
-        × (drop (2 * answerOf s t .warnings) (lentAfter s t .warnings) ≡ drop (2 * answerOf s t .warnings) (t .warnings))
+    pub scene-tails : (drop (2 * answerOf s t .positions) (buffersAfter s t .positions) ≡ drop (2 * answerOf s t .positions) (t .positions))
+        × (drop (6 * answerOf s t .features) (buffersAfter s t .features) ≡ drop (6 * answerOf s t .features) (t .features))
+        × (drop (2 * answerOf s t .warnings) (buffersAfter s t .warnings) ≡ drop (2 * answerOf s t .warnings) (t .warnings))
     scene-tails =
-        let p : 2 * (sheetOf sc t .usedPositions / 2) ≡ sheetOf sc t .usedPositions = omega (arith, read-back .usedPositions) in
-        let f : 6 * (sheetOf sc t .usedFeatures / 6) ≡ sheetOf sc t .usedFeatures = omega (arith, read-back .usedFeatures) in
-        let w : 2 * (sheetOf sc t .usedWarnings / 2) ≡ sheetOf sc t .usedWarnings = omega (arith, read-back .usedWarnings) in
+        let p : 2 * (outputOf sc t .usedPositions / 2) ≡ outputOf sc t .usedPositions = omega (arith, read-back .usedPositions) in
+        let f : 6 * (outputOf sc t .usedFeatures / 6) ≡ outputOf sc t .usedFeatures = omega (arith, read-back .usedFeatures) in
+        let w : 2 * (outputOf sc t .usedWarnings / 2) ≡ outputOf sc t .usedWarnings = omega (arith, read-back .usedWarnings) in
         rw (lent-is, answer-is, p, f, w) (read-back .tailPositions, read-back .tailFeatures, read-back .tailWarnings)

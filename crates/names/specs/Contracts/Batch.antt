@@ -7,10 +7,10 @@ use Prim.Native.Nat.{ℕ, _+_, _-_, _*_, _%_, _≤_, _<_}
 use lib.ListN.{length, getD}
 use lib.Dec.{eqb}
 use lib.Ieee.{Float}
-use Rattle.records.specs.Records.{part}
+use Rattle.records.specs.Records.{bytesAt}
 use Rattle.scene.specs.declared.labels.Best as code-best
 use Rattle.scene.specs.Scene.{Maybe, none, some, Point}
-use Rattle.scene.specs.Labels.{same, pick, Best, bestPlace, carries, bestItem, pointOfLabel}
+use Rattle.scene.specs.Labels.{sameBytes, pick, Best, bestPlace, labelIs, bestItem, pointOfLabel}
 use Rattle.scene.specs.Contracts.Answers.{keyBy, considerPlace, considerItem, labelBy, placesAt, itemsAt}
 use Rattle.names.specs.Contracts.Table.{nameOf, markOf, marked, Table}
 
@@ -19,18 +19,18 @@ isSome (some x) = true
 isSome none = false
 
 -- the point of slot m, for m from 1 to 64
-abbrev pub spotOf : List Float → ℕ → Float → Point
-spotOf spots m d = record { x = getD spots (2 * m - 2) d; y = getD spots (2 * m - 1) d }
+abbrev pub slotPoint : List Float → ℕ → Float → Point
+slotPoint spots m d = record { x = getD spots (2 * m - 2) d; y = getD spots (2 * m - 1) d }
 
 -- Of the names of the first n entries of t, where the labels stand from p on: mark 0 is a name that nothing has, mark m from 1 to 64 one whose point is in slot m, mark 65 one that has a point as well, for which there was no slot left.
-pub record Noted (more : ℕ) (l t t′ : List ℕ) (n : ℕ) (spots : List Float) (used p : ℕ) : Type 0 where
+pub record LabelsMatched (more : ℕ) (l t t′ : List ℕ) (n : ℕ) (spots : List Float) (used p : ℕ) : Type 0 where
   pub names : (i : ℕ) → getD t′ i 0 % 33554432 ≡ getD t i 0 % 33554432
   pub table : Table more l t′ n
   pub most : (i : ℕ) → i < n → markOf (getD t′ i 0) ≤ 65
   pub none-has : (i : ℕ) → i < n → markOf (getD t′ i 0) ≡ 0 → pointOfLabel (nameOf more l (getD t i 0)) (placesAt l p) (itemsAt l p) ≡ none
   pub one-has : (i : ℕ) → i < n → 1 ≤ markOf (getD t′ i 0) → isSome (pointOfLabel (nameOf more l (getD t i 0)) (placesAt l p) (itemsAt l p)) ≡ true
   pub spot : (i : ℕ) → i < n → 1 ≤ markOf (getD t′ i 0) → markOf (getD t′ i 0) ≤ 64 → (d : Float)
-      → pointOfLabel (nameOf more l (getD t i 0)) (placesAt l p) (itemsAt l p) ≡ some (spotOf spots (markOf (getD t′ i 0)) d)
+      → pointOfLabel (nameOf more l (getD t i 0)) (placesAt l p) (itemsAt l p) ≡ some (slotPoint spots (markOf (getD t′ i 0)) d)
   -- a mark 65 is one of 65 marks at least
   pub full : (i : ℕ) → i < n → markOf (getD t′ i 0) ≡ 65 → 65 ≤ marked t′ n
   pub unused : used ≡ 0 → (i : ℕ) → i < n → markOf (getD t′ i 0) ≡ 0
@@ -65,18 +65,18 @@ pub record Slot (keys : List ℕ) (spots : List Float) (m : ℕ) (b : code-best.
   pub is : (d : Float) → record { key = keyBy (b .key); at = record { x = b .x; y = b .y } } ≡ slotAt keys spots m d
 
 -- b is what was found for an entry with the mark m
-pub record Had (keys : List ℕ) (spots : List Float) (m : ℕ) (b : code-best.Best) : Type 0 where
+pub record BestIs (keys : List ℕ) (spots : List Float) (m : ℕ) (b : code-best.Best) : Type 0 where
   pub nothing : (m ≡ 0) ⊎ (65 ≤ m) → b .some ≡ false
   pub slot : 1 ≤ m → m ≤ 64 → Slot keys spots (m - 1) b
 
 -- slot m became b
-pub record Put (keys keys′ : List ℕ) (spots spots′ : List Float) (m : ℕ) (b : code-best.Best) : Type 0 where
+pub record SlotSet (keys keys′ : List ℕ) (spots spots′ : List Float) (m : ℕ) (b : code-best.Best) : Type 0 where
   pub lengths : (length keys′ ≡ length keys) × (length spots′ ≡ length spots)
   pub is : (d : Float) → slotAt keys′ spots′ m d ≡ record { key = keyBy (b .key); at = record { x = b .x; y = b .y } }
   pub others : (j : ℕ) → (j ≡ m → ⊥) → (d : Float) → slotAt keys′ spots′ j d ≡ slotAt keys spots j d
 
 -- of the first n entries, bs being what the plain search has found for their names
-pub record Kept (n : ℕ) (z : Slots) (bs : ℕ → Maybe Best) : Type 0 where
+pub record SlotsHold (n : ℕ) (z : Slots) (bs : ℕ → Maybe Best) : Type 0 where
   pub few : z .used ≤ 64
   pub most : (i : ℕ) → i < n → markOf (getD (z .t) i 0) ≤ 65
   pub marks : (i : ℕ) → i < n → markOf (getD (z .t) i 0) ≤ 64 → markOf (getD (z .t) i 0) ≤ z .used
@@ -90,36 +90,36 @@ pub record Kept (n : ℕ) (z : Slots) (bs : ℕ → Maybe Best) : Type 0 where
       → markOf (getD (z .t) i 0) ≡ markOf (getD (z .t) j 0) → i ≡ j
 
 -- no name and no length changed
-pub record Stays (z z′ : Slots) : Type 0 where
+pub record SameNames (z z′ : Slots) : Type 0 where
   pub size : length (z′ .t) ≡ length (z .t)
   pub keys : length (z′ .keys) ≡ length (z .keys)
   pub spots : length (z′ .spots) ≡ length (z .spots)
   pub names : (i : ℕ) → getD (z′ .t) i 0 % 33554432 ≡ getD (z .t) i 0 % 33554432
 
 -- the best for entry k became b, unless there was no slot for it
-pub record Held (k : ℕ) (b : Maybe Best) (z z′ : Slots) : Type 0 where
-  pub stays : Stays z z′
-  pub tells : (n : ℕ) (bs bs′ : ℕ → Maybe Best) → k < n → Kept n z bs
+pub record BestStored (k : ℕ) (b : Maybe Best) (z z′ : Slots) : Type 0 where
+  pub stays : SameNames z z′
+  pub tells : (n : ℕ) (bs bs′ : ℕ → Maybe Best) → k < n → SlotsHold n z bs
       → (markOf (getD (z .t) k 0) ≤ 64 → bs′ k ≡ b)
       → (1 ≤ markOf (getD (z .t) k 0) → isSome (bs′ k) ≡ true)
       → ((i : ℕ) → i < n → (i ≡ k → ⊥) → bs′ i ≡ bs i)
-      → Kept n z′ bs′
+      → SlotsHold n z′ bs′
 
 -- labels were met: what was found for each name went on by a step
-pub record Met (more : ℕ) (l : List ℕ) (n : ℕ) (z z′ : Slots) (step : List ℕ → Maybe Best → Maybe Best) : Type 0 where
-  pub stays : Stays z z′
-  pub tells : (bs : ℕ → Maybe Best) → Kept n z bs → Kept n z′ (λ i. step (nameOf more l (getD (z .t) i 0)) (bs i))
+pub record Matched (more : ℕ) (l : List ℕ) (n : ℕ) (z z′ : Slots) (step : List ℕ → Maybe Best → Maybe Best) : Type 0 where
+  pub stays : SameNames z z′
+  pub tells : (bs : ℕ → Maybe Best) → SlotsHold n z bs → SlotsHold n z′ (λ i. step (nameOf more l (getD (z .t) i 0)) (bs i))
 
 -- the step of the place at q, the i-th, and of all from p on
 unfoldable pub placeStep : List ℕ → ℕ → ℕ → List ℕ → Maybe Best → Maybe Best
-placeStep l q i name b = pick (same (part l (q + 1 + 1) (getD l (q + 1) 0)) name) (considerPlace b i (placesAt l q)) b
+placeStep l q i name b = pick (sameBytes (bytesAt l (q + 1 + 1) (getD l (q + 1) 0)) name) (considerPlace b i (placesAt l q)) b
 
 unfoldable pub placesStep : List ℕ → ℕ → List ℕ → Maybe Best → Maybe Best
 placesStep l p name b = bestPlace name 0 (placesAt l p) b
 
 -- the step of the item at q, and of all
 unfoldable pub itemStep : List ℕ → ℕ → ℕ → List ℕ → Maybe Best → Maybe Best
-itemStep l q i name b = pick (carries (labelBy l (q + 3 + 1) (getD l (q + 3) 0)) name) (considerItem b i (itemsAt l q)) b
+itemStep l q i name b = pick (labelIs (labelBy l (q + 3 + 1) (getD l (q + 3) 0)) name) (considerItem b i (itemsAt l q)) b
 
 unfoldable pub itemsStep : List ℕ → ℕ → List ℕ → Maybe Best → Maybe Best
 itemsStep l p name b = bestItem name 0 (itemsAt l p) b

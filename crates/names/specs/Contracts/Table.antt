@@ -7,12 +7,12 @@ use Prim.Native.Nat.{ℕ, zero, suc, _+_, _-_, _/_, _%_, _≤_, _<_}
 use lib.ListN.{length, getD}
 use lib.Dec.{eqb}
 use Rattle.records.specs.Layout.{before}
-use Rattle.records.specs.Records.{part}
-use Rattle.scene.specs.Labels.{same}
+use Rattle.records.specs.Records.{bytesAt}
+use Rattle.scene.specs.Labels.{sameBytes}
 
 -- the name whose length stands at p
 unfoldable pub nameAt : ℕ → List ℕ → ℕ → List ℕ
-nameAt more l p = part l (p + 1) (getD l p 0 - more)
+nameAt more l p = bytesAt l (p + 1) (getD l p 0 - more)
 
 -- an entry is a position below 2^25, and a mark in what is beyond
 abbrev pub nameOf : ℕ → List ℕ → ℕ → List ℕ
@@ -26,17 +26,17 @@ abbrev pub keyOf : List ℕ → List ℕ
 keyOf x = length x ∷ x
 
 unfoldable pub orderOf : List ℕ → List ℕ → ℕ
-orderOf a b = cond (same a b) 1 (cond (before (keyOf a) (keyOf b)) 0 2)
+orderOf a b = cond (sameBytes a b) 1 (cond (before (keyOf a) (keyOf b)) 0 2)
 
 -- a name stands at p, with eight more bytes behind it
-pub record Stands (more : ℕ) (l : List ℕ) (p : ℕ) : Type 0 where
+pub record NameFits (more : ℕ) (l : List ℕ) (p : ℕ) : Type 0 where
   pub least : more ≤ getD l p 0
   pub fits : p + 9 + (getD l p 0 - more) ≤ length l
 
 -- the first n entries of t
 pub record Table (more : ℕ) (l t : List ℕ) (n : ℕ) : Type 0 where
   pub fits : n ≤ length t
-  pub stands : (i : ℕ) → i < n → Stands more l (getD t i 0 % 33554432)
+  pub stands : (i : ℕ) → i < n → NameFits more l (getD t i 0 % 33554432)
   pub rises : (i j : ℕ) → i < j → j < n → before (keyOf (nameOf more l (getD t i 0))) (keyOf (nameOf more l (getD t j 0))) ≡ true
 
 abbrev pub Unmarked : List ℕ → ℕ → Type 0
@@ -48,7 +48,7 @@ marked t zero = 0
 marked t (suc n) = marked t n + cond (eqb (markOf (getD t n 0)) 0) 0 1
 
 -- one of them is the name x
-pub record In (more : ℕ) (l t : List ℕ) (n : ℕ) (x : List ℕ) : Type 0 where
+pub record Contains (more : ℕ) (l t : List ℕ) (n : ℕ) (x : List ℕ) : Type 0 where
   pub at : ℕ
   pub within : at < n
   pub is : nameOf more l (getD t at 0) ≡ x
@@ -66,7 +66,7 @@ pub record Searched (more : ℕ) (l t : List ℕ) (n : ℕ) (x : List ℕ) (b : 
   pub gap : b ≡ false → Gap more l t n x k
 
 -- entries from `at` to n - 1 moved up by one
-pub record Opened (t t′ : List ℕ) (at n : ℕ) : Type 0 where
+pub record ShiftedUp (t t′ : List ℕ) (at n : ℕ) : Type 0 where
   pub size : length t′ ≡ length t
   pub low : (i : ℕ) → i ≤ at → getD t′ i 0 ≡ getD t i 0
   pub high : (i : ℕ) → at ≤ i → i < n → getD t′ (i + 1) 0 ≡ getD t i 0
@@ -76,6 +76,6 @@ pub record Inserted (more : ℕ) (l t t′ : List ℕ) (n r : ℕ) (x : List ℕ
   pub count : (n ≤ r) × (r ≤ n + 1)
   pub table : Table more l t′ r
   pub unmarked : Unmarked t n → Unmarked t′ r
-  pub new : In more l t′ r x
-  pub old : (y : List ℕ) → In more l t n y → In more l t′ r y
-  pub only : (y : List ℕ) → In more l t′ r y → In more l t n y ⊎ (y ≡ x)
+  pub new : Contains more l t′ r x
+  pub old : (y : List ℕ) → Contains more l t n y → Contains more l t′ r y
+  pub only : (y : List ℕ) → Contains more l t′ r y → Contains more l t n y ⊎ (y ≡ x)

@@ -8,18 +8,18 @@ use native.Mathlib.Omega.{arith}
 use lib.ListN.{length}
 use borrow.Author.Tests.{lt-ltb, le-ltb, eq-eqb, ne-eqb}
 use Rattle.records.specs.Layout.{before}
-use Rattle.scene.specs.Labels.{same}
+use Rattle.scene.specs.Labels.{sameBytes}
 use Rattle.scene.specs.Laws.Names.{same-lengths}
 use Rattle.scene.specs.Laws.Rising.{before-less, before-next, before-not-same}
 use Rattle.names.specs.Contracts.Table.{keyOf}
 
-pub same-itself : (a : List ℕ) → same a a ≡ true
-unfolding same
+pub same-itself : (a : List ℕ) → sameBytes a a ≡ true
+unfolding sameBytes
 same-itself [] = refl
 same-itself (x ∷ xs) = rw (eq-eqb x x refl, same-itself xs) refl
 
-before-else : (a b : List ℕ) → same a b ≡ false → before a b ≡ false → before b a ≡ true
-unfolding same before
+before-else : (a b : List ℕ) → sameBytes a b ≡ false → before a b ≡ false → before b a ≡ true
+unfolding sameBytes before
 before-else [] [] h k = sym h
 before-else [] (y ∷ ys) h k = sym k
 before-else (x ∷ xs) [] h k = refl
@@ -36,9 +36,9 @@ before-else (x ∷ xs) (y ∷ ys) h k =
           ]
     ]
 
--- keys are the same where names are
-pub same-keys : (a b : List ℕ) → same (keyOf a) (keyOf b) ≡ same a b
-unfolding same
+-- keys are the sameBytes where names are
+pub same-keys : (a b : List ℕ) → sameBytes (keyOf a) (keyOf b) ≡ sameBytes a b
+unfolding sameBytes
 same-keys a b =
     elim (decLt (length a) (length b)) [
       | yes h ↦ differ (λ e. omega arith)
@@ -49,14 +49,14 @@ same-keys a b =
           ]
     ]
   where
-    differ : (length a ≡ length b → ⊥) → same (keyOf a) (keyOf b) ≡ same a b
+    differ : (length a ≡ length b → ⊥) → sameBytes (keyOf a) (keyOf b) ≡ sameBytes a b
     differ d = rw (ne-eqb (length a) (length b) d, same-lengths a b d) refl
 
-pub key-else : (a b : List ℕ) → same a b ≡ false → before (keyOf a) (keyOf b) ≡ false → before (keyOf b) (keyOf a) ≡ true
+pub key-else : (a b : List ℕ) → sameBytes a b ≡ false → before (keyOf a) (keyOf b) ≡ false → before (keyOf b) (keyOf a) ≡ true
 key-else a b h k = before-else (keyOf a) (keyOf b) (same-keys a b ∙ h) k
 
--- of two names, the one that comes before the other is not the same
-pub key-not-same : (a b : List ℕ) → before (keyOf a) (keyOf b) ≡ true → (same a b ≡ false) × (same b a ≡ false)
+-- of two names, the one that comes before the other is not the sameBytes
+pub key-not-same : (a b : List ℕ) → before (keyOf a) (keyOf b) ≡ true → (sameBytes a b ≡ false) × (sameBytes b a ≡ false)
 key-not-same a b h =
     let d = before-not-same (keyOf a) (keyOf b) h in
     (sym (same-keys a b) ∙ d .0, sym (same-keys b a) ∙ d .1)

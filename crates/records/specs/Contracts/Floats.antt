@@ -5,12 +5,12 @@ use mathlib.Core.List.{List}
 use Rattle.stream.specs.Numbers.{floatAt}
 use Rattle.stream.specs.declared.Float64.{Float64}
 use Rattle.records.specs.Records.{allTo}
-use Rattle.records.specs.Limits.{number, near}
+use Rattle.records.specs.Limits.{isFinite, onCanvas}
 
-abbrev pub fine : Bool → Float64 → Bool
-fine true x = near x
-fine false x = number x
+abbrev pub withinLimit : Bool → Float64 → Bool
+withinLimit true x = onCanvas x
+withinLimit false x = isFinite x
 
 -- n floats from p on
-abbrev pub fines : List ℕ → Bool → ℕ → ℕ → Bool
-fines l canvas p n = allTo (λ i. fine canvas (floatAt l (p + 8 * i))) n
+abbrev pub allWithinLimit : List ℕ → Bool → ℕ → ℕ → Bool
+allWithinLimit l canvas p n = allTo (λ i. withinLimit canvas (floatAt l (p + 8 * i))) n

@@ -16,7 +16,7 @@ abbrev pub recordsAt : List ℕ → ℕ → ℕ → ℕ → List (List ℕ)
 recordsAt l p t k = recordsOf t k (entries (drop p l) 0)
 
 -- a record of tag t and key k stands at a position of the payload, and the next one behind it
-pub record Standing (l : List ℕ) (t k at next : ℕ) : Type 0 where
+pub record RecordAt (l : List ℕ) (t k at next : ℕ) : Type 0 where
   pub is : Record
   pub size : ℕ
   pub got : recordOf (drop at l) ≡ Got is size
@@ -29,5 +29,5 @@ unfoldable pub hitsOf : List ℕ → ℕ → ℕ → Hit → List (List ℕ)
 hitsOf l t k h = cond (h .some) (drop (h .at) l ∷ recordsAt l (h .next) t k) []
 
 -- records of greater tags, up to items, stand from q on, if from p on
-abbrev pub Later : List ℕ → ℕ → ℕ → ℕ → Type 0
-Later l tag p q = (t k : ℕ) → tag < t → t ≤ 6 → recordsAt l p t k ≡ recordsAt l q t k
+abbrev pub SkipsTo : List ℕ → ℕ → ℕ → ℕ → Type 0
+SkipsTo l tag p q = (t k : ℕ) → tag < t → t ≤ 6 → recordsAt l p t k ≡ recordsAt l q t k

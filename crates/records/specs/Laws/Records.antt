@@ -10,11 +10,11 @@ use lib.Dec.{eqb, leb, ltb}
 use borrow.Author.Tests.{leb-true, ltb-true, eqb-true, eqb-false}
 use Rattle.stream.specs.Numbers.{u16At}
 use Rattle.records.specs.declared.records.Record.{Record}
-use Rattle.records.specs.declared.records.Record.the-variants.{Rescale, Choice, Feature, Variable, Place, Item, Points, Path}
+use Rattle.records.specs.declared.records.Record.the-variants.{Rescale, Option, Feature, Variable, Place, Item, Points, Path}
 use Rattle.records.specs.declared.records.Step.{Step}
 use Rattle.records.specs.declared.records.Step.the-variants.{Got, End, Bad}
-use Rattle.records.specs.Records.{pick, plains, named, labelled, namedThen, counted, allZero, choiceWidth, choiceFits, valuesWidth, itemBegins, itemFits, itemWith}
-use Rattle.records.specs.Records.{endOf, rescaleOf, choiceOf, featureOf, variableOf, placeOf, itemOf, pointsOf, pathWith, cubicsOf, polylineOf, pathOf, byTag, recordOf}
+use Rattle.records.specs.Records.{pick, allAsciiGraphic, named, labelled, namedThen, counted, allZero, optionWidth, optionFits, valuesWidth, itemBegins, itemFits, itemWith}
+use Rattle.records.specs.Records.{endOf, rescaleOf, optionOf, featureOf, variableOf, placeOf, itemOf, pointsOf, pathWith, cubicsOf, polylineOf, pathOf, byTag, recordOf}
 use Rattle.records.specs.Walk.{tagOf}
 use Rattle.records.specs.Laws.Tests.{and-left, and-right, or-cases}
 
@@ -26,7 +26,7 @@ pub record Name (l : List ℕ) (p n : ℕ) : Type 0 where
   pub some : 1 ≤ n
   pub short : n ≤ 31
   pub fits : p + 1 + n ≤ length l
-  pub plain : plains l (p + 1) n ≡ true
+  pub plain : allAsciiGraphic l (p + 1) n ≡ true
 
 module _ (l : List ℕ) (p : ℕ) where
   pub name : named l p ≡ true → Name l p (getD l p 0)
@@ -74,7 +74,7 @@ begins-fits l h = leb-true 4 (length l) (and-left _ _ h)
 -- how many bytes it takes
 abbrev pub sizeOf : Record → ℕ
 sizeOf Rescale = 9
-sizeOf (Choice o) = 2 + choiceWidth o
+sizeOf (Option o) = 2 + optionWidth o
 sizeOf (Feature n) = 18 + n
 sizeOf (Variable n) = 10 + n
 sizeOf (Place n) = 27 + n
@@ -125,7 +125,7 @@ pub record PathAt (l : List ℕ) (r c f n : ℕ) : Type 0 where
 -- what its fields are
 abbrev pub Fields : List ℕ → Record → Type 0
 Fields l Rescale = Unit {0}
-Fields l (Choice o) = ChoiceAt l o
+Fields l (Option o) = ChoiceAt l o
 Fields l (Feature n) = Name l 1 n
 Fields l (Variable n) = Name l 1 n
 Fields l (Place n) = Name l 1 n × (getD l (18 + n) 0 ≤ 1)
@@ -161,11 +161,11 @@ module _ (l : List ℕ) where
   unfolding rescaleOf
   rescale-told t = both l (leb 9 (length l)) _ Bad (λ h. record { tag = t; size = refl; some = omega arith; fits = leb-true 9 (length l) h; fields = tt }) (λ h. tt)
 
-  choice-told : getD l 0 0 ≡ 2 → Told l (choiceOf l)
-  unfolding choiceOf choiceFits
+  choice-told : getD l 0 0 ≡ 2 → Told l (optionOf l)
+  unfolding optionOf optionFits
   choice-told t =
       let o = getD l 1 0 in
-      both l (leb 2 (length l) && choiceFits l o) _ Bad
+      both l (leb 2 (length l) && optionFits l o) _ Bad
       (λ h.
       let h₁ = and-right (leb 2 (length l)) _ h in
       let h₂ = and-right (leb 1 o) _ h₁ in
@@ -174,7 +174,7 @@ module _ (l : List ℕ) where
         tag = t;
         size = refl;
         some = omega arith;
-        fits = leb-true (2 + choiceWidth o) (length l) (and-left _ _ h₃);
+        fits = leb-true (2 + optionWidth o) (length l) (and-left _ _ h₃);
         fields = record {
           is = refl;
           low = leb-true 1 o (and-left _ _ h₁);
@@ -183,7 +183,7 @@ module _ (l : List ℕ) where
               ⊎-elim
               (λ (more : ltb 1 o ≡ true). absurd (omega (arith, ltb-true 1 o more)))
               (λ (less : leb (getD l 2 0) 1 ≡ true). leb-true (getD l 2 0) 1 less)
-              (or-cases (ltb 1 o) (leb (getD l 2 0) 1) (and-right (leb (2 + choiceWidth o) (length l)) _ h₃));
+              (or-cases (ltb 1 o) (leb (getD l 2 0) 1) (and-right (leb (2 + optionWidth o) (length l)) _ h₃));
         };
       })
       (λ h. tt)
@@ -310,7 +310,7 @@ module _ (l : List ℕ) where
       both l (eqb (length l) 0) Bad _ (λ e. tt)
       (λ e. both l (eqb t 0) (endOf l) _ (λ e. end-told)
       (λ e. both l (eqb t 1) (rescaleOf l) _ (λ e. rescale-told (is 1 e))
-      (λ e. both l (eqb t 2) (choiceOf l) _ (λ e. choice-told (is 2 e))
+      (λ e. both l (eqb t 2) (optionOf l) _ (λ e. choice-told (is 2 e))
       (λ e. both l (eqb t 3) (featureOf l) _ (λ e. feature-told (is 3 e))
       (λ e. both l (eqb t 4) (variableOf l) _ (λ e. variable-told (is 4 e))
       (λ e. both l (eqb t 5) (placeOf l) _ (λ e. place-told (is 5 e))

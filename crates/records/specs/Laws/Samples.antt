@@ -4,11 +4,11 @@ use mathlib.Core.List.{List, [], _∷_, _++_, map}
 use Prim.Native.Nat.{ℕ, _-_}
 use lib.ListN.{length, take, replicate}
 use Rattle.stream.specs.Numbers.{u16At}
-use Rattle.records.specs.declared.records.Record.the-variants.{Rescale, Choice, Feature, Variable, Place, Item, Points, Path}
+use Rattle.records.specs.declared.records.Record.the-variants.{Rescale, Option, Feature, Variable, Place, Item, Points, Path}
 use Rattle.records.specs.declared.records.Step.{Step}
 use Rattle.records.specs.declared.records.Step.the-variants.{Got, End, Bad}
-use Rattle.records.specs.Records.{plain, allTo, named, labelled, namedThen, counted, allZero, choiceWidth, choiceFits, valuesWidth, itemBegins, itemFits, itemWith}
-use Rattle.records.specs.Records.{endOf, rescaleOf, choiceOf, featureOf, variableOf, placeOf, itemOf, pointsOf, pathWith, cubicsOf, polylineOf, pathOf, byTag, recordOf}
+use Rattle.records.specs.Records.{asciiGraphic, allTo, named, labelled, namedThen, counted, allZero, optionWidth, optionFits, valuesWidth, itemBegins, itemFits, itemWith}
+use Rattle.records.specs.Records.{endOf, rescaleOf, optionOf, featureOf, variableOf, placeOf, itemOf, pointsOf, pathWith, cubicsOf, polylineOf, pathOf, byTag, recordOf}
 
 abbrev zeros : ℕ → List ℕ
 zeros n = replicate n 0
@@ -18,10 +18,10 @@ whole : List (List ℕ × Step)
 whole =
     (1 ∷ zeros 8, Got Rescale 9)
     -- a frame, an anchor, a scale, a view's scale
-    ∷ (2 ∷ 1 ∷ 1 ∷ [], Got (Choice 1) 3)
-    ∷ (2 ∷ 2 ∷ zeros 16, Got (Choice 2) 18)
-    ∷ (2 ∷ 3 ∷ zeros 8, Got (Choice 3) 10)
-    ∷ (2 ∷ 6 ∷ zeros 8, Got (Choice 6) 10)
+    ∷ (2 ∷ 1 ∷ 1 ∷ [], Got (Option 1) 3)
+    ∷ (2 ∷ 2 ∷ zeros 16, Got (Option 2) 18)
+    ∷ (2 ∷ 3 ∷ zeros 8, Got (Option 3) 10)
+    ∷ (2 ∷ 6 ∷ zeros 8, Got (Option 6) 10)
     -- the shortest name and the longest
     ∷ (3 ∷ 1 ∷ 33 ∷ zeros 16, Got (Feature 1) 19)
     ∷ (4 ∷ 31 ∷ replicate 31 126 ++ zeros 8, Got (Variable 31) 41)
@@ -82,6 +82,6 @@ table = whole ++ map cut whole ++ ends ++ map bad broken
 
 samples-agree : map (λ (s : List ℕ × Step). recordOf (s .0)) table ≡ map (λ (s : List ℕ × Step). s .1) table
 unfolding
-    whole cut ends broken bad table u16At plain allTo named labelled namedThen counted allZero choiceWidth choiceFits valuesWidth itemBegins itemFits itemWith
-    endOf rescaleOf choiceOf featureOf variableOf placeOf itemOf pointsOf pathWith cubicsOf polylineOf pathOf byTag recordOf
+    whole cut ends broken bad table u16At asciiGraphic allTo named labelled namedThen counted allZero optionWidth optionFits valuesWidth itemBegins itemFits itemWith
+    endOf rescaleOf optionOf featureOf variableOf placeOf itemOf pointsOf pathWith cubicsOf polylineOf pathOf byTag recordOf
 samples-agree = refl

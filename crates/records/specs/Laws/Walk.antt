@@ -54,7 +54,7 @@ less-one : (j : ℕ) → suc j - 1 ≡ j
 less-one j = omega arith
 
 -- ---- a record stands here: it is the first of the list, and the rest of the list is that of the bytes behind it
-entries-one : (l : List ℕ) (r : Record) (k : ℕ) → recordOf l ≡ Got r k → 1 ≤ k → k ≤ length l → entries l 0 ≡ record { bytes = l; head = r } ∷ entries (drop k l) 0
+entries-one : (l : List ℕ) (r : Record) (k : ℕ) → recordOf l ≡ Got r k → 1 ≤ k → k ≤ length l → entries l 0 ≡ record { bytes = l; parsed = r } ∷ entries (drop k l) 0
 unfolding entries
 entries-one [] r k e a b = absurd (omega arith)
 entries-one (x ∷ xs) r zero e a b = absurd (omega arith)
@@ -67,7 +67,7 @@ ends-one (x ∷ xs) r zero e a b = absurd (omega arith)
 ends-one (x ∷ xs) r (suc j) e a b = rw (e, less-one, ends-skip xs j) refl
 
 module _ (l : List ℕ) {r : Record} {k : ℕ} (e : recordOf l ≡ Got r k) where
-  pub entries-got : entries l 0 ≡ record { bytes = l; head = r } ∷ entries (drop k l) 0
+  pub entries-got : entries l 0 ≡ record { bytes = l; parsed = r } ∷ entries (drop k l) 0
   entries-got = let f = stands l e in entries-one l r k e (f .some) (f .fits)
 
   pub ends-got : ends l 0 ≡ ends (drop k l) 0
@@ -101,7 +101,7 @@ ends-bad (x ∷ xs) e = rw e refl
 
 -- ---- the same at position p of a list: a pass goes from p to p + k
 module _ (l : List ℕ) (p : ℕ) {r : Record} {k : ℕ} (e : recordOf (drop p l) ≡ Got r k) where
-  pub entries-on : entries (drop p l) 0 ≡ record { bytes = drop p l; head = r } ∷ entries (drop (p + k) l) 0
+  pub entries-on : entries (drop p l) 0 ≡ record { bytes = drop p l; parsed = r } ∷ entries (drop (p + k) l) 0
   entries-on = rw (← drop-drop k p l) (entries-got (drop p l) e)
 
   pub ends-on : ends (drop p l) 0 ≡ ends (drop (p + k) l) 0

@@ -11,7 +11,7 @@ use Rattle.reference.specs.Laws.Everything.{everything}
 use Rattle.reference.specs.Laws.Scenes.{every-producer, running-out, all, from-2000000, from-60, from-40, from-20, from-5, from-0}
 
 -- each draw as `all` writes it
-abbrev told : List densify.Drawn → List ℕ
+abbrev told : List densify.GrantedDraw → List ℕ
 told [] = []
 told (d ∷ ds) = d .want ∷ d .floor ∷ d .granted ∷ cond (d .cut) 1 0 ∷ told ds
 

@@ -14,7 +14,7 @@ use Rattle.scene.specs.Labels.{pointOfLabel}
 use Rattle.register.specs.Contracts.Outcome.{registerRefusal}
 use Rattle.budget.specs.declared.Budget.{Budget}
 use Rattle.budget.specs.Budget.{takeOf}
-use Rattle.densify.specs.Densify.{Block, partsOf, boxRingOf, flattenCubicOf, densifyPolylineOf}
+use Rattle.densify.specs.Densify.{Block, segmentParts, boxRingOf, flattenCubicOf, densifyPolylineOf}
 use Rattle.reference.specs.Laws.Everything.{everything}
 
 -- ---- the kinds of row; a float is its pattern
@@ -79,7 +79,7 @@ abbrev pub holds : Row → Bool
 holds (draw left wanted floor grant rest short) =
     let t = takeOf (from left) wanted floor in
     eqb (t .granted) grant && eqb (t .budget .left) rest && alike (t .budget .hit) short
-holds (segment metres parts) = eqb (partsOf c100 (f metres)) parts
+holds (segment metres parts) = eqb (segmentParts c100 (f metres)) parts
 holds (rounded v w) = is (roundOf (f v)) w
 holds (normalised v w) = is (normalizeLonOf (f v)) w
 holds (label l x) = isAt (named-A l) x

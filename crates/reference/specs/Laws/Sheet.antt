@@ -10,7 +10,7 @@ use Rattle.float.specs.Functions.{roundOf}
 use Rattle.similarity.specs.Projection.{billion}
 use Rattle.stream.specs.Blocks.{wordSum}
 use Rattle.register.specs.Register as register
-use Rattle.geopic.specs.Geopic.{Lent, refusal, answerOf, lentAfter}
+use Rattle.geopic.specs.Geopic.{Buffers, refusal, answerOf, buffersAfter}
 use Rattle.reference.specs.Laws.Everything.{everything}
 use Rattle.reference.specs.Laws.Scenes.{f0, f1, f2, variable, item}
 
@@ -41,10 +41,10 @@ abbrev whole : ℕ → Float
 whole n = ofInt binary64 (pos n)
 
 -- with so many words for features
-abbrev pub lent-with : ℕ → Lent
+abbrev pub lent-with : ℕ → Buffers
 lent-with words = record { work = replicate 32 (whole 11); positions = replicate 32 (whole 12); features = replicate words 13; warnings = replicate 4 14 }
 
-abbrev pub lent : Lent
+abbrev pub lent : Buffers
 lent = lent-with 12
 
 -- ---- the P lines: each number to the nearest whole number of 10⁻⁹ degree, by value
@@ -68,25 +68,25 @@ pub sheet :
     -- R 0 0, 9 positions, 1 feature line, B 1999988 0
     (answerOf stream lent ≡ record { number = 0; method = 0; controls = 0; spent = 0; positions = 9; features = 1; warnings = 0; left = 1999988 })
     -- work is cleared
-    × (lentAfter stream lent .work ≡ replicate 32 o)
+    × (buffersAfter stream lent .work ≡ replicate 32 o)
     -- the P lines, and the rest of the slice as it was
-    × (agree (take 18 (lentAfter stream lent .positions)) ring ≡ true)
-    × (drop 18 (lentAfter stream lent .positions) ≡ replicate 14 (whole 12))
+    × (agree (take 18 (buffersAfter stream lent .positions)) ring ≡ true)
+    × (drop 18 (buffersAfter stream lent .positions) ≡ replicate 14 (whole 12))
     -- F 0 2 0 0 0 9, and the rest of the slice as it was
-    × (lentAfter stream lent .features ≡ 0 ∷ 2 ∷ 0 ∷ 0 ∷ 0 ∷ 9 ∷ replicate 6 13)
+    × (buffersAfter stream lent .features ≡ 0 ∷ 2 ∷ 0 ∷ 0 ∷ 0 ∷ 9 ∷ replicate 6 13)
     -- no W line, and the slice as it was
-    × (lentAfter stream lent .warnings ≡ replicate 4 14)
+    × (buffersAfter stream lent .warnings ≡ replicate 4 14)
 unfolding everything
 sheet = (refl, refl, refl, refl, refl, refl)
 
 -- with a word too few for the feature line: 17, and every slice is cleared
 pub no-room :
     (answerOf stream (lent-with 5) ≡ refusal 17)
-    × (lentAfter stream (lent-with 5) ≡ record { work = replicate 32 o; positions = replicate 32 o; features = replicate 5 0; warnings = replicate 4 0 })
+    × (buffersAfter stream (lent-with 5) ≡ record { work = replicate 32 o; positions = replicate 32 o; features = replicate 5 0; warnings = replicate 4 0 })
 unfolding everything
 no-room = (refl, refl)
 
 -- without a frame: 7, and every slice is as it was
-pub no-frame : (answerOf (stream-with []) lent ≡ refusal 7) × (lentAfter (stream-with []) lent ≡ lent)
+pub no-frame : (answerOf (stream-with []) lent ≡ refusal 7) × (buffersAfter (stream-with []) lent ≡ lent)
 unfolding everything
 no-frame = (refl, refl)

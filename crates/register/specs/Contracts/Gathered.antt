@@ -10,15 +10,15 @@ use lib.Ieee.{Float}
 use Rattle.stream.specs.Payload.{payload}
 use Rattle.stream.specs.Contracts.Payload.{room}
 use Rattle.scene.specs.Scene.{Maybe, none, some, Point, Scene, sceneOf}
-use Rattle.scene.specs.Labels.{same}
+use Rattle.scene.specs.Labels.{sameBytes}
 use Rattle.similarity.specs.declared.fit.Control.{Control}
 use Rattle.similarity.specs.Contracts.Fours.{fourIn, foursIn}
-use Rattle.names.specs.Contracts.Table.{nameOf, markOf, marked, Table, Unmarked, In}
-use Rattle.names.specs.Contracts.Batch.{spotOf}
+use Rattle.names.specs.Contracts.Table.{nameOf, markOf, marked, Table, Unmarked, Contains}
+use Rattle.names.specs.Contracts.Batch.{slotPoint}
 use Rattle.register.specs.declared.controls.Tally.{Tally}
-use Rattle.register.specs.declared.controls.Filled as code-filled
+use Rattle.register.specs.declared.controls.FilledBatch as code-filled
 use Rattle.register.specs.declared.mentions.Cursor.{Cursor}
-use Rattle.register.specs.Register.{isSome, Event, control, warn, allPlaced, resolved, mentioned, featureEvents, variableEvents, controlsIn, controlsOf, events}
+use Rattle.register.specs.Register.{isSome, Event, control, warn, allWithinLimits, resolved, mentioned, featureEvents, variableEvents, controlsIn, controlsOf, events}
 use Rattle.register.specs.Contracts.Mentions.{Mention, featureMentions, grownBy, eventsOf, mentionsAt, moreOf, Follows}
 
 -- which events are control points, the first event being the j-th
@@ -43,7 +43,7 @@ controlsBy = foursIn controlBy
 -- cs are gathered, of the names js; where b is false, only how many there are is known, and whether all are placed
 pub record Holds (b : Bool) (cs : List Control) (js : List ℕ) (g : Tally) (flat : List Float) (kept : List ℕ) : Type 0 where
   pub count : g .n ≡ upTo65 (length cs)
-  pub placed : g .placed ≡ allPlaced cs
+  pub within : g .within ≡ allWithinLimits cs
   pub controls : b ≡ true → length cs ≤ 64 → controlsBy flat (length cs) ≡ cs
   pub numbers : b ≡ true → length cs ≤ 64 → take (length cs) kept ≡ js
   pub as-many : length js ≡ length cs
@@ -61,7 +61,7 @@ Kept sc kept = take (length (controlsOf sc)) kept ≡ numbersIn 0 (events sc)
 -- the mention has the name x and a latitude
 abbrev pub named : List ℕ → Mention → Maybe Float → Bool
 named x m none = false
-named x m (some lat) = same (m .name) x
+named x m (some lat) = sameBytes (m .name) x
 
 -- one of them does
 unfoldable pub among : List ℕ → List Mention → Bool
@@ -73,20 +73,20 @@ pub record Added (more : ℕ) (l t t′ : List ℕ) (n r : ℕ) (m : Mention) : 
   pub count : (n ≤ r) × (r ≤ n + 1)
   pub table : Table more l t′ r
   pub unmarked : Unmarked t n → Unmarked t′ r
-  pub new : (x : List ℕ) → named x m (m .lat) ≡ true → In more l t′ r x
-  pub old : (x : List ℕ) → In more l t n x → In more l t′ r x
-  pub only : (x : List ℕ) → In more l t′ r x → In more l t n x ⊎ (named x m (m .lat) ≡ true)
+  pub new : (x : List ℕ) → named x m (m .lat) ≡ true → Contains more l t′ r x
+  pub old : (x : List ℕ) → Contains more l t n x → Contains more l t′ r x
+  pub only : (x : List ℕ) → Contains more l t′ r x → Contains more l t n x ⊎ (named x m (m .lat) ≡ true)
 
 -- a table holds the names of the first mentions from c on
-pub record Filling (s : List ℕ) (lons : Bool) (c : Cursor) (r : code-filled.Filled) (t : List ℕ) : Type 0 where
+pub record Filling (s : List ℕ) (lons : Bool) (c : Cursor) (r : code-filled.FilledBatch) (t : List ℕ) : Type 0 where
   pub enough : r .count ≤ length (mentionsAt (payload s) lons c)
   pub table : Table (moreOf lons) (payload s) t (r .n)
   pub unmarked : Unmarked t (r .n)
-  pub all : (x : List ℕ) → among x (take (r .count) (mentionsAt (payload s) lons c)) ≡ true → In (moreOf lons) (payload s) t (r .n) x
-  pub only : (x : List ℕ) → In (moreOf lons) (payload s) t (r .n) x → among x (take (r .count) (mentionsAt (payload s) lons c)) ≡ true
+  pub all : (x : List ℕ) → among x (take (r .count) (mentionsAt (payload s) lons c)) ≡ true → Contains (moreOf lons) (payload s) t (r .n) x
+  pub only : (x : List ℕ) → Contains (moreOf lons) (payload s) t (r .n) x → among x (take (r .count) (mentionsAt (payload s) lons c)) ≡ true
 
 -- and where the next batch begins
-pub record Batch (s : List ℕ) (lons : Bool) (c : Cursor) (r : code-filled.Filled) (t runs : List ℕ) : Type 0 where
+pub record Batch (s : List ℕ) (lons : Bool) (c : Cursor) (r : code-filled.FilledBatch) (t runs : List ℕ) : Type 0 where
   pub filling : Filling s lons c r t
   pub follows : Follows s lons (r .next) runs
   pub rest : mentionsAt (payload s) lons (r .next) ≡ drop (r .count) (mentionsAt (payload s) lons c)
@@ -104,44 +104,44 @@ pub record Taken (more : ℕ) (l t t′ : List ℕ) (n : ℕ) (x : List ℕ) (r 
   pub mark : (i : ℕ) → i < n → nameOf more l (getD t i 0) ≡ x → r ≡ markOf (getD t i 0)
   pub gone : (i : ℕ) → i < n → nameOf more l (getD t i 0) ≡ x → markOf (getD t′ i 0) ≡ 0
   pub others : (i : ℕ) → i < n → (nameOf more l (getD t i 0) ≡ x → ⊥) → getD t′ i 0 ≡ getD t i 0
-  pub from : 1 ≤ r → In more l t n x
+  pub from : 1 ≤ r → Contains more l t n x
   pub counted : marked t n ≡ marked t′ n + cond (eqb r 0) 0 1
 
 -- which names of a table resolve and were not before: those that have a mark
-pub record Waits (sc : Scene) (more : ℕ) (l t : List ℕ) (n : ℕ) (spots : List Float) (was : List ℕ → Bool) : Type 0 where
+pub record MarksTell (sc : Scene) (more : ℕ) (l t : List ℕ) (n : ℕ) (spots : List Float) (was : List ℕ → Bool) : Type 0 where
   pub no-more : (i : ℕ) → i < n → markOf (getD t i 0) ≡ 0 → (isSome (resolved sc (nameOf more l (getD t i 0))) ≡ false) ⊎ (was (nameOf more l (getD t i 0)) ≡ true)
   pub resolves : (i : ℕ) → i < n → 1 ≤ markOf (getD t i 0) → isSome (resolved sc (nameOf more l (getD t i 0))) ≡ true
   pub unnamed : (i : ℕ) → i < n → 1 ≤ markOf (getD t i 0) → was (nameOf more l (getD t i 0)) ≡ false
   pub spot : (i : ℕ) → i < n → 1 ≤ markOf (getD t i 0) → markOf (getD t i 0) ≤ 64 → (d : Float)
-      → resolved sc (nameOf more l (getD t i 0)) ≡ some (spotOf spots (markOf (getD t i 0)) d)
+      → resolved sc (nameOf more l (getD t i 0)) ≡ some (slotPoint spots (markOf (getD t i 0)) d)
 
-abbrev pub nobody : List ℕ → Bool
-nobody x = false
+abbrev pub noName : List ℕ → Bool
+noName x = false
 
 -- after the first i host features
-abbrev pub featured : Scene → ℕ → List ℕ → Bool
-featured sc i x = mentioned x (take i (sc .features))
+abbrev pub amongFeatures : Scene → ℕ → List ℕ → Bool
+amongFeatures sc i x = mentioned x (take i (sc .features))
 
 abbrev pub Fewer : List ℕ → List ℕ → ℕ → Type 0
 Fewer t t′ n = (i : ℕ) → i < n → markOf (getD t′ i 0) ≤ markOf (getD t i 0)
 
 -- the names of the first i host features wait no more, and each that did was a control point among them
-pub record Forgotten (l : List ℕ) (more : ℕ) (t t′ : List ℕ) (n i : ℕ) : Type 0 where
+pub record KnownCleared (l : List ℕ) (more : ℕ) (t t′ : List ℕ) (n i : ℕ) : Type 0 where
   pub table : Table more l t′ n
   pub names : (k : ℕ) → getD t′ k 0 % 33554432 ≡ getD t k 0 % 33554432
   pub fewer : Fewer t t′ n
-  pub waits : (spots : List Float) → Waits (sceneOf l) more l t n spots nobody → Waits (sceneOf l) more l t′ n spots (featured (sceneOf l) i)
-  pub counted : (spots : List Float) → Waits (sceneOf l) more l t n spots nobody
-      → marked t n ≤ marked t′ n + length (controlsIn (eventsOf (sceneOf l) 2 nobody (featureMentions 0 (take i (sceneOf l .features)))))
+  pub waits : (spots : List Float) → MarksTell (sceneOf l) more l t n spots noName → MarksTell (sceneOf l) more l t′ n spots (amongFeatures (sceneOf l) i)
+  pub counted : (spots : List Float) → MarksTell (sceneOf l) more l t n spots noName
+      → marked t n ≤ marked t′ n + length (controlsIn (eventsOf (sceneOf l) 2 noName (featureMentions 0 (take i (sceneOf l .features)))))
 
 -- ---- the mentions ms are read: what is known before
-pub record Ready (l : List ℕ) (lons : Bool) (ms : List Mention) (t : List ℕ) (n : ℕ) (spots : List Float) (g : Tally) (flat : List Float) (kept : List ℕ) : Type 0 where
+pub record BeforeRead (l : List ℕ) (lons : Bool) (ms : List Mention) (t : List ℕ) (n : ℕ) (spots : List Float) (g : Tally) (flat : List Float) (kept : List ℕ) : Type 0 where
   pub was : List ℕ → Bool
   pub b : Bool
   pub cs : List Control
   pub js : List ℕ
-  pub waits : Waits (sceneOf l) (moreOf lons) l t n spots was
-  pub inside : (x : List ℕ) → among x ms ≡ true → In (moreOf lons) l t n x
+  pub waits : MarksTell (sceneOf l) (moreOf lons) l t n spots was
+  pub inside : (x : List ℕ) → among x ms ≡ true → Contains (moreOf lons) l t n x
   pub slots : b ≡ true → (i : ℕ) → i < n → markOf (getD t i 0) ≤ 64
   pub holds : Holds b cs js g flat kept
 
@@ -154,10 +154,10 @@ grownAll was [] y = was y
 grownAll was (m ∷ ms) y = grownAll (grownBy was (m .name) (m .lat)) ms y
 
 -- and after: their control points are gathered, the first of their names being the j-th of all
-pub record Read (l : List ℕ) (lons : Bool) (ms : List Mention) (t t′ : List ℕ) (n : ℕ) (spots : List Float) (j : ℕ) (was : List ℕ → Bool) (b : Bool) (cs : List Control) (js : List ℕ) (r : Tally) (flat : List Float) (kept : List ℕ) : Type 0 where
+pub record AfterRead (l : List ℕ) (lons : Bool) (ms : List Mention) (t t′ : List ℕ) (n : ℕ) (spots : List Float) (j : ℕ) (was : List ℕ → Bool) (b : Bool) (cs : List Control) (js : List ℕ) (r : Tally) (flat : List Float) (kept : List ℕ) : Type 0 where
   pub names : (k : ℕ) → getD t′ k 0 % 33554432 ≡ getD t k 0 % 33554432
   pub fewer : Fewer t t′ n
-  pub waits : Waits (sceneOf l) (moreOf lons) l t′ n spots (grownAll was ms)
+  pub waits : MarksTell (sceneOf l) (moreOf lons) l t′ n spots (grownAll was ms)
   pub holds : Holds b (cs ++ controlsIn (eventsOf (sceneOf l) (againOf lons) was ms)) (js ++ numbersIn j (eventsOf (sceneOf l) (againOf lons) was ms)) r flat kept
   -- each mark that is gone was a control point
   pub counted : marked t n ≤ marked t′ n + length (controlsIn (eventsOf (sceneOf l) (againOf lons) was ms))
@@ -183,12 +183,12 @@ beforeOf false features base = base
 
 abbrev pub batchEvents : List ℕ → Bool → ℕ → List Mention → List Event
 batchEvents l lons base ms =
-    eventsOf (sceneOf l) (againOf lons) (featured (sceneOf l) (beforeOf lons (length (sceneOf l .features)) base)) ms
+    eventsOf (sceneOf l) (againOf lons) (amongFeatures (sceneOf l) (beforeOf lons (length (sceneOf l .features)) base)) ms
 
 -- the control points of the host features before it are among cs
 abbrev pub Earlier : Scene → Bool → ℕ → List Control → Type 0
 Earlier sc lons base cs =
-    length (controlsIn (eventsOf sc 2 nobody (featureMentions 0 (take (beforeOf lons (length (sc .features)) base) (sc .features))))) ≤ length cs
+    length (controlsIn (eventsOf sc 2 noName (featureMentions 0 (take (beforeOf lons (length (sc .features)) base) (sc .features))))) ≤ length cs
 
 abbrev pub firstCursor : Bool → ℕ → Cursor
 firstCursor true vars = record { q = vars; i = 0; at = 0; len = 0 }

@@ -7,14 +7,14 @@ use lib.ListN.{getD}
 use lib.Ieee.{Float}
 use Rattle.stream.specs.Payload.{payload}
 use Rattle.stream.specs.Contracts.Payload.{room}
-use Rattle.records.specs.Records.{part}
+use Rattle.records.specs.Records.{bytesAt}
 use Rattle.scene.specs.Scene.{Maybe, none, some, Scene, NamedFeature, NamedValue, sceneOf}
-use Rattle.scene.specs.Labels.{same}
-use Rattle.scene.specs.Contracts.Answers.{valueBy, featuresAt, variablesAt}
+use Rattle.scene.specs.Labels.{sameBytes}
+use Rattle.scene.specs.Contracts.Answers.{maybeFloat, featuresAt, variablesAt}
 use Rattle.register.specs.declared.mentions.Cursor.{Cursor}
 use Rattle.register.specs.declared.mentions.Mention as code-mention
 use Rattle.register.specs.Register.{Event, warn, resolved, eventOf, suffixLat, var, stem, isLon}
-use Rattle.register.specs.Contracts.Runs.{Along}
+use Rattle.register.specs.Contracts.LatLookup.{Along}
 
 -- a name, and where it is said to be; `_lat` may not be set
 pub record Mention : Type 0 where
@@ -44,7 +44,7 @@ eventWith sc again b m (some lat) =
 
 abbrev pub grownBy : (List ℕ → Bool) → List ℕ → Maybe Float → List ℕ → Bool
 grownBy was x none y = was y
-grownBy was x (some lat) y = was y || same x y
+grownBy was x (some lat) y = was y || sameBytes x y
 
 -- of each name the first mention that has a latitude is a control point, if the name resolves
 unfoldable pub eventsOf : Scene → ℕ → (List ℕ → Bool) → List Mention → List Event
@@ -62,7 +62,7 @@ moreOf true = 4
 moreOf false = 0
 
 abbrev pub mentionBy : List ℕ → code-mention.Mention → Mention
-mentionBy l r = record { name = part l (r .at) (r .len); lon = r .lon; lat = valueBy (r .lat); index = r .index }
+mentionBy l r = record { name = bytesAt l (r .at) (r .len); lon = r .lon; lat = maybeFloat (r .lat); index = r .index }
 
 abbrev pub mentionsBy : List ℕ → Bool → code-mention.Mention → List Mention
 mentionsBy l lons r = cond (r .some) (mentionBy l r ∷ mentionsAt l lons (r .next)) []
@@ -73,9 +73,9 @@ pub record Follows (s : List ℕ) (lons : Bool) (c : Cursor) (runs : List ℕ) :
   pub along : lons ≡ true → Along s runs (c .at) (c .len) (c .q)
 
 -- the name of a mention stands behind its length, which is `more` too great, and before eight bytes at least
-pub record Heads (s : List ℕ) (more : ℕ) (m : code-mention.Mention) : Type 0 where
+pub record MentionFits (s : List ℕ) (more : ℕ) (m : code-mention.Mention) : Type 0 where
   pub behind : 1 ≤ m .at
-  pub head : getD (payload s) (m .at - 1) 0 ≡ m .len + more
+  pub prefix : getD (payload s) (m .at - 1) 0 ≡ m .len + more
   pub few : m .len + more ≤ 31
   pub within : m .at + m .len + 8 ≤ room s
 
@@ -88,4 +88,4 @@ pub record Asked (s : List ℕ) (lons : Bool) (c : Cursor) (r : code-mention.Men
   pub more : r .some ≡ true → c .q < r .next .q
   pub fits : r .some ≡ true → r .next .q ≤ room s
   pub index : r .some ≡ true → r .index + 1 ≡ r .next .i
-  pub heads : r .some ≡ true → Heads s (moreOf lons) r
+  pub heads : r .some ≡ true → MentionFits s (moreOf lons) r

@@ -10,15 +10,15 @@ use lib.Dec.{eqb}
 use borrow.Author.Tests.{eq-eqb, eqb-true}
 use Rattle.records.specs.Layout.{before}
 use Rattle.scene.specs.Laws.Rising.{before-less, before-next, before-cases}
-use Rattle.register.specs.Contracts.Runs.{commonOf}
+use Rattle.register.specs.Contracts.LatLookup.{commonPrefix}
 
-common-more : (x y : ℕ) (xs ys : List ℕ) → x ≡ y → commonOf (x ∷ xs) (y ∷ ys) ≡ suc (commonOf xs ys)
-unfolding commonOf
+common-more : (x y : ℕ) (xs ys : List ℕ) → x ≡ y → commonPrefix (x ∷ xs) (y ∷ ys) ≡ suc (commonPrefix xs ys)
+unfolding commonPrefix
 common-more x y xs ys e = rw (eq-eqb x y e) refl
 
 -- a name that shares more bytes with w than u does comes after u
-pub run-law : (u w name : List ℕ) (j : ℕ) → before u w ≡ true → commonOf u w < j → j ≤ length w → take j name ≡ take j w → before u name ≡ true
-unfolding before commonOf
+pub run-law : (u w name : List ℕ) (j : ℕ) → before u w ≡ true → commonPrefix u w < j → j ≤ length w → take j name ≡ take j w → before u name ≡ true
+unfolding before commonPrefix
 run-law [] w name zero h c k e = absurd (omega arith)
 run-law [] [] name (suc j) h c k e = absurd (omega arith)
 run-law [] (y ∷ ys) [] (suc j) h c k e = let z : _≡_ {A = ℕ} 0 1 = cc in absurd (omega arith)
@@ -28,7 +28,7 @@ run-law (x ∷ xs) [] name (suc j) h c k e = absurd (false≢true h)
 run-law (x ∷ xs) (y ∷ ys) [] (suc j) h c k e = let z : _≡_ {A = ℕ} 0 1 = cc in absurd (omega arith)
 run-law (x ∷ xs) (y ∷ ys) (z ∷ zs) (suc j) h c k e = by (before-cases x y xs ys h) (cc) (run-law xs ys zs j)
   where
-    by : (x < y) ⊎ ((x ≡ y) × (before xs ys ≡ true)) → z ≡ y → (before xs ys ≡ true → commonOf xs ys < j → j ≤ length ys → take j zs ≡ take j ys → before xs zs ≡ true) → before (x ∷ xs) (z ∷ zs) ≡ true
+    by : (x < y) ⊎ ((x ≡ y) × (before xs ys ≡ true)) → z ≡ y → (before xs ys ≡ true → commonPrefix xs ys < j → j ≤ length ys → take j zs ≡ take j ys → before xs zs ≡ true) → before (x ∷ xs) (z ∷ zs) ≡ true
     by (inl p) q f = before-less x z xs zs (omega arith)
     by (inr p) q f = before-next x z xs zs (omega arith) (f (p .1) (omega (arith, common-more x y xs ys (p .0))) (omega arith) (cc))
 
@@ -37,11 +37,11 @@ first-alike true j k h = (refl, omega arith)
 first-alike false j k h = absurd (omega arith)
 
 -- two names agree on the bytes that they begin with alike
-pub common-take : (u w : List ℕ) (j : ℕ) → j ≤ commonOf u w → take j u ≡ take j w
-unfolding commonOf
+pub common-take : (u w : List ℕ) (j : ℕ) → j ≤ commonPrefix u w → take j u ≡ take j w
+unfolding commonPrefix
 common-take u w zero h = refl
 common-take [] w (suc j) h = absurd (omega arith)
 common-take (x ∷ xs) [] (suc j) h = absurd (omega arith)
 common-take (x ∷ xs) (y ∷ ys) (suc j) h =
-    let both = first-alike (eqb x y) j (commonOf xs ys) h in
+    let both = first-alike (eqb x y) j (commonPrefix xs ys) h in
     rw (eqb-true x y (both .0), common-take xs ys j (both .1)) refl

@@ -16,17 +16,17 @@ use Rattle.stream.specs.Numbers.{u16At, floatAt}
 use Rattle.stream.specs.declared.Float64.{Float64}
 use Rattle.stream.specs.declared.Float64.the-variants.{Finite, NotFinite}
 use Rattle.records.specs.declared.records.Record.{Record}
-use Rattle.records.specs.declared.records.Record.the-variants.{Rescale, Choice, Feature, Variable, Place, Item, Points, Path}
+use Rattle.records.specs.declared.records.Record.the-variants.{Rescale, Option, Feature, Variable, Place, Item, Points, Path}
 use Rattle.records.specs.declared.records.Step.{Step}
 use Rattle.records.specs.declared.records.Step.the-variants.{Got, End, Bad}
 use Rattle.records.specs.Records.{valuesWidth, recordOf}
 use Rattle.records.specs.Walk.{Entry, tagOf, more, entries}
-use Rattle.records.specs.Search.{keyOf, past, turnOf, sought, recordsOf}
-use Rattle.records.specs.Limits.{near, nears, limitedAt, allLimited, limited}
+use Rattle.records.specs.Search.{keyOf, endsSearch, searchStepOf, withFound, recordsOf}
+use Rattle.records.specs.Limits.{onCanvas, allOnCanvas, limitedAt, allLimited, limited}
 use Rattle.records.specs.Laws.Tests.{and-left, and-right}
 use Rattle.records.specs.Laws.Records.{sizeOf, Fields, stands}
-use Rattle.scene.specs.Scene.{Maybe, none, some, given, first, valueOf, numberAt, bit, Point, pointAt, pointsAt, Cubic, cubicAt, cubicsAt, NamedPlace, placeAt, Form, curve, polyline, formAt, DrawnPath, pathAt, DrawnItem, behind, itemWith, itemAt, Scene, sceneOf}
-use Rattle.scene.specs.Labels.{same, pick, sumOf, meanOf, meanPoint, startOf, firstStart, meanOrStart, orElse, referencePoint, Key, Best, greater, consider, considerAt, placeKey, itemKey, bestPlace, carries, bestItem, pointOf, pointOfLabel}
+use Rattle.scene.specs.Scene.{Maybe, none, some, given, first, valueOf, floatValueAt, bit, Point, pointAt, pointsAt, Cubic, cubicAt, cubicsAt, NamedPlace, placeAt, Form, curve, polyline, formAt, DrawnPath, pathAt, DrawnItem, tail, itemWith, itemAt, Scene, sceneOf}
+use Rattle.scene.specs.Labels.{sameBytes, pick, sumOf, meanOf, meanPoint, startOf, firstStart, meanOrStart, orElse, referencePoint, Key, Best, greater, consider, considerAt, placeKey, itemKey, bestPlace, labelIs, bestItem, pointOf, pointOfLabel}
 use Rattle.scene.specs.Laws.Widths.{all-at, at-within, w-within, h-within, r-within, rad-within}
 use Rattle.scene.specs.Laws.Points.{points-length}
 use Rattle.similarity.specs.Laws.Project.{million, mMillion}
@@ -53,20 +53,20 @@ pub record NearPoint (p : Point) : Type 0 where
   pub x : Near (p .x)
   pub y : Near (p .y)
 
-near-value : (v : Float64) → near v ≡ true → Near (valueOf v)
-unfolding near valueOf ofBits neg
+near-value : (v : Float64) → onCanvas v ≡ true → Near (valueOf v)
+unfolding onCanvas valueOf ofBits neg
 near-value NotFinite h = absurd (false≢true h)
 near-value (Finite v) h = record { low = yes (le mMillion v) (and-left _ _ h); high = yes (le v million) (and-right (le mMillion v) _ h); fl = tt; fh = tt }
 
 -- n floats from p on
 abbrev Run : List ℕ → ℕ → ℕ → Type 0
-Run l p n = (i : ℕ) → i < n → Near (numberAt l (p + 8 * i))
+Run l p n = (i : ℕ) → i < n → Near (floatValueAt l (p + 8 * i))
 
-run : (l : List ℕ) (p n : ℕ) → nears l p n ≡ true → Run l p n
-unfolding numberAt
-run l p n h i k = near-value (floatAt l (p + 8 * i)) (all-at (λ i. near (floatAt l (p + 8 * i))) n i h k)
+run : (l : List ℕ) (p n : ℕ) → allOnCanvas l p n ≡ true → Run l p n
+unfolding floatValueAt
+run l p n h i k = near-value (floatAt l (p + 8 * i)) (all-at (λ i. onCanvas (floatAt l (p + 8 * i))) n i h k)
 
-moved : (l : List ℕ) {p q : ℕ} → p ≡ q → Near (numberAt l p) → Near (numberAt l q)
+moved : (l : List ℕ) {p q : ℕ} → p ≡ q → Near (floatValueAt l p) → Near (floatValueAt l q)
 moved l e h = rw e at h
 
 run-on : (l : List ℕ) (p j m n : ℕ) → j + n ≤ m → Run l p m → Run l (p + 8 * j) n
@@ -135,10 +135,10 @@ record Told (b : List ℕ) (r : Record) : Type 0 where
   short : length b ≤ longest
   limits : limitedAt b r ≡ true
 
--- each, and that its bytes go on with those behind it
+-- each, and that its bytes go on with those tail it
 abbrev Chain : List Entry → Type 0
 Chain [] = Unit {0}
-Chain (e ∷ es) = Told (e .bytes) (e .head) × (entries (e .bytes) 0 ≡ e ∷ es) × Chain es
+Chain (e ∷ es) = Told (e .bytes) (e .parsed) × (entries (e .bytes) 0 ≡ e ∷ es) × Chain es
 
 chain-more : (l : List ℕ) (s : Step) (f : ℕ → List Entry) → length l ≤ longest → recordOf l ≡ s → entries l 0 ≡ more l s f → ((k : ℕ) → allLimited (f k) ≡ true → Chain (f k)) → allLimited (more l s f) ≡ true
     → Chain (more l s f)
@@ -167,10 +167,10 @@ Says t b =
 abbrev AllSay : List Entry → Type 0
 AllSay es = (t k : ℕ) → Each (Says t) (recordsOf t k es)
 
--- a value behind those of j
-value-near : (b : List ℕ) (p j m : ℕ) (t : Bool) → Run b p (valuesWidth m / 8) → (t ≡ true → valuesWidth j + 8 ≤ valuesWidth m) → Holds Near (given t (numberAt b (p + valuesWidth j)))
+-- a value tail those of j
+value-near : (b : List ℕ) (p j m : ℕ) (t : Bool) → Run b p (valuesWidth m / 8) → (t ≡ true → valuesWidth j + 8 ≤ valuesWidth m) → Holds Near (given t (floatValueAt b (p + valuesWidth j)))
 value-near b p j m t r f =
-    given-holds Near t (numberAt b (p + valuesWidth j))
+    given-holds Near t (floatValueAt b (p + valuesWidth j))
     (λ e. let h = f e in moved b {p = p + 8 * (valuesWidth j / 8)} (omega (arith, eights)) (r (valuesWidth j / 8) (omega arith)))
   where
     eights : valuesWidth j ≡ 8 * (valuesWidth j / 8)
@@ -195,19 +195,19 @@ item-near b n m es h r a =
 
 path-near : (b : List ℕ) (f k : ℕ) → (f ≡ 0 → k ≡ u16At b 20) → (f ≡ 1 → k ≡ u16At b 4) → f ≤ 1 → limitedAt b (Path 0 0 f k) ≡ true → NearForm (formAt b f)
 unfolding formAt limitedAt
-path-near b zero k c g m h = rw (← c refl) (point-near b 4 2 (omega arith) (run b 4 2 (and-left _ _ h)), cubics-near b 22 k (run b 22 (6 * k) (and-right (nears b 4 2) _ h)))
+path-near b zero k c g m h = rw (← c refl) (point-near b 4 2 (omega arith) (run b 4 2 (and-left _ _ h)), cubics-near b 22 k (run b 22 (6 * k) (and-right (allOnCanvas b 4 2) _ h)))
 path-near b (suc f) k c g m h = rw (← g (omega arith)) (points-near b 6 k (run b 6 (2 * k) h))
 
-says : (b : List ℕ) (r : Record) → Told b r → AllSay (behind (entries b 0)) → Says (tagOf r) b
+says : (b : List ℕ) (r : Record) → Told b r → AllSay (tail (entries b 0)) → Says (tagOf r) b
 unfolding limitedAt placeAt itemAt pathAt
 says b Rescale t a = tt
-says b (Choice o) t a = tt
+says b (Option o) t a = tt
 says b (Feature n) t a = tt
 says b (Variable n) t a = tt
 says b (Place n) t a = rw (← t .fields .0 .is) (point-near b (2 + n) 2 (omega arith) (run b (2 + n) 2 (t .limits)))
 says b (Item k f n m) t a =
     let i = t .fields in
-    rw (← i .label-is, ← i .has-is) (item-near b n m (behind (entries b 0)) (i .has) (run b (13 + n) (valuesWidth m / 8) (t .limits)) a)
+    rw (← i .label-is, ← i .has-is) (item-near b n m (tail (entries b 0)) (i .has) (run b (13 + n) (valuesWidth m / 8) (t .limits)) a)
 says b (Points r n) t a =
     let i = t .fields in
     rw (← i .count) (record { few = omega (arith, points-length b 4 n, t .fits, t .short); points = points-near b 4 n (run b 4 (2 * n) (t .limits)) })
@@ -215,11 +215,11 @@ says b (Path r c f n) t a =
     let i = t .fields in
     rw (← i .form-is) (path-near b f n (i .cubics) (i .points) (i .form) (t .limits))
 
-sought-each : (Q : List ℕ → Type 0) (t k : ℕ) (r : Record) (b : List ℕ) (ls : List (List ℕ)) → (tagOf r ≡ t → Q b) → Each Q ls → Each Q (sought (turnOf t k r) b ls)
-unfolding turnOf
-sought-each Q t k r b ls q h = by (eqb (tagOf r) t && eqb (keyOf r) k) refl (past t (tagOf r)) refl
+sought-each : (Q : List ℕ → Type 0) (t k : ℕ) (r : Record) (b : List ℕ) (ls : List (List ℕ)) → (tagOf r ≡ t → Q b) → Each Q ls → Each Q (withFound (searchStepOf t k r) b ls)
+unfolding searchStepOf
+sought-each Q t k r b ls q h = by (eqb (tagOf r) t && eqb (keyOf r) k) refl (endsSearch t (tagOf r)) refl
   where
-    by : (a : Bool) → (eqb (tagOf r) t && eqb (keyOf r) k) ≡ a → (p : Bool) → past t (tagOf r) ≡ p → Each Q (sought (turnOf t k r) b ls)
+    by : (a : Bool) → (eqb (tagOf r) t && eqb (keyOf r) k) ≡ a → (p : Bool) → endsSearch t (tagOf r) ≡ p → Each Q (withFound (searchStepOf t k r) b ls)
     by true e p f = rw e (q (eqb-true (tagOf r) t (and-left _ _ e)), h)
     by false e true f = rw (e, f) tt
     by false e false f = rw (e, f) h
@@ -228,8 +228,8 @@ all-say : (es : List Entry) → Chain es → AllSay es
 unfolding recordsOf
 all-say [] c t k = tt
 all-say (e ∷ es) c t k =
-    sought-each (Says t) t k (e .head) (e .bytes) (recordsOf t k es)
-    (λ x. subst (λ (u : ℕ). Says u (e .bytes)) x (says (e .bytes) (e .head) (c .0) (rw (c .1) (all-say es (c .2)))))
+    sought-each (Says t) t k (e .parsed) (e .bytes) (recordsOf t k es)
+    (λ x. subst (λ (u : ℕ). Says u (e .bytes)) x (says (e .bytes) (e .parsed) (c .0) (rw (c .1) (all-say es (c .2)))))
     (all-say es (c .2) t k)
 
 -- ---- the mean of points
@@ -303,19 +303,19 @@ pick-near false a b h k = k
 place-best : (name : List ℕ) (i : ℕ) (ps : List NamedPlace) (b : Maybe Best) → Each (λ p. NearPoint (p .at)) ps → Holds AtNear b → Holds AtNear (bestPlace name i ps b)
 unfolding bestPlace
 place-best name i [] b h k = k
-place-best name i (p ∷ ps) b h k = place-best name (suc i) ps _ (h .1) (pick-near (same (p .label) name) (consider b (placeKey p i) (p .at)) b (consider-near b (placeKey p i) (p .at) k (h .0)) k)
+place-best name i (p ∷ ps) b h k = place-best name (suc i) ps _ (h .1) (pick-near (sameBytes (p .label) name) (consider b (placeKey p i) (p .at)) b (consider-near b (placeKey p i) (p .at) k (h .0)) k)
 
 item-best : (name : List ℕ) (i : ℕ) (its : List DrawnItem) (b : Maybe Best) → Each NearItem its → Holds AtNear b → Holds AtNear (bestItem name i its b)
 unfolding bestItem
 item-best name i [] b h k = k
 item-best name i (it ∷ its) b h k =
-    item-best name (suc i) its _ (h .1) (pick-near (carries (it .label) name) (considerAt b (itemKey it i) (referencePoint it)) b (consider-at b (itemKey it i) (referencePoint it) k (reference-near it (h .0))) k)
+    item-best name (suc i) its _ (h .1) (pick-near (labelIs (it .label) name) (considerAt b (itemKey it i) (referencePoint it)) b (consider-at b (itemKey it i) (referencePoint it) k (reference-near it (h .0))) k)
 
 point-of : (b : Maybe Best) → Holds AtNear b → Holds NearPoint (pointOf b)
 point-of none h = tt
 point-of (some b) h = h
 
--- of a scene whose points are near
+-- of a scene whose points are onCanvas
 pub record NearScene (sc : Scene) : Type 0 where
   pub places : Each (λ p. NearPoint (p .at)) (sc .places)
   pub items : Each NearItem (sc .items)

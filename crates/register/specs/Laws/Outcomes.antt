@@ -13,15 +13,15 @@ use lib.Ieee.Scale.{finite}
 use Rattle.stream.specs.Conditions.{firstOf}
 use Rattle.stream.specs.Laws.Conditions.{Numbered}
 use Rattle.scene.specs.Scene.{Maybe, none, some, Point, Scene}
-use Rattle.scene.specs.declared.numbers.Spot.{Spot}
-use Rattle.scene.specs.Contracts.Answers.{spotBy}
+use Rattle.scene.specs.declared.fields.OptionalPoint.{OptionalPoint}
+use Rattle.scene.specs.Contracts.Answers.{maybePoint}
 use Rattle.similarity.specs.declared.fit.Control.{Control}
 use Rattle.similarity.specs.Contracts.Fours.{foursIn}
 use Rattle.similarity.specs.declared.projection.Registration.{Registration}
 use Rattle.similarity.specs.Fit.{fitOf}
 use Rattle.register.specs.declared.controls.Tally.{Tally}
 use Rattle.register.specs.declared.outcome.Outcome.{Outcome}
-use Rattle.register.specs.Register.{f0, maxScale, var, geoFrame, isMercator, placed, allPlaced, anchorPlaced, anchorOf, controlsOf, scaleValue, pxMode, above0, declaredAt, fitted, registrationBy, registrationOf, ofRegistration}
+use Rattle.register.specs.Register.{f0, maxScale, var, geoFrame, isMercator, withinLimits, allWithinLimits, anchorWithinLimits, anchorOf, controlsOf, scaleValue, pxMode, above0, declaredAt, fitted, registrationBy, registrationOf, ofRegistration}
 use Rattle.register.specs.Contracts.Outcome.{accepted, refusedBy, pickOutcome, outcomeOf, checkedOf, declaredOutcome, fittedOutcome}
 use Rattle.register.specs.Contracts.Gathered.{upTo65, controlIn, controlsBy, Holds}
 
@@ -57,13 +57,13 @@ module _ {cs : List Control} {js : List ℕ} {g : Tally} {flat : List Float} {ke
   keeps few = h .numbers refl (omega (arith, counted few))
 
 -- the anchor by what is declared
-pub anchor-in : (a : Spot) (m : Maybe Point) → spotBy a ≡ m → ((a .some ≡ true) × (placed (a .x) (a .y) ≡ true)) ⊎ (a .some ≡ false) → anchorPlaced m ≡ true
-unfolding anchorPlaced
+pub anchor-in : (a : OptionalPoint) (m : Maybe Point) → maybePoint a ≡ m → ((a .some ≡ true) × (withinLimits (a .x) (a .y) ≡ true)) ⊎ (a .some ≡ false) → anchorWithinLimits m ≡ true
+unfolding anchorWithinLimits
 anchor-in a m e (inl w) = rw (← e, w .0) (w .1)
 anchor-in a m e (inr w) = rw (← e, w)
 
-pub anchor-out : (a : Spot) (m : Maybe Point) → spotBy a ≡ m → a .some ≡ true → placed (a .x) (a .y) ≡ false → anchorPlaced m ≡ false
-unfolding anchorPlaced
+pub anchor-out : (a : OptionalPoint) (m : Maybe Point) → maybePoint a ≡ m → a .some ≡ true → withinLimits (a .x) (a .y) ≡ false → anchorWithinLimits m ≡ false
+unfolding anchorWithinLimits
 anchor-out a m e h k = rw (← e, h) k
 
 -- ---- each return of `register`
@@ -116,19 +116,19 @@ pub not-mercator : (sc : Scene) → isMercator (sc .frame) (var sc geoFrame) ≡
 unfolding outcomeOf ofRegistration firstOf
 not-mercator sc h = rw h
 
-pub unplaced : (sc : Scene) → isMercator (sc .frame) (var sc geoFrame) ≡ true → allPlaced (controlsOf sc) ≡ false → refusedBy 8 ≡ outcomeOf sc
+pub unplaced : (sc : Scene) → isMercator (sc .frame) (var sc geoFrame) ≡ true → allWithinLimits (controlsOf sc) ≡ false → refusedBy 8 ≡ outcomeOf sc
 unfolding outcomeOf ofRegistration firstOf
 unplaced sc m h = rw (m, h)
 
-pub unplaced-anchor : (sc : Scene) → isMercator (sc .frame) (var sc geoFrame) ≡ true → allPlaced (controlsOf sc) ≡ true → anchorPlaced (anchorOf sc) ≡ false → refusedBy 8 ≡ outcomeOf sc
+pub unplaced-anchor : (sc : Scene) → isMercator (sc .frame) (var sc geoFrame) ≡ true → allWithinLimits (controlsOf sc) ≡ true → anchorWithinLimits (anchorOf sc) ≡ false → refusedBy 8 ≡ outcomeOf sc
 unfolding outcomeOf ofRegistration firstOf
 unplaced-anchor sc m all h = rw (m, all, h)
 
 -- past 8
 pub record Passed (sc : Scene) : Type 0 where
   pub mercator : isMercator (sc .frame) (var sc geoFrame) ≡ true
-  pub all : allPlaced (controlsOf sc) ≡ true
-  pub anchor : anchorPlaced (anchorOf sc) ≡ true
+  pub all : allWithinLimits (controlsOf sc) ≡ true
+  pub anchor : anchorWithinLimits (anchorOf sc) ≡ true
 
 module _ {sc : Scene} (p : Passed sc) where
   pub too-many : 64 < length (controlsOf sc) → refusedBy 9 ≡ outcomeOf sc

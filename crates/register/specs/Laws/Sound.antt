@@ -40,11 +40,11 @@ use Rattle.records.specs.Contracts.Refusals.{refusalOf}
 use Rattle.records.specs.Laws.Tests.{and-left, and-right}
 use Rattle.records.specs.Laws.Refusals.{is-short, is-limited, is-rescaled}
 use Rattle.stream.specs.Laws.Conditions.{first-none}
-use Rattle.scene.specs.Scene.{Maybe, none, some, first, valueOf, numberAt, Point, NamedFeature, NamedValue, variableAt, Scene, sceneOf}
-use Rattle.scene.specs.Labels.{same, pick, variableOf, orElse}
+use Rattle.scene.specs.Scene.{Maybe, none, some, first, valueOf, floatValueAt, Point, NamedFeature, NamedValue, variableAt, Scene, sceneOf}
+use Rattle.scene.specs.Labels.{sameBytes, pick, variableOf, orElse}
 use Rattle.register.specs.Register.{geoBearing, geoFrame, suffixLat, f0, f1, maxScale, orValue, isSome, var, isMercator, pxMode, declaredBearing}
-use Rattle.register.specs.Register.{Warning, Event, control, warn, resolved, mentioned, eventOf, featureEvent, featureEvents, stem, isLon, lonEvent, onto, variableEvents, events, controlsIn, controlsOf}
-use Rattle.register.specs.Register.{anchorOf, placed, allPlaced, anchorPlaced, scaleValue, above0, effectiveScale, declaredAt, fitted, registrationBy, registrationOf, ofRegistration}
+use Rattle.register.specs.Register.{Warning, Event, control, warn, resolved, mentioned, eventOf, featureEvent, featureEvents, stem, isLon, lonEvent, consIf, variableEvents, events, controlsIn, controlsOf}
+use Rattle.register.specs.Register.{anchorOf, withinLimits, allWithinLimits, anchorWithinLimits, scaleValue, above0, effectiveScale, declaredAt, fitted, registrationBy, registrationOf, ofRegistration}
 use Rattle.register.specs.Contracts.Outcome.{registerRefusal}
 use Rattle.register.specs.Laws.Outcomes.{registration-numbered}
 use Rattle.register.specs.Laws.Near.{Holds, Near, NearPoint, NearScene, longest, label-near, limited-near}
@@ -63,18 +63,18 @@ value-number nan h = f0-number
 value-number (inf s) h = f0-number
 value-number (fin s m e) h = record { is-finite = tt; of-format = h }
 
-pub number-at : (l : List ℕ) (p : ℕ) → Number (numberAt l p)
-unfolding numberAt floatAt
+pub number-at : (l : List ℕ) (p : ℕ) → Number (floatValueAt l p)
+unfolding floatValueAt floatAt
 number-at l p = value-number (ofBits binary64 (u64At l p)) (ofBits-fits binary64 (u64At l p))
 
-first-number : (ls : List (List ℕ)) → Holds Number (first (λ b. numberAt b 2) ls)
+first-number : (ls : List (List ℕ)) → Holds Number (first (λ b. floatValueAt b 2) ls)
 first-number [] = tt
 first-number (b ∷ ls) = number-at b 2
 
 variable-number : (name : List ℕ) (ls : List (List ℕ)) → Holds Number (variableOf name (map variableAt ls))
 unfolding variableOf variableAt
 variable-number name [] = tt
-variable-number name (b ∷ ls) = by (same (variableAt b .name) name) (variable-number name ls)
+variable-number name (b ∷ ls) = by (sameBytes (variableAt b .name) name) (variable-number name ls)
   where
     by : (t : Bool) → Holds Number (variableOf name (map variableAt ls)) → Holds Number (pick t (some (variableAt b .value)) (variableOf name (map variableAt ls)))
     by true h = number-at b _
@@ -167,7 +167,7 @@ pub record Tame (sc : Scene) : Type 0 where
   pub bearing : Number (orValue (declaredBearing sc) f0)
 
 pub tame : (l : List ℕ) → length l ≤ longest → limited l ≡ true → notAbove (rescaleIn l) ≡ false → Tame (sceneOf l)
-unfolding sceneOf numberAt rescaleIn
+unfolding sceneOf floatValueAt rescaleIn
 tame l m h k =
     let es = entries l 0 in
     record {
@@ -205,8 +205,8 @@ record OnMap (a b : Float) : Type 0 where
   lon : Between m180 K.c180 a
   lat : Between m85·06 c85·06 b
 
-on-map : (lon lat : Float) → placed lon lat ≡ true → OnMap lon lat
-unfolding placed
+on-map : (lon lat : Float) → withinLimits lon lat ≡ true → OnMap lon lat
+unfolding withinLimits
 on-map lon lat h = record {
   lon = abs-between K.c180 lon (unfold ofBits in tt) (and-right (le (absOf lat) c85·06) _ h);
   lat = abs-between c85·06 lat (unfold ofBits in tt) (and-left _ _ h);
@@ -226,7 +226,7 @@ event-near none b lon lat w v h = tt
 event-near (some p) true lon lat w v h = tt
 event-near (some p) false lon lat w v h = (h .x, h .y)
 
-onto-near : (t : Bool) (e : Event) (es : List Event) → EventNear e → Each EventNear es → Each EventNear (onto t e es)
+onto-near : (t : Bool) (e : Event) (es : List Event) → EventNear e → Each EventNear es → Each EventNear (consIf t e es)
 onto-near true e es h k = (h, k)
 onto-near false e es h k = k
 
@@ -234,12 +234,12 @@ both-near : (es fs : List Event) → Each EventNear es → Each EventNear fs →
 both-near [] fs h k = k
 both-near (e ∷ es) fs h k = (h .0, both-near es fs (h .1) k)
 
-placed-in : (es : List Event) → Each EventNear es → allPlaced (controlsIn es) ≡ true → Each Placed (controlsIn es)
-unfolding controlsIn allPlaced
+placed-in : (es : List Event) → Each EventNear es → allWithinLimits (controlsIn es) ≡ true → Each Placed (controlsIn es)
+unfolding controlsIn allWithinLimits
 placed-in [] h a = tt
 placed-in (control c ∷ es) h a =
     let m = on-map (c .lon) (c .lat) (and-left _ _ a) in
-    (record { x = h .0 .0; y = h .0 .1; lon = m .lon; lat = m .lat }, placed-in es (h .1) (and-right (placed (c .lon) (c .lat)) _ a))
+    (record { x = h .0 .0; y = h .0 .1; lon = m .lon; lat = m .lat }, placed-in es (h .1) (and-right (withinLimits (c .lon) (c .lat)) _ a))
 placed-in (warn w ∷ es) h a = placed-in es (h .1) a
 
 module _ (sc : Scene) (N : NearScene sc) where
@@ -262,7 +262,7 @@ module _ (sc : Scene) (N : NearScene sc) where
       let m = var sc (name ++ suffixLat) in
       onto-near (isLon (v .name)) (lonEvent sc i name (v .value) m) (variableEvents sc (suc i) vs) (lon-near i name (v .value) m) (variables-near (suc i) vs)
 
-  pub controls-placed : allPlaced (controlsOf sc) ≡ true → Each Placed (controlsOf sc)
+  pub controls-placed : allWithinLimits (controlsOf sc) ≡ true → Each Placed (controlsOf sc)
   unfolding controlsOf events
   controls-placed a = placed-in (events sc) (both-near (featureEvents sc 0 (sc .features)) (variableEvents sc 0 (sc .variables)) (features-near 0 (sc .features)) (variables-near 0 (sc .variables))) a
 
@@ -285,8 +285,8 @@ effective-plus sc r s v =
 -- ---- refusals
 -- 8, 9 and 11 to 14 for the control points cs
 record Passes (sc : Scene) (cs : List Control) : Type 0 where
-  all : allPlaced cs ≡ true
-  anchor : anchorPlaced (anchorOf sc) ≡ true
+  all : allWithinLimits cs ≡ true
+  anchor : anchorWithinLimits (anchorOf sc) ≡ true
   most : ltb 64 (length cs) ≡ false
   fit : (not (ltb (length cs) 2) && not (fitOf cs .some)) ≡ false
   above : (ltb (length cs) 2 && not (lt f0 (scaleValue sc))) ≡ false
@@ -301,11 +301,11 @@ passes sc z =
     let r = registrationBy sc (anchorOf sc) cs in
     let after8 = first-none (ofRegistration sc) (registration-numbered sc) z .1 in
     let after11 = after8 .1 .1 .1 in
-    let placed = is-true (allPlaced cs && anchorPlaced (anchorOf sc)) (after8 .0) in
+    let within = is-true (allWithinLimits cs && anchorWithinLimits (anchorOf sc)) (after8 .0) in
     let fine = is-true (finite (r .scale) && le (r .scale) maxScale) (after11 .1 .1 .1 .0) in
     record {
-      all = and-left _ _ placed;
-      anchor = and-right (allPlaced cs) _ placed;
+      all = and-left _ _ withinLimits;
+      anchor = and-right (allWithinLimits cs) _ withinLimits;
       most = after8 .1 .0;
       fit = after11 .0;
       above = after11 .1 .0;
@@ -323,8 +323,8 @@ record OnEarth (p : Point) : Type 0 where
   lon : Between m180 K.c180 (p .x)
   lat : Between m89·5 c89·5 (p .y)
 
-anchor-earth : (m : Maybe Point) → anchorPlaced m ≡ true → OnEarth (orValue m (record { x = f0; y = f0 }))
-unfolding anchorPlaced
+anchor-earth : (m : Maybe Point) → anchorWithinLimits m ≡ true → OnEarth (orValue m (record { x = f0; y = f0 }))
+unfolding anchorWithinLimits
 anchor-earth none h = record { lon = zero-in .0; lat = zero-in .1 }
 anchor-earth (some p) h =
     let m = on-map (p .x) (p .y) h in

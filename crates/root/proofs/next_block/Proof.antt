@@ -20,32 +20,32 @@ mul-twice c = search needs
 div-q : tie.Need-div-q
 div-q c = twice-pos (c .before .pre)
 
-mul-settle : tie.Need-mul-settle
-mul-settle c = omega (arith, sizes (c .before .pre))
+mul-correct : tie.Need-mul-correct
+mul-correct c = omega (arith, sizes (c .before .pre))
 
-add-settle : tie.Need-add-settle
-add-settle c = omega (arith, sizes (c .before .pre))
+add-correct : tie.Need-add-correct
+add-correct c = omega (arith, sizes (c .before .pre))
 
-rem-settle : tie.Need-rem-settle
-rem-settle c = twice-pos (c .before .pre)
+rem-correct : tie.Need-rem-correct
+rem-correct c = twice-pos (c .before .pre)
 
-mul-settle-2 : tie.Need-mul-settle-2
-mul-settle-2 c = omega (arith, sizes (c .before .pre), have-lt (c .before .pre))
+mul-correct-2 : tie.Need-mul-correct-2
+mul-correct-2 c = omega (arith, sizes (c .before .pre), have-lt (c .before .pre))
 
-rem-settle-2 : tie.Need-rem-settle-2
-rem-settle-2 c = b-pos (c .before .pre)
+rem-correct-2 : tie.Need-rem-correct-2
+rem-correct-2 c = b-pos (c .before .pre)
 
-add-settle-2 : tie.Need-add-settle-2
-add-settle-2 c = omega (arith, sizes (c .before .pre), have-lt (c .before .pre))
+add-correct-2 : tie.Need-add-correct-2
+add-correct-2 c = omega (arith, sizes (c .before .pre), have-lt (c .before .pre))
 
-mul-settle-3 : tie.Need-mul-settle-3
-mul-settle-3 c = omega (arith, sizes (c .before .pre), need-lt (c .before .pre))
+mul-correct-3 : tie.Need-mul-correct-3
+mul-correct-3 c = omega (arith, sizes (c .before .pre), need-lt (c .before .pre))
 
-settle-requires : tie.Need-settle-requires
-settle-requires c κs = omega (arith, sizes (c .before .pre), have-lt (c .before .pre), need-lt (c .before .pre))
+correct-requires : tie.Need-correct-requires
+correct-requires c κs = omega (arith, sizes (c .before .pre), have-lt (c .before .pre), need-lt (c .before .pre))
 
 returns : tie.Need-returns
-returns c = record { is = omega (arith, c .settle .ensures .0, balance (c .before .before .pre)); little = c .settle .ensures .1 }
+returns c = record { is = omega (arith, c .correct .ensures .0, balance (c .before .before .pre)); little = c .correct .ensures .1 }
 
 pub next-block-spec : {M : Type 1} → statement M
 next-block-spec =
@@ -56,12 +56,12 @@ next-block-spec =
     add-t
     mul-twice
     div-q
-    mul-settle
-    add-settle
-    rem-settle
-    mul-settle-2
-    rem-settle-2
-    add-settle-2
-    mul-settle-3
-    settle-requires
+    mul-correct
+    add-correct
+    rem-correct
+    mul-correct-2
+    rem-correct-2
+    add-correct-2
+    mul-correct-3
+    correct-requires
     returns)

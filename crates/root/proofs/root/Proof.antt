@@ -68,8 +68,8 @@ returns-4 c =
     under b h n l = omega arith
 
 -- ---- the digits
-split-requires : tie.Need-split-requires
-split-requires c κs = search needs
+decompose-requires : tie.Need-decompose-requires
+decompose-requires c κs = search needs
 
 mul-m : tie.Need-mul-m
 mul-m c = search needs
@@ -79,14 +79,14 @@ module _ (c : tie.Joined5) where
   abbrev start : tie.Start
   start = c .before .before .before .before .before .before .before
 
-  abbrev cut : tie.After-split
+  abbrev cut : tie.After-decompose
   cut = c .before .before
 
-  way : Evened (cut .split .result .m) (cut .split .result .e) (c .if5 .m)
+  way : Evened (cut .decompose .result .m) (cut .decompose .result .e) (c .if5 .m)
   way = ⊎-elim (λ w. inl (w .0 .taken, w .1)) (λ w. inr (w .0 .left, w .1)) (c .if5 .came)
 
 whole-root-requires : tie.Need-whole-root-requires
-whole-root-requires c κs = m-in (cut c .split .ensures) (way c)
+whole-root-requires c κs = m-in (cut c .decompose .ensures) (way c)
 
 sub-result : tie.Need-sub-result
 sub-result c = search needs
@@ -100,7 +100,7 @@ module _ (c : tie.After-struct-known2) where
   joined = c .before .before
 
   small : c .before .whole-root .result < 2 ^ 54
-  small = p-hi (cut joined .split .ensures) (way joined) (c .before .whole-root .ensures)
+  small = p-hi (cut joined .decompose .ensures) (way joined) (c .before .whole-root .ensures)
 
 add-result : tie.Need-add-result
 add-result c = omega (arith, small c)
@@ -111,12 +111,12 @@ add-result-2 c = search needs
 float-from-bits-result : tie.Need-float-from-bits-result
 float-from-bits-result c =
     let j = joined c in
-    pattern-no-nan (cut j .split .ensures) (way j) (c .before .whole-root .ensures)
+    pattern-no-nan (cut j .decompose .ensures) (way j) (c .before .whole-root .ensures)
 
 returns-5 : tie.Need-returns-5
 returns-5 c =
     let j = joined c in
-    pattern-read (cut j .split .ensures) (way j) (c .before .whole-root .ensures) (omega arith) (cut j .before .if4 .left)
+    pattern-read (cut j .decompose .ensures) (way j) (c .before .whole-root .ensures) (omega arith) (cut j .before .if4 .left)
     ∙ ap rootOf (read (start j))
 
 pub root-spec : {M : Type 1} → statement M
@@ -128,7 +128,7 @@ root-spec =
     returns-2
     returns-3
     returns-4
-    split-requires
+    decompose-requires
     mul-m
     whole-root-requires
     sub-result

@@ -2,7 +2,7 @@
 use Prim.Native.Nat.{ℕ, _/_, _^_}
 use native.Mathlib.Omega.{arith}
 use borrow.Author.Needs.{needs}
-use Rattle.root.specs.Contracts.Blocks.{Remains}
+use Rattle.root.specs.Contracts.Blocks.{IsRemainder}
 use Rattle.root.proofs.Blocks.{ready-guess, ready, renamed, whole-of}
 use Rattle.root.proofs.whole_root.Statement.{statement}
 use Rattle.root.proofs.whole_root.Tie as tie
@@ -18,7 +18,7 @@ module _ (c : tie.After-next-block) where
   abbrev m : ℕ
   m = c .before .before .args .m
 
-  p14 : Remains (m / 2 ^ 26) (c .next-block .result .root) (c .next-block .result .rem)
+  p14 : IsRemainder (m / 2 ^ 26) (c .next-block .result .root) (c .next-block .result .rem)
   p14 = renamed (omega (arith, c .before .guess .ensures .is)) (c .next-block .ensures)
 
 next-block-requires-2 : tie.Need-next-block-requires-2
@@ -26,7 +26,7 @@ next-block-requires-2 c κs = ready (2 ^ 13) (p14 c) (omega arith) (omega arith)
 
 -- 27 digits
 module _ (c : tie.After-next-block2) where
-  p27 : Remains (m (c .before)) (c .next-block2 .result .root) (c .next-block2 .result .rem)
+  p27 : IsRemainder (m (c .before)) (c .next-block2 .result .root) (c .next-block2 .result .rem)
   p27 = renamed (omega (arith, p14 (c .before) .is)) (c .next-block2 .ensures)
 
 next-block-requires-3 : tie.Need-next-block-requires-3

@@ -3,7 +3,7 @@ use mathlib.Core.Path.{_≡_}
 use Prim.Native.Nat.{ℕ, _+_, _*_, _^_, _≤_, _<_}
 
 -- n is a square and what is left, too little for the next square: `root` is the whole root of n
-pub record Remains (n root rem : ℕ) : Type 0 where
+pub record IsRemainder (n root rem : ℕ) : Type 0 where
   pub is : n ≡ root * root + rem
   pub little : rem ≤ 2 * root
 
@@ -18,7 +18,7 @@ pub record Guess (n root rem : ℕ) : Type 0 where
   pub near : Near root rem 1
 
 -- a block of digits can follow, b for 2 to their number and d for what comes down, and all fits 64 bits
-pub record Ready (root rem b d : ℕ) : Type 0 where
+pub record BlockInput (root rem b d : ℕ) : Type 0 where
   pub near : Near root rem b
   pub room : b ≤ 2 * root
   pub digits : d < b * b

@@ -12,7 +12,7 @@ use lib.Ieee.{Float, nan, inf, fin, binary64, up, down, odd, ofFields, ofBits, n
 use lib.Ieee.Fits.{down-pos}
 use lib.Ieee.Exact.{HasValue, odd-sign}
 use lib.Ieee.Bits.{is-true}
-use Rattle.float.specs.Contracts.Split.{unitsAt, Split}
+use Rattle.float.specs.Contracts.Decomposition.{unitsAt, Decomposition}
 use Rattle.float.specs.Laws.Patterns.{ofBits-is}
 use Rattle.float.specs.Laws.Units.{plus-fields, value-of-pattern, some-units}
 use Rattle.root.specs.Root.{scaled, rootAt, rootOf}
@@ -117,7 +117,7 @@ evened m e m′ l w = go w ∙ sym (apart (e / 2) (omega arith))
         ∙ ap (λ (x : ℕ). x * (2 ^ (e / 2) * 2 ^ (e / 2))) (sym (w .1))
     go (inr w) = ap (λ (x : ℕ). m * x) (sym (pow-sum (e / 2) (e / 2) e (omega arith))) ∙ ap (λ (x : ℕ). x * (2 ^ (e / 2) * 2 ^ (e / 2))) (sym (w .1))
 
-module _ {b m e m′ : ℕ} (S : Split b m e) (w : Evened m e m′) where
+module _ {b m e m′ : ℕ} (S : Decomposition b m e) (w : Evened m e m′) where
   pub m-in : (2 ^ 52 ≤ m′) × (m′ < 2 ^ 54)
   m-in = go w (S .full) (S .small)
     where

@@ -7,35 +7,35 @@ use lib.ListN.{length, drop, getD}
 use lib.Dec.{ltb}
 use lib.Ieee.{Float}
 use Rattle.stream.specs.Numbers.{u16At}
-use Rattle.records.specs.Records.{part}
-use Rattle.records.specs.Contracts.Hits.{recordsAt, Standing}
-use Rattle.scene.specs.declared.choices.FrameChoice.{FrameChoice}
+use Rattle.records.specs.Records.{bytesAt}
+use Rattle.records.specs.Contracts.Hits.{recordsAt, RecordAt}
+use Rattle.scene.specs.declared.options.FrameOption.{FrameOption}
 use Rattle.scene.specs.declared.labels.Key as code-key
 use Rattle.scene.specs.declared.labels.Best as code-best
-use Rattle.scene.specs.declared.numbers.Point as code-point
-use Rattle.scene.specs.declared.numbers.Spot.{Spot}
-use Rattle.scene.specs.declared.numbers.Value.{Value}
-use Rattle.scene.specs.declared.sections.Feature.{Feature}
-use Rattle.scene.specs.declared.sections.FeatureName.{FeatureName}
-use Rattle.scene.specs.declared.sections.Item.{Item}
-use Rattle.scene.specs.declared.sections.Path.{Path}
-use Rattle.scene.specs.declared.sections.Place.{Place}
-use Rattle.scene.specs.declared.sections.Points.{Points}
-use Rattle.scene.specs.declared.sections.Variable.{Variable}
-use Rattle.scene.specs.Scene.{Maybe, given, first, numberAt, Point, pointAt, pointsAt, cubicsAt, NamedFeature, featureAt, NamedValue, variableAt, NamedPlace, placeAt, Form, curve, polyline, DrawnPath, pathAt, DrawnItem, itemAt}
+use Rattle.scene.specs.declared.fields.Point as code-point
+use Rattle.scene.specs.declared.fields.OptionalPoint.{OptionalPoint}
+use Rattle.scene.specs.declared.fields.OptionalFloat.{OptionalFloat}
+use Rattle.scene.specs.declared.readers.Feature.{Feature}
+use Rattle.scene.specs.declared.readers.FeatureName.{FeatureName}
+use Rattle.scene.specs.declared.readers.Item.{Item}
+use Rattle.scene.specs.declared.readers.Path.{Path}
+use Rattle.scene.specs.declared.readers.Place.{Place}
+use Rattle.scene.specs.declared.readers.Points.{Points}
+use Rattle.scene.specs.declared.readers.Variable.{Variable}
+use Rattle.scene.specs.Scene.{Maybe, given, first, floatValueAt, Point, pointAt, pointsAt, cubicsAt, NamedFeature, featureAt, NamedValue, variableAt, NamedPlace, placeAt, Form, curve, polyline, DrawnPath, pathAt, DrawnItem, itemAt}
 use Rattle.scene.specs.Labels.{Key, Best, consider, considerAt, placeKey, itemKey, referencePoint}
 
 -- ---- numbers and points
-abbrev pub valueBy : Value → Maybe Float
-valueBy v = given (v .some) (v .value)
+abbrev pub maybeFloat : OptionalFloat → Maybe Float
+maybeFloat v = given (v .some) (v .value)
 
 abbrev pub pointBy : code-point.Point → Point
 pointBy p = record { x = p .x; y = p .y }
 
-abbrev pub spotBy : Spot → Maybe Point
-spotBy p = given (p .some) (record { x = p .x; y = p .y })
+abbrev pub maybePoint : OptionalPoint → Maybe Point
+maybePoint p = given (p .some) (record { x = p .x; y = p .y })
 
-abbrev pub frameBy : FrameChoice → Maybe ℕ
+abbrev pub frameBy : FrameOption → Maybe ℕ
 frameBy f = given (f .some) (f .frame)
 
 -- ---- the features, variables, places and items from position p on
@@ -60,23 +60,23 @@ pathsFrom l p role = map pathAt (recordsAt l p 8 role)
 
 -- ---- the same lists by an answer: its own entry, then those from where the next is asked for
 abbrev pub featuresBy : List ℕ → Feature → List NamedFeature
-featuresBy l r = cond (r .some) (record { name = part l (r .at) (r .len); lon = r .lon; lat = r .lat } ∷ featuresAt l (r .next)) []
+featuresBy l r = cond (r .some) (record { name = bytesAt l (r .at) (r .len); lon = r .lon; lat = r .lat } ∷ featuresAt l (r .next)) []
 
 -- a feature by its name: its floats are those behind the name
 abbrev pub featureBy : List ℕ → FeatureName → Feature
-featureBy l r = record { some = r .some; at = r .at; len = r .len; lon = numberAt l (r .at + r .len); lat = numberAt l (r .at + r .len + 8); next = r .next }
+featureBy l r = record { some = r .some; at = r .at; len = r .len; lon = floatValueAt l (r .at + r .len); lat = floatValueAt l (r .at + r .len + 8); next = r .next }
 
 abbrev pub variablesBy : List ℕ → Variable → List NamedValue
-variablesBy l r = cond (r .some) (record { name = part l (r .at) (r .len); value = r .value } ∷ variablesAt l (r .next)) []
+variablesBy l r = cond (r .some) (record { name = bytesAt l (r .at) (r .len); value = r .value } ∷ variablesAt l (r .next)) []
 
 abbrev pub placesBy : List ℕ → Place → List NamedPlace
 placesBy l r =
     cond (r .some)
-    (record { label = part l (r .at) (r .len); at = record { x = r .x; y = r .y }; nested = r .nested; line = r .line; col = r .col } ∷ placesAt l (r .next))
+    (record { label = bytesAt l (r .at) (r .len); at = record { x = r .x; y = r .y }; nested = r .nested; line = r .line; col = r .col } ∷ placesAt l (r .next))
     []
 
 abbrev pub labelBy : List ℕ → ℕ → ℕ → Maybe (List ℕ)
-labelBy l at len = given (ltb 0 len) (part l at len)
+labelBy l at len = given (ltb 0 len) (bytesAt l at len)
 
 -- its points and paths are what follows
 unfoldable pub itemBy : List ℕ → Item → DrawnItem
@@ -91,11 +91,11 @@ itemBy l r =
       label = labelBy l (r .label) (r .len);
       line = r .line;
       col = r .col;
-      at = spotBy (r .at);
-      w = valueBy (r .w);
-      h = valueBy (r .h);
-      r = valueBy (r .r);
-      rad = valueBy (r .rad);
+      at = maybePoint (r .at);
+      w = maybeFloat (r .w);
+      h = maybeFloat (r .h);
+      r = maybeFloat (r .r);
+      rad = maybeFloat (r .rad);
       points = pointsFrom l (r .next) 0;
       fillPoints = pointsFrom l (r .next) 1;
       paths = pathsFrom l (r .next) 0;
@@ -121,9 +121,9 @@ pub record Within (n p at len next : ℕ) : Type 0 where
   pub fits : next ≤ n
 
 -- a name of n bytes stands at `at`, its length before it and eight bytes at least behind it
-pub record Headed (l : List ℕ) (at n : ℕ) : Type 0 where
+pub record LengthPrefixed (l : List ℕ) (at n : ℕ) : Type 0 where
   pub behind : 1 ≤ at
-  pub head : getD l (at - 1) 0 ≡ n
+  pub prefix : getD l (at - 1) 0 ≡ n
   pub short : n ≤ 31
   pub fits : at + n + 8 ≤ length l
 
@@ -137,20 +137,20 @@ pub record PathWithin (n p : ℕ) (r : Path) : Type 0 where
   pub fits : r .next ≤ n
 
 -- an item stands at q, with its label's length n and its presence byte m, and the next record behind it
-pub record ItemStands (l : List ℕ) (q n m next : ℕ) : Type 0 where
-  pub stands : Standing l 6 0 q next
+pub record ItemRecordAt (l : List ℕ) (q n m next : ℕ) : Type 0 where
+  pub stands : RecordAt l 6 0 q next
   pub label : n ≡ getD (drop q l) 3 0
   pub has : m ≡ getD (drop q l) (12 + n) 0
 
 -- all places and items stand from position p on
-pub record Labels (l : List ℕ) (p : ℕ) : Type 0 where
+pub record LabelsFrom (l : List ℕ) (p : ℕ) : Type 0 where
   pub places : placesAt l 0 ≡ placesAt l p
   pub items : itemsAt l 0 ≡ itemsAt l p
 
 -- all variables do, and these
-pub record Variables (l : List ℕ) (p : ℕ) : Type 0 where
+pub record VariablesFrom (l : List ℕ) (p : ℕ) : Type 0 where
   pub all : variablesAt l 0 ≡ variablesAt l p
-  pub labels : Labels l p
+  pub labels : LabelsFrom l p
 
 -- ---- keys
 abbrev pub keyBy : code-key.Key → Key

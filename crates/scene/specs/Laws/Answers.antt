@@ -5,7 +5,7 @@ use mathlib.Core.List.{List, []}
 use Prim.Native.Nat.{ℕ}
 use Rattle.scene.specs.Scene.{Maybe, none, some, given, Point, sceneOf}
 use Rattle.scene.specs.Labels.{pointOfLabel}
-use Rattle.scene.specs.Contracts.Answers.{Labels, featuresAt, variablesAt, placesAt, itemsAt}
+use Rattle.scene.specs.Contracts.Answers.{LabelsFrom, featuresAt, variablesAt, placesAt, itemsAt}
 
 -- the list of an answer r, as in featuresBy: `listed (r .some) _ e h`
 module _ {A : Type 0} {xs : List A} (b : Bool) (ys : List A) (e : xs ≡ cond b ys []) where
@@ -29,5 +29,5 @@ unfolding sceneOf
 scene-lists l = (refl, refl, refl, refl)
 
 -- a label that is asked for from where all labels stand
-pub all-labels : (l : List ℕ) (p : ℕ) (name : List ℕ) {m : Maybe Point} → Labels l p → m ≡ pointOfLabel name (placesAt l p) (itemsAt l p) → m ≡ pointOfLabel name (placesAt l 0) (itemsAt l 0)
+pub all-labels : (l : List ℕ) (p : ℕ) (name : List ℕ) {m : Maybe Point} → LabelsFrom l p → m ≡ pointOfLabel name (placesAt l p) (itemsAt l p) → m ≡ pointOfLabel name (placesAt l 0) (itemsAt l 0)
 all-labels l p name h e = rw (h .places, h .items) e

@@ -11,14 +11,14 @@ use lib.Seq.{getD-drop}
 use borrow.Author.Tests.{not-true, not-false}
 use Rattle.stream.specs.Payload.{payload}
 use Rattle.records.specs.declared.search.Hit.{Hit}
-use Rattle.records.specs.Records.{part}
+use Rattle.records.specs.Records.{bytesAt}
 use Rattle.scene.specs.declared.labels.Best as code-best
-use Rattle.scene.specs.declared.numbers.Spot.{Spot}
-use Rattle.scene.specs.declared.sections.Item.{Item}
-use Rattle.scene.specs.declared.sections.Place.{Place}
+use Rattle.scene.specs.declared.fields.OptionalPoint.{OptionalPoint}
+use Rattle.scene.specs.declared.readers.Item.{Item}
+use Rattle.scene.specs.declared.readers.Place.{Place}
 use Rattle.scene.specs.Scene.{Maybe, none, some, given, Point, NamedPlace, placeAt, DrawnItem, itemWith, itemAt}
-use Rattle.scene.specs.Labels.{same, pick, Key, Best, consider, considerAt, itemKey, bestPlace, carries, referencePoint, bestItem, pointOf, pointOfLabel}
-use Rattle.scene.specs.Contracts.Answers.{considerPlace, considerItem, spotBy, placesAt, placesBy, labelBy, itemBy, itemsAt, itemsBy, bestBy}
+use Rattle.scene.specs.Labels.{sameBytes, pick, Key, Best, consider, considerAt, itemKey, bestPlace, labelIs, referencePoint, bestItem, pointOf, pointOfLabel}
+use Rattle.scene.specs.Contracts.Answers.{considerPlace, considerItem, maybePoint, placesAt, placesBy, labelBy, itemBy, itemsAt, itemsBy, bestBy}
 use Rattle.scene.specs.Laws.Shift.{part-drop}
 use Rattle.scene.specs.Laws.Found.{Answer, One, none-listed, one-listed, found-again}
 
@@ -58,7 +58,7 @@ four-on : (q : ℕ) → q + 3 + 1 ≡ q + 4
 four-on q = omega arith
 
 module _ (l : List ℕ) (q : ℕ) where
-  place-label : part l (q + 1 + 1) (getD l (q + 1) 0) ≡ placeAt (drop q l) .label
+  place-label : bytesAt l (q + 1 + 1) (getD l (q + 1) 0) ≡ placeAt (drop q l) .label
   unfolding placeAt
   place-label = rw (two-on q) (simp (getD-drop, part-drop))
 
@@ -71,24 +71,24 @@ module _ (name s : List ℕ) (q i : ℕ) (b : Maybe Best) (h : Hit) where
   unfolding bestPlace
   no-place a n = rw (none-listed s q 5 0 h a placeAt n) refl
 
-  pub next-place : One s q 5 0 h → {t : Bool} {b′ : Maybe Best} → t ≡ same (part (payload s) (h .at + 1 + 1) (getD (payload s) (h .at + 1) 0)) name
+  pub next-place : One s q 5 0 h → {t : Bool} {b′ : Maybe Best} → t ≡ sameBytes (bytesAt (payload s) (h .at + 1 + 1) (getD (payload s) (h .at + 1) 0)) name
       → Chosen t (considerPlace b i (placesAt (payload s) (h .at))) b b′
       → bestPlace name i (placesAt (payload s) q) b ≡ bestPlace name (i + 1) (placesAt (payload s) (h .next)) b′
   unfolding bestPlace
-  next-place o e c = rw (chosen _ _ (e ∙ ap (λ (x : List ℕ). same x name) (place-label (payload s) (h .at))) c, one-listed o placeAt refl, found-again o, add-one) refl
+  next-place o e c = rw (chosen _ _ (e ∙ ap (λ (x : List ℕ). sameBytes x name) (place-label (payload s) (h .at))) c, one-listed o placeAt refl, found-again o, add-one) refl
 
   pub no-item : Answer s q 6 0 h → not (h .some) ≡ true → b ≡ bestItem name i (itemsAt (payload s) q) b
   unfolding bestItem
   no-item a n = rw (none-listed s q 6 0 h a itemAt n) refl
 
-  pub next-item : One s q 6 0 h → {t : Bool} {b′ : Maybe Best} → t ≡ carries (labelBy (payload s) (h .at + 3 + 1) (getD (payload s) (h .at + 3) 0)) name
+  pub next-item : One s q 6 0 h → {t : Bool} {b′ : Maybe Best} → t ≡ labelIs (labelBy (payload s) (h .at + 3 + 1) (getD (payload s) (h .at + 3) 0)) name
       → Chosen t (considerItem b i (itemsAt (payload s) (h .at))) b b′
       → bestItem name i (itemsAt (payload s) q) b ≡ bestItem name (i + 1) (itemsAt (payload s) (h .next)) b′
   unfolding bestItem
-  next-item o e c = rw (chosen _ _ (e ∙ ap (λ (x : Maybe (List ℕ)). carries x name) (item-label (payload s) (h .at))) c, one-listed o itemAt refl, found-again o, add-one) refl
+  next-item o e c = rw (chosen _ _ (e ∙ ap (λ (x : Maybe (List ℕ)). labelIs x name) (item-label (payload s) (h .at))) c, one-listed o itemAt refl, found-again o, add-one) refl
 
 -- an item's point that is there, or not
-module _ (b : Maybe Best) (k : Key) (spot : Spot) {r : Maybe Point} (e : spotBy spot ≡ r) where
+module _ (b : Maybe Best) (k : Key) (spot : OptionalPoint) {r : Maybe Point} (e : maybePoint spot ≡ r) where
   pub no-point : not (spot .some) ≡ true → b ≡ considerAt b k r
   no-point n = rw (← e, not-true (spot .some) n) refl
 

@@ -16,13 +16,13 @@ use Rattle.stream.specs.Payload.{payload}
 use Rattle.stream.specs.Contracts.Payload.{room}
 use Rattle.stream.specs.Laws.Payload.{payload-length}
 use Rattle.records.specs.declared.search.Hit.{Hit}
-use Rattle.records.specs.Records.{choiceWidth}
-use Rattle.records.specs.Search.{keyOf, turnOf}
-use Rattle.records.specs.Contracts.Hits.{recordsAt, Standing, hitsOf, Later}
+use Rattle.records.specs.Records.{optionWidth}
+use Rattle.records.specs.Search.{keyOf, searchStepOf}
+use Rattle.records.specs.Contracts.Hits.{recordsAt, RecordAt, hitsOf, SkipsTo}
 use Rattle.records.specs.Walk.{tagOf}
 use Rattle.records.specs.Laws.Search.{search-got, passed-over, standing-less, standing-fits, choice-within, NameFound, PointsFound, PathFound}
 use Rattle.scene.specs.Scene.{none, some, first}
-use Rattle.scene.specs.Contracts.Answers.{Headed}
+use Rattle.scene.specs.Contracts.Answers.{LengthPrefixed}
 
 -- an answer that says of itself that there is none
 pub nothing : {A : Type 0} → false ≡ true → A
@@ -30,11 +30,11 @@ nothing e = absurd (subst T (sym e) tt)
 
 -- what `find` ensures
 abbrev pub Answer : List ℕ → ℕ → ℕ → ℕ → Hit → Type 0
-Answer s p t k h = (recordsAt (payload s) p t k ≡ hitsOf (payload s) t k h) × ((h .some ≡ true → Standing (payload s) t k (h .at) (h .next)) × (p ≤ h .at))
+Answer s p t k h = (recordsAt (payload s) p t k ≡ hitsOf (payload s) t k h) × ((h .some ≡ true → RecordAt (payload s) t k (h .at) (h .next)) × (p ≤ h .at))
 
 -- and `seek`
 abbrev pub Sought : List ℕ → ℕ → ℕ → ℕ → Hit → Type 0
-Sought s p t k h = (recordsAt (payload s) p t k ≡ hitsOf (payload s) t k h) × ((h .some ≡ true → Standing (payload s) t k (h .at) (h .next)) × ((p ≤ h .at) × Later (payload s) t p (h .at)))
+Sought s p t k h = (recordsAt (payload s) p t k ≡ hitsOf (payload s) t k h) × ((h .some ≡ true → RecordAt (payload s) t k (h .at) (h .next)) × ((p ≤ h .at) × SkipsTo (payload s) t p (h .at)))
 
 pub answer : (s : List ℕ) (p t k : ℕ) (h : Hit) → Sought s p t k h → Answer s p t k h
 answer s p t k h a = (a .0, (a .1 .0, a .1 .1 .0))
@@ -42,7 +42,7 @@ answer s p t k h a = (a .0, (a .1 .0, a .1 .1 .0))
 -- a record of tag t and key k was found from p on
 pub record One (s : List ℕ) (p t k : ℕ) (h : Hit) : Type 0 where
   pub all : recordsAt (payload s) p t k ≡ drop (h .at) (payload s) ∷ recordsAt (payload s) (h .next) t k
-  pub stands : Standing (payload s) t k (h .at) (h .next)
+  pub stands : RecordAt (payload s) t k (h .at) (h .next)
   pub from : p ≤ h .at
   pub more : h .at < h .next
   pub fits : h .next ≤ room s
@@ -67,11 +67,11 @@ module _ (s : List ℕ) (p t k : ℕ) (h : Hit) (a : Answer s p t k h) where
 module _ {s : List ℕ} {p t k : ℕ} {h : Hit} (o : One s p t k h) where
   -- it is the first from its own position on, too
   pub found-again : recordsAt (payload s) (h .at) t k ≡ drop (h .at) (payload s) ∷ recordsAt (payload s) (h .next) t k
-  unfolding turnOf
+  unfolding searchStepOf
   found-again = let r = o .stands in search-got (payload s) (h .at) t k (r .got) ∙ rw (eq-eqb (tagOf (r .is)) t (r .tag), eq-eqb (keyOf (r .is)) k (r .key), r .ends) refl
 
   -- records of greater tags stand behind it
-  pub beyond : Later (payload s) t p (h .at) → Later (payload s) t p (h .next)
+  pub beyond : SkipsTo (payload s) t p (h .at) → SkipsTo (payload s) t p (h .next)
   beyond a u j m n = let r = o .stands in a u j m n ∙ rw (r .ends) (passed-over (payload s) (h .at) u j (r .got) (omega (arith, r .tag)) n)
 
   module _ {A : Type 0} (f : List ℕ → A) {x : A} (e : f (drop (h .at) (payload s)) ≡ x) where
@@ -105,7 +105,7 @@ module _ {s : List ℕ} {p t k : ℕ} {h : Hit} (o : One s p t k h) where
       polyline-ends z g = rw (g, ← u16-drop (h .at) (payload s) 4) (omega (arith, f .points (λ y. z (omega (arith, form-is)))))
 
 -- ---- an option
-pub option-fits : {s : List ℕ} {p k : ℕ} {h : Hit} → One s p 2 k h → h .at + 2 + choiceWidth k ≤ room s
+pub option-fits : {s : List ℕ} {p k : ℕ} {h : Hit} → One s p 2 k h → h .at + 2 + optionWidth k ≤ room s
 option-fits {s} o = omega (arith, choice-within (o .stands), payload-length s)
 
 -- ---- a record that begins with a name, of n bytes, and has so many besides
@@ -122,12 +122,12 @@ module _ {s : List ℕ} {p t more : ℕ} {h : Hit} (o : One s p t 0 h) (f : Name
   pub named : {n : ℕ} → n ≡ getD (payload s) (h .at + 1) 0 → Named s p t h more n
   named e = record { one = o; is = e; short = rw (e, ← getD-drop (h .at) (payload s) 1 0) (f .short); ends = rw (e, ← getD-drop (h .at) (payload s) 1 0) (f .ends) }
 
-pub headed : {s : List ℕ} {p t more n : ℕ} {h : Hit} → Named s p t h more n → 10 ≤ more → Headed (payload s) (h .at + 2) n
+pub headed : {s : List ℕ} {p t more n : ℕ} {h : Hit} → Named s p t h more n → 10 ≤ more → LengthPrefixed (payload s) (h .at + 2) n
 headed {s} {h = h} d m =
     let e : h .at + 2 - 1 ≡ h .at + 1 = omega arith in
     record {
       behind = omega arith;
-      head = rw (e, ← (d .is)) refl;
+      prefix = rw (e, ← (d .is)) refl;
       short = d .short;
       fits = omega (arith, d .ends, d .one .fits, payload-length s);
     }

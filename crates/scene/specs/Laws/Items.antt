@@ -18,9 +18,9 @@ use Rattle.records.specs.Records.{valuesWidth}
 use Rattle.records.specs.Walk.{entries}
 use Rattle.records.specs.Laws.Walk.{entries-on}
 use Rattle.records.specs.Laws.Search.{standing-fits, standing-tells}
-use Rattle.scene.specs.declared.sections.Item.{Item}
-use Rattle.scene.specs.Scene.{Maybe, given, numberAt, bit, pointAt, behind, itemWith, itemAt}
-use Rattle.scene.specs.Contracts.Answers.{Within, valueBy, spotBy, ItemStands, itemBy, itemsAt, itemsBy}
+use Rattle.scene.specs.declared.readers.Item.{Item}
+use Rattle.scene.specs.Scene.{Maybe, given, floatValueAt, bit, pointAt, tail, itemWith, itemAt}
+use Rattle.scene.specs.Contracts.Answers.{Within, maybeFloat, maybePoint, ItemRecordAt, itemBy, itemsAt, itemsBy}
 use Rattle.scene.specs.Laws.Shift.{part-drop, number-drop, point-drop}
 use Rattle.scene.specs.Laws.Found.{nothing, One, one-listed}
 
@@ -33,7 +33,7 @@ module _ {s : List ℕ} {p : ℕ} {h : Hit} (o : One s p 6 0 h) where
     pub label-ends : h .at + 13 + n ≤ room s
     label-ends = rw (e, ← getD-drop (h .at) (payload s) 3 0) (omega (arith, standing-tells (o .stands)))
 
-    pub item-stands : {m : ℕ} → m ≡ getD (payload s) (h .at + 12 + n) 0 → ItemStands (payload s) (h .at) n m (h .next)
+    pub item-stands : {m : ℕ} → m ≡ getD (payload s) (h .at + 12 + n) 0 → ItemRecordAt (payload s) (h .at) n m (h .next)
     item-stands f = record { stands = o .stands; label = rw getD-drop e; has = rw (getD-drop, ← add-assoc) f }
 
     -- what `item_at` ensures makes it the answer
@@ -48,7 +48,7 @@ module _ {s : List ℕ} {p : ℕ} {h : Hit} (o : One s p 6 0 h) where
 pub no-item : (l : List ℕ) (p : ℕ) (it : Item) {B : Type 0} → itemsAt l p ≡ [] → it .some ≡ false → (itemsAt l p ≡ itemsBy l it) × (it .some ≡ true → B)
 no-item l p it e a = (rw (e, a) refl, λ b. nothing (sym a ∙ b))
 
-module _ (s : List ℕ) {q n m next : ℕ} (h : ItemStands (payload s) q n m next) where
+module _ (s : List ℕ) {q n m next : ℕ} (h : ItemRecordAt (payload s) q n m next) where
   pub item-ends : (m < 32) × (next ≡ q + 13 + n + valuesWidth m) × (next ≤ room s)
   item-ends =
       let f = standing-tells (h .stands) in
@@ -59,12 +59,12 @@ module _ (s : List ℕ) {q n m next : ℕ} (h : ItemStands (payload s) q n m nex
     pub value-fits : (bit m k ≡ true → valuesWidth (m % k) + 8 ≤ valuesWidth m) → g ≡ true → q + 13 + n + j + 8 ≤ room s
     value-fits f e = rw (d, c) (omega (arith, item-ends, f (sym b ∙ e)))
 
-    pub value-is : {v : Maybe Float} → v ≡ given g (numberAt (payload s) (q + 13 + n + j)) → v ≡ given (bit m k) (numberAt (payload s) (q + 13 + n + valuesWidth (m % k)))
+    pub value-is : {v : Maybe Float} → v ≡ given g (floatValueAt (payload s) (q + 13 + n + j)) → v ≡ given (bit m k) (floatValueAt (payload s) (q + 13 + n + valuesWidth (m % k)))
     value-is e = rw (← b, ← c, ← d) e
 
 -- ---- what it holds
-module _ (l : List ℕ) {q n m next : ℕ} (h : ItemStands l q n m next) (it : Item) where
-  behind-is : behind (entries (drop q l) 0) ≡ entries (drop next l) 0
+module _ (l : List ℕ) {q n m next : ℕ} (h : ItemRecordAt l q n m next) (it : Item) where
+  behind-is : tail (entries (drop q l) 0) ≡ entries (drop next l) 0
   behind-is = rw (entries-on l q (h .stands .got), h .stands .ends) refl
 
   pub item-is : {flags : ℕ}
@@ -79,11 +79,11 @@ module _ (l : List ℕ) {q n m next : ℕ} (h : ItemStands l q n m next) (it : I
       → it .len ≡ n
       → it .line ≡ u32At l (q + 4 + n)
       → it .col ≡ u32At l (q + 8 + n)
-      → spotBy (it .at) ≡ given (bit m 1) (pointAt l (q + 13 + n))
-      → valueBy (it .w) ≡ given (bit m 2) (numberAt l (q + 13 + n + valuesWidth (m % 2)))
-      → valueBy (it .h) ≡ given (bit m 4) (numberAt l (q + 13 + n + valuesWidth (m % 4)))
-      → valueBy (it .r) ≡ given (bit m 8) (numberAt l (q + 13 + n + valuesWidth (m % 8)))
-      → valueBy (it .rad) ≡ given (bit m 16) (numberAt l (q + 13 + n + valuesWidth (m % 16)))
+      → maybePoint (it .at) ≡ given (bit m 1) (pointAt l (q + 13 + n))
+      → maybeFloat (it .w) ≡ given (bit m 2) (floatValueAt l (q + 13 + n + valuesWidth (m % 2)))
+      → maybeFloat (it .h) ≡ given (bit m 4) (floatValueAt l (q + 13 + n + valuesWidth (m % 4)))
+      → maybeFloat (it .r) ≡ given (bit m 8) (floatValueAt l (q + 13 + n + valuesWidth (m % 8)))
+      → maybeFloat (it .rad) ≡ given (bit m 16) (floatValueAt l (q + 13 + n + valuesWidth (m % 16)))
       → it .next ≡ next
       → itemBy l it ≡ itemAt (drop q l)
   unfolding itemBy itemAt itemWith

@@ -8,10 +8,10 @@ use native.Mathlib.Omega.{arith}
 use lib.ListN.{length, getD, drop, drop-of-length-le}
 use lib.Seq.{drop-cons}
 use borrow.Author.Tests.{eq-eqb, ne-eqb}
-use Rattle.scene.specs.Labels.{same}
+use Rattle.scene.specs.Labels.{sameBytes}
 
-pub same-lengths : (a b : List ℕ) → (length a ≡ length b → ⊥) → same a b ≡ false
-unfolding same
+pub same-lengths : (a b : List ℕ) → (length a ≡ length b → ⊥) → sameBytes a b ≡ false
+unfolding sameBytes
 same-lengths [] [] h = absurd (h refl)
 same-lengths [] (y ∷ ys) h = refl
 same-lengths (x ∷ xs) [] h = refl
@@ -19,15 +19,15 @@ same-lengths (x ∷ xs) (y ∷ ys) h = rw (same-lengths xs ys (λ e. h (omega ar
 
 -- from position i on
 module _ (a b : List ℕ) (i : ℕ) where
-  pub same-ends : length a ≤ i → length b ≤ i → same (drop i a) (drop i b) ≡ true
-  unfolding same
+  pub same-ends : length a ≤ i → length b ≤ i → sameBytes (drop i a) (drop i b) ≡ true
+  unfolding sameBytes
   same-ends h k = rw (drop-of-length-le a h, drop-of-length-le b k) refl
 
   module _ (h : i < length a) (k : i < length b) where
-    pub same-step : getD a i 0 ≡ getD b i 0 → same (drop i a) (drop i b) ≡ same (drop (i + 1) a) (drop (i + 1) b)
-    unfolding same
+    pub same-step : getD a i 0 ≡ getD b i 0 → sameBytes (drop i a) (drop i b) ≡ sameBytes (drop (i + 1) a) (drop (i + 1) b)
+    unfolding sameBytes
     same-step e = rw (drop-cons a i 0 h, drop-cons b i 0 k, eq-eqb (getD a i 0) (getD b i 0) e, add-one) refl
 
-    pub same-fails : (getD a i 0 ≡ getD b i 0 → ⊥) → same (drop i a) (drop i b) ≡ false
-    unfolding same
+    pub same-fails : (getD a i 0 ≡ getD b i 0 → ⊥) → sameBytes (drop i a) (drop i b) ≡ false
+    unfolding sameBytes
     same-fails e = rw (drop-cons a i 0 h, drop-cons b i 0 k, ne-eqb (getD a i 0) (getD b i 0) e) refl

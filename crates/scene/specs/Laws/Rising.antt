@@ -8,17 +8,17 @@ use native.Mathlib.Omega.{arith}
 use lib.Dec.{eqb, ltb}
 use borrow.Author.Tests.{ltb-true, eqb-true, lt-ltb, le-ltb, eq-eqb}
 use Rattle.records.specs.declared.records.Record.{Record}
-use Rattle.records.specs.declared.records.Record.the-variants.{Rescale, Choice, Feature, Variable, Place, Item, Points, Path}
+use Rattle.records.specs.declared.records.Record.the-variants.{Rescale, Option, Feature, Variable, Place, Item, Points, Path}
 use Rattle.records.specs.declared.records.Step.{Step}
 use Rattle.records.specs.declared.records.Step.the-variants.{Got, End, Bad}
-use Rattle.records.specs.Records.{recordOf, part}
+use Rattle.records.specs.Records.{recordOf, bytesAt}
 use Rattle.records.specs.Walk.{Entry, more, entries, ends}
-use Rattle.records.specs.Layout.{before, nameOf, Pass, start, turn, follows, tagged, onto, stepOf, inOrder, laidOutFrom, laidOut}
-use Rattle.records.specs.Search.{past, turnOf, sought, recordsOf}
+use Rattle.records.specs.Layout.{before, nameOf, Pass, start, orderedIf, follows, tagged, whenOrdered, stepOf, inOrder, laidOutFrom, laidOut}
+use Rattle.records.specs.Search.{endsSearch, searchStepOf, withFound, recordsOf}
 use Rattle.records.specs.Laws.Tests.{and-left, and-right, or-cases}
 use Rattle.records.specs.Laws.Records.{Fields, stands}
 use Rattle.scene.specs.Scene.{none, NamedValue, variableAt}
-use Rattle.scene.specs.Labels.{same, variableOf}
+use Rattle.scene.specs.Labels.{sameBytes, variableOf}
 use Rattle.scene.specs.Contracts.Answers.{variablesAt}
 
 -- each name comes after the one before it, the first after u
@@ -68,8 +68,8 @@ before-itself [] = refl
 before-itself (x ∷ xs) = rw (le-ltb x x (omega arith), before-itself xs) (and-false (eqb x x))
 
 -- what is found has the name
-pub same-eq : (a b : List ℕ) → same a b ≡ true → a ≡ b
-unfolding same
+pub same-eq : (a b : List ℕ) → sameBytes a b ≡ true → a ≡ b
+unfolding sameBytes
 same-eq [] [] h = refl
 same-eq [] (y ∷ ys) h = absurd (false≢true h)
 same-eq (x ∷ xs) [] h = absurd (false≢true h)
@@ -85,8 +85,8 @@ module _ (a b : List ℕ) (h : before a b ≡ true) where
   differ : a ≡ b → ⊥
   differ e = true≢false (sym (rw e at h) ∙ before-itself b)
 
-  pub before-not-same : (same a b ≡ false) × (same b a ≡ false)
-  before-not-same = (is-false (same a b) (λ e. differ (same-eq a b e)), is-false (same b a) (λ e. differ (sym (same-eq b a e))))
+  pub before-not-same : (sameBytes a b ≡ false) × (sameBytes b a ≡ false)
+  before-not-same = (is-false (sameBytes a b) (λ e. differ (same-eq a b e)), is-false (sameBytes b a) (λ e. differ (sym (same-eq b a e))))
 
 -- no name comes before the empty one
 pub before-some : (u w : List ℕ) → before u w ≡ true → before [] w ≡ true
@@ -105,7 +105,7 @@ pub not-among : (u name : List ℕ) (vs : List NamedValue) → Rising u vs → b
 unfolding variableOf
 not-among u name [] r h = refl
 not-among u name (v ∷ vs) r h =
-    let other : same (v .name) name ≡ false = is-false (same (v .name) name) (λ e. true≢false (sym (rw (same-eq (v .name) name e) at (r .0)) ∙ h)) in
+    let other : sameBytes (v .name) name ≡ false = is-false (sameBytes (v .name) name) (λ e. true≢false (sym (rw (same-eq (v .name) name e) at (r .0)) ∙ h)) in
     rw other (not-among (v .name) name vs (r .1) (is-false (before (v .name) name) (λ k. true≢false (sym (before-trans u (v .name) name (r .0) k) ∙ h))))
 
 -- a name that comes after the first's is looked for behind it
@@ -117,7 +117,7 @@ lookup-on name v ws h = rw (before-not-same (v .name) name h .0) refl
 -- each entry is what its bytes say
 abbrev Said : List Entry → Type 0
 Said [] = Unit {0}
-Said (e ∷ es) = Fields (e .bytes) (e .head) × Said es
+Said (e ∷ es) = Fields (e .bytes) (e .parsed) × Said es
 
 said-more : (l : List ℕ) (s : Step) (f : ℕ → List Entry) → recordOf l ≡ s → ((n : ℕ) → Said (f n)) → Said (more l s f)
 said-more l (Got r k) f e g = (stands l e .fields, g (k - 1))
@@ -132,14 +132,14 @@ said (x ∷ xs) (suc n) = said xs n
 
 -- one record further: only a variable is in the list, and only it changes the name
 module _ (b : List ℕ) (p : Pass) (es : List Entry) (on : (q : Pass) → inOrder es q ≡ true → Rising (q .name) (map variableAt (recordsOf 4 0 es))) where
-  step-on : (t : Bool) (q : Pass) → onto (turn t q) (λ q. inOrder es q) ≡ true → (t ≡ true) × Rising (q .name) (map variableAt (recordsOf 4 0 es))
+  step-on : (t : Bool) (q : Pass) → whenOrdered (orderedIf t q) (λ q. inOrder es q) ≡ true → (t ≡ true) × Rising (q .name) (map variableAt (recordsOf 4 0 es))
   step-on true q h = (refl, on q h)
   step-on false q h = absurd (false≢true h)
 
-  one-on : (r : Record) → Fields b r → onto (stepOf p b r) (λ q. inOrder es q) ≡ true → Rising (p .name) (map variableAt (sought (turnOf 4 0 r) b (recordsOf 4 0 es)))
-  unfolding stepOf turnOf past variableAt part
+  one-on : (r : Record) → Fields b r → whenOrdered (stepOf p b r) (λ q. inOrder es q) ≡ true → Rising (p .name) (map variableAt (withFound (searchStepOf 4 0 r) b (recordsOf 4 0 es)))
+  unfolding stepOf searchStepOf endsSearch variableAt bytesAt
   one-on Rescale s h = step-on (eqb (p .last) 0) (tagged p 1) h .1
-  one-on (Choice o) s h = step-on (follows p 2 && ltb (p .option) o) (record { last = 2; option = o; name = p .name; roles = p .roles }) h .1
+  one-on (Option o) s h = step-on (follows p 2 && ltb (p .option) o) (record { last = 2; option = o; name = p .name; roles = p .roles }) h .1
   one-on (Feature n) s h = step-on (follows p 3) (tagged p 3) h .1
   one-on (Variable n) s h =
       let both = step-on (follows p 4 && before (p .name) (nameOf b n)) (record { last = 4; option = p .option; name = nameOf b n; roles = p .roles }) h in
@@ -152,7 +152,7 @@ module _ (b : List ℕ) (p : Pass) (es : List Entry) (on : (q : Pass) → inOrde
 rising : (es : List Entry) (p : Pass) → Said es → inOrder es p ≡ true → Rising (p .name) (map variableAt (recordsOf 4 0 es))
 unfolding inOrder recordsOf
 rising [] p s h = tt
-rising (e ∷ es) p s h = one-on (e .bytes) p es (λ q. rising es q (s .1)) (e .head) (s .0) h
+rising (e ∷ es) p s h = one-on (e .bytes) p es (λ q. rising es q (s .1)) (e .parsed) (s .0) h
 
 pub variables-rising : (l : List ℕ) → laidOut l ≡ true → Rising [] (variablesAt l 0)
 unfolding laidOut laidOutFrom

@@ -5,13 +5,13 @@ use Prim.Native.Nat.{ℕ}
 use lib.ListN.{replicate}
 use lib.Ieee.{binary64, ofBits, ofInt, add, div, sum, round, units, odd, size, climb, span}
 use Rattle.stream.specs.Numbers.{u16At, u32At, u64At, floatOf, floatAt}
-use Rattle.records.specs.Records.{plain, allTo, named, labelled, namedThen, counted, allZero, choiceWidth, choiceFits, valuesWidth, itemBegins, itemFits, itemWith}
-use Rattle.records.specs.Records.{endOf, rescaleOf, choiceOf, featureOf, variableOf, placeOf, itemOf, pointsOf, pathWith, cubicsOf, polylineOf, pathOf, byTag, recordOf, part}
+use Rattle.records.specs.Records.{asciiGraphic, allTo, named, labelled, namedThen, counted, allZero, optionWidth, optionFits, valuesWidth, itemBegins, itemFits, itemWith}
+use Rattle.records.specs.Records.{endOf, rescaleOf, optionOf, featureOf, variableOf, placeOf, itemOf, pointsOf, pathWith, cubicsOf, polylineOf, pathOf, byTag, recordOf, bytesAt}
 use Rattle.records.specs.Walk.{entries}
-use Rattle.records.specs.Search.{past, turnOf, recordsOf}
+use Rattle.records.specs.Search.{endsSearch, searchStepOf, recordsOf}
 use Rattle.scene.specs.Scene as scene
-use Rattle.scene.specs.Scene.{Maybe, none, some, Point, sceneOf, valueOf, numberAt, bit, pointAt, pointsAt, cubicAt, cubicsAt, placeAt, formAt, pathAt, itemAt}
-use Rattle.scene.specs.Labels.{same, sumOf, meanOf, meanPoint, startOf, firstStart, meanOrStart, referencePoint, greater, consider, carries, bestPlace, bestItem, pointOfLabel}
+use Rattle.scene.specs.Scene.{Maybe, none, some, Point, sceneOf, valueOf, floatValueAt, bit, pointAt, pointsAt, cubicAt, cubicsAt, placeAt, formAt, pathAt, itemAt}
+use Rattle.scene.specs.Labels.{sameBytes, sumOf, meanOf, meanPoint, startOf, firstStart, meanOrStart, referencePoint, greater, consider, labelIs, bestPlace, bestItem, pointOfLabel}
 
 -- ---- floats: 0 and 1 to 4
 abbrev f0 : List ℕ
@@ -92,5 +92,5 @@ labels :
     × (resolves a (item 0 0 0 f1 ++ line) ≡ at1)
     -- the points of the next item are its own
     × (resolves a (line ++ (6 ∷ replicate 12 0) ++ points 0 f1 f1) ≡ none)
-unfolding sceneOf numberAt valueOf bit pointAt pointsAt cubicAt cubicsAt placeAt formAt pathAt itemAt scene.itemWith same sumOf meanOf meanPoint startOf firstStart meanOrStart referencePoint greater consider carries bestPlace bestItem pointOfLabel part past turnOf recordsOf entries recordOf byTag endOf rescaleOf choiceOf featureOf variableOf placeOf itemOf pointsOf pathOf pathWith cubicsOf polylineOf itemWith itemFits itemBegins valuesWidth choiceFits choiceWidth namedThen counted labelled named plain allTo allZero floatAt floatOf u16At u32At u64At ofBits ofInt add div sum round units odd size climb span
+unfolding sceneOf floatValueAt valueOf bit pointAt pointsAt cubicAt cubicsAt placeAt formAt pathAt itemAt scene.itemWith sameBytes sumOf meanOf meanPoint startOf firstStart meanOrStart referencePoint greater consider labelIs bestPlace bestItem pointOfLabel bytesAt endsSearch searchStepOf recordsOf entries recordOf byTag endOf rescaleOf optionOf featureOf variableOf placeOf itemOf pointsOf pathOf pathWith cubicsOf polylineOf itemWith itemFits itemBegins valuesWidth optionFits optionWidth namedThen counted labelled named asciiGraphic allTo allZero floatAt floatOf u16At u32At u64At ofBits ofInt add div sum round units odd size climb span
 labels = (refl, refl, refl, refl, refl, refl, refl, refl, refl, refl, refl, refl, refl, refl)

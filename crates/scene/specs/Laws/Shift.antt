@@ -6,16 +6,16 @@ use native.Mathlib.Nat.{add-assoc}
 use lib.ListN.{drop}
 use lib.Seq.{drop-drop}
 use Rattle.stream.specs.Laws.Numbers.{float-drop}
-use Rattle.records.specs.Records.{part}
-use Rattle.scene.specs.Scene.{numberAt, pointAt, pointsAt, cubicAt, cubicsAt}
+use Rattle.records.specs.Records.{bytesAt}
+use Rattle.scene.specs.Scene.{floatValueAt, pointAt, pointsAt, cubicAt, cubicsAt}
 
 module _ (k : ℕ) (l : List ℕ) where
-  pub part-drop : (i n : ℕ) → part (drop k l) i n ≡ part l (k + i) n
-  unfolding part
+  pub part-drop : (i n : ℕ) → bytesAt (drop k l) i n ≡ bytesAt l (k + i) n
+  unfolding bytesAt
   part-drop i n = rw drop-drop
 
-  pub number-drop : (i : ℕ) → numberAt (drop k l) i ≡ numberAt l (k + i)
-  unfolding numberAt
+  pub number-drop : (i : ℕ) → floatValueAt (drop k l) i ≡ floatValueAt l (k + i)
+  unfolding floatValueAt
   number-drop i = rw float-drop
 
   pub point-drop : (i : ℕ) → pointAt (drop k l) i ≡ pointAt l (k + i)

@@ -2,13 +2,13 @@
 use lib.Ieee.{Float, binary64, neg, add, sub, mul}
 use Rattle.geodesy.specs.declared.LonLat.{LonLat}
 use Rattle.geodesy.specs.declared.Metres.{Metres}
-use Rattle.geodesy.specs.Contracts.Stages.{longitudeOf, stretchOf, northOf}
+use Rattle.geodesy.specs.Contracts.Stages.{longitudeOf, expOrdinateOf, latitudeOf}
 use Rattle.similarity.specs.declared.projection.Projection.{Projection}
 use Rattle.similarity.specs.Projection.{round9Of}
 
 -- the point's position on the plane
-unfoldable pub planeOf : Projection → Float → Float → Metres
-planeOf p x y =
+unfoldable pub planePositionOf : Projection → Float → Float → Metres
+planePositionOf p x y =
     let r = p .registration in
     let dx = mul binary64 (sub binary64 x (r .x)) (r .scale) in
     let dy = mul binary64 (sub binary64 y (r .y)) (r .scale) in
@@ -16,8 +16,8 @@ planeOf p x y =
     let n = add binary64 (mul binary64 (neg dx) (p .sin)) (mul binary64 dy (p .cos)) in
     record { x = add binary64 (p .east) e; y = add binary64 (p .north) n }
 
-unfoldable pub stretchedOf : Projection → Float → Float → LonLat
-stretchedOf p x y = let m = planeOf p x y in record { lon = round9Of (longitudeOf (m .x)); lat = stretchOf (m .y) }
+unfoldable pub expStageOf : Projection → Float → Float → LonLat
+expStageOf p x y = let m = planePositionOf p x y in record { lon = round9Of (longitudeOf (m .x)); lat = expOrdinateOf (m .y) }
 
-unfoldable pub latitudeOf : Float → Float
-latitudeOf a = round9Of (northOf a)
+unfoldable pub roundedLatitudeOf : Float → Float
+roundedLatitudeOf a = round9Of (latitudeOf a)

@@ -19,7 +19,7 @@ use Rattle.float.specs.Laws.Expressions.{Expr, var, lit, minus, less, times, ov
 use Rattle.root.specs.Root.{rootOf}
 use Rattle.root.specs.Laws.Root.{root-nan, root-infinity, root-below-zero}
 use Rattle.elementary.specs.Constants as K
-use Rattle.elementary.specs.Functions.{toDegreesOf, hypotOf, atanOf, angleOf, sidedOf, atan2Of}
+use Rattle.elementary.specs.Functions.{toDegreesOf, hypotOf, atanOf, angleOf, halfPlaneOf, atan2Of}
 use Rattle.elementary.specs.Laws.Codes.{encloses, enclosed}
 use Rattle.elementary.specs.Laws.Arctangent.{atan-in}
 use Rattle.geodesy.specs.Laws.Finite.{m180}
@@ -99,8 +99,8 @@ sided-test : T (encloses (less (lit K.pi) (var 0)) (iv K.zero K.fracPi2 ∷ []) 
 unfolding ofBits sub le
 sided-test = tt
 
-sided-in : (y x : Float) → T (finite y) → T (finite x) → Between K.zero K.pi (sidedOf y x)
-unfolding sidedOf
+sided-in : (y x : Float) → T (finite y) → T (finite x) → Between K.zero K.pi (halfPlaneOf y x)
+unfolding halfPlaneOf
 sided-in y x f g = go (lt x K.zero) (angleOf y x) (angle-in y x f g)
   where
     go : (b : Bool) (a : Float) → Between K.zero K.fracPi2 a → Between K.zero K.pi (pick b (sub binary64 K.pi a) a)
@@ -119,7 +119,7 @@ number (fin s m e) f = tt
 
 pub atan2-in : (y x : Float) → T (finite y) → T (finite x) → Between (neg K.pi) K.pi (atan2Of y x)
 unfolding atan2Of
-atan2-in y x f g = go (isNan y) (number y f) (lt y K.zero) (sidedOf y x) (sided-in y x f g)
+atan2-in y x f g = go (isNan y) (number y f) (lt y K.zero) (halfPlaneOf y x) (sided-in y x f g)
   where
     go : (n : Bool) → T (not n) → (s : Bool) (b : Float) → Between K.zero K.pi b → Between (neg K.pi) K.pi (pick n y (pick s (neg b) b))
     go true h s b i = absurd h

@@ -30,9 +30,9 @@ use Rattle.geodesy.specs.Geodesy.{radius, mercatorForwardOf, mercatorInverseOf}
 use Rattle.geodesy.specs.Laws.Finite.{m180, edge, inverse-in, forward-east, forward-north, forward-anchor}
 use Rattle.similarity.specs.declared.fit.Control.{Control}
 use Rattle.similarity.specs.declared.fit.Fit.{Fit}
-use Rattle.similarity.specs.declared.fit.Mark.{Mark}
+use Rattle.similarity.specs.declared.fit.ProjectedControl.{ProjectedControl}
 use Rattle.similarity.specs.declared.projection.Registration.{Registration}
-use Rattle.similarity.specs.Fit.{markOf, noSums, added, sumsOf, dividedBy, meansOf, noMoments, momentsOf, degenerate, pickFit, fitAt, solvedOf, roundOf, again, fitMarks, fitOf}
+use Rattle.similarity.specs.Fit.{projectedOf, noSums, added, sumsOf, dividedBy, meansOf, noMoments, momentsOf, degenerate, pickFit, fitAt, solvedOf, roundOf, again, fitProjected, fitOf}
 use Rattle.similarity.specs.Laws.Project.{million, mMillion, maxScale, Sound}
 use Rattle.similarity.specs.Laws.Bearing.{hypot-parts, bearing-in}
 
@@ -47,7 +47,7 @@ pub record Placed (c : Control) : Type 0 where
 abbrev Sized : ℕ → Float → Type 0
 Sized k v = Spans 0 k k 0 v
 
-record Marked (m : Mark) : Type 0 where
+record Marked (m : ProjectedControl) : Type 0 where
   x : Sized 1000000 (m .x)
   y : Sized 1000000 (m .y)
   e : Sized (2 ^ 25) (m .e)
@@ -60,8 +60,8 @@ whole-million = record { is-finite = tt; up-is = refl; no-minus = refl }
 whole-edge : Whole edge 20330312
 whole-edge = record { is-finite = tt; up-is = refl; no-minus = refl }
 
-marked : (c : Control) → Placed c → Marked (markOf c)
-unfolding markOf
+marked : (c : Control) → Placed c → Marked (projectedOf c)
+unfolding projectedOf
 marked c h =
     let p : LonLat = record { lon = c .lon; lat = c .lat } in
     let m = mercatorForwardOf p in
@@ -77,32 +77,32 @@ each-map f Q R g [] h = tt
 each-map f Q R g (a ∷ l) h = (g a (h .0), each-map f Q R g l (h .1))
 
 -- ---- the means
-abbrev east : Metres → Mark → Float
+abbrev east : Metres → ProjectedControl → Float
 east a m = sub binary64 (m .e) (a .x)
 
-abbrev north : Metres → Mark → Float
+abbrev north : Metres → ProjectedControl → Float
 north a m = sub binary64 (m .n) (a .y)
 
-sums-are : (a : Metres) (ms : List Mark) (s : Mark)
-    → sumsOf a ms s ≡ record { x = total (s .x) (map (λ (m : Mark). m .x) ms); y = total (s .y) (map (λ (m : Mark). m .y) ms); e = total (s .e) (map (east a) ms); n = total (s .n) (map (north a) ms) }
+sums-are : (a : Metres) (ms : List ProjectedControl) (s : ProjectedControl)
+    → sumsOf a ms s ≡ record { x = total (s .x) (map (λ (m : ProjectedControl). m .x) ms); y = total (s .y) (map (λ (m : ProjectedControl). m .y) ms); e = total (s .e) (map (east a) ms); n = total (s .n) (map (north a) ms) }
 unfolding sumsOf added
 sums-are a [] s = refl
 sums-are a (m ∷ ms) s = sums-are a ms (added a s m)
 
-abbrev meanOf : (Mark → Float) → List Mark → Float
+abbrev meanOf : (ProjectedControl → Float) → List ProjectedControl → Float
 meanOf f ms = div binary64 (total K.zero (map f ms)) (ofInt binary64 (pos (length ms)))
 
-means-are : (a : Metres) (ms : List Mark) → meansOf a ms ≡ record { x = meanOf (λ (m : Mark). m .x) ms; y = meanOf (λ (m : Mark). m .y) ms; e = meanOf (east a) ms; n = meanOf (north a) ms }
+means-are : (a : Metres) (ms : List ProjectedControl) → meansOf a ms ≡ record { x = meanOf (λ (m : ProjectedControl). m .x) ms; y = meanOf (λ (m : ProjectedControl). m .y) ms; e = meanOf (east a) ms; n = meanOf (north a) ms }
 unfolding meansOf dividedBy
 means-are a ms = rw (sums-are a ms noSums)
 
 -- up to 64 points, at least one
-record Some (ms : List Mark) : Type 0 where
+record Some (ms : List ProjectedControl) : Type 0 where
   least : 0 < length ms
   most : length ms ≤ 64
   marks : Each Marked ms
 
-mean-in : (a b c d : ℕ) (f : Mark → Float) (ms : List Mark) → Some ms → 64 * (a + b + c + d) ≤ 2 ^ 53 → ((m : Mark) → Marked m → Spans a b c d (f m)) → Spans a b c d (meanOf f ms)
+mean-in : (a b c d : ℕ) (f : ProjectedControl → Float) (ms : List ProjectedControl) → Some ms → 64 * (a + b + c + d) ≤ 2 ^ 53 → ((m : ProjectedControl) → Marked m → Spans a b c d (f m)) → Spans a b c d (meanOf f ms)
 mean-in a b c d f ms S w g =
     mean-spans a b c d (map f ms) (length ms) (sym (length-map ms f)) (S .least) (few (length ms) (S .most)) (all (length ms) (S .most)) (each-map f Marked (Spans a b c d) g ms (S .marks))
   where
@@ -117,20 +117,20 @@ record Near (a : Metres) : Type 0 where
   x : Within 40 (a .x)
   y : Within 40 (a .y)
 
-record Centred (a : Metres) (c : Mark) : Type 0 where
+record Centred (a : Metres) (c : ProjectedControl) : Type 0 where
   x : Sized 1000000 (c .x)
   y : Sized 1000000 (c .y)
   e : Within 42 (add binary64 (a .x) (c .e))
   n : Sized 20330313 (add binary64 (a .y) (c .n))
 
-east-in : (a : Metres) (ms : List Mark) → Near a → Some ms → Within 42 (add binary64 (a .x) (meanOf (east a) ms))
+east-in : (a : Metres) (ms : List ProjectedControl) → Near a → Some ms → Within 42 (add binary64 (a .x) (meanOf (east a) ms))
 east-in a ms N S =
     let i = within-spans 40 (a .x) (N .x) in
     spans-within 42 (add binary64 (a .x) (meanOf (east a) ms))
     (looser 0 (2 ^ 42) (2 ^ 42) 0 (lit≤ tt) (lit≤ tt) (add-spans (lit≤ tt) i (mean-in 0 (2 ^ 25 + 2 ^ 40) (2 ^ 25 + 2 ^ 40) 0 (east a) ms S (lit≤ tt) (λ m h. sub-spans (lit≤ tt) (h .e) i))))
 
 -- with A the anchor's ordinate cut to a whole number, no ordinate is more than 20330312 - A above the anchor; so the mean is not, and A + 1 more is 20330313. Likewise from below
-north-in : (a : Metres) (ms : List Mark) → Near a → Some ms → Sized 20330313 (add binary64 (a .y) (meanOf (north a) ms))
+north-in : (a : Metres) (ms : List ProjectedControl) → Near a → Some ms → Sized 20330313 (add binary64 (a .y) (meanOf (north a) ms))
 north-in a ms N S =
     let F = floor 40 (a .y) (N .y) in
     at (F .plus) (F .minus) (F .most) (F .spans)
@@ -140,10 +140,10 @@ north-in a ms N S =
         looser 0 20330313 20330313 0 (omega arith) (omega arith)
         (add-spans (omega arith) i (mean-in (0 + q) (20330312 + suc p) (20330312 + q) (0 + p) (north a) ms S (omega arith) (λ m k. sub-spans (omega arith) (k .n) i)))
 
-centred : (a : Metres) (ms : List Mark) → Near a → Some ms → Centred a (meansOf a ms)
+centred : (a : Metres) (ms : List ProjectedControl) → Near a → Some ms → Centred a (meansOf a ms)
 centred a ms N S = rw (means-are a ms) (record {
-  x = mean-in 0 1000000 1000000 0 (λ (m : Mark). m .x) ms S (lit≤ tt) (λ m h. h .x);
-  y = mean-in 0 1000000 1000000 0 (λ (m : Mark). m .y) ms S (lit≤ tt) (λ m h. h .y);
+  x = mean-in 0 1000000 1000000 0 (λ (m : ProjectedControl). m .x) ms S (lit≤ tt) (λ m h. h .x);
+  y = mean-in 0 1000000 1000000 0 (λ (m : ProjectedControl). m .y) ms S (lit≤ tt) (λ m h. h .y);
   e = east-in a ms N S;
   n = north-in a ms N S;
 })
@@ -175,7 +175,7 @@ latitude-in y s = anchor-in (div binary64 y radius) (enclosed (over (var 0) (lit
 some-no : {A : Type 0} → degenerate .some ≡ true → A
 some-no h = absurd (true≢false (sym h))
 
-fit-at : (a : Metres) (c : Mark) (A B : Float) → Centred a c → fitAt a c A B .some ≡ true → Fitted (fitAt a c A B)
+fit-at : (a : Metres) (c : ProjectedControl) (A B : Float) → Centred a c → fitAt a c A B .some ≡ true → Fitted (fitAt a c A B)
 unfolding fitAt
 fit-at a c A B C = go (finite (hypotOf A B) && lt K.zero (hypotOf A B)) (λ t. t)
   where
@@ -204,7 +204,7 @@ fit-at a c A B C = go (finite (hypotOf A B) && lt K.zero (hypotOf A B)) (λ t. t
         }
     go false t h = some-no h
 
-round-in : (a : Metres) (ms : List Mark) → Near a → Some ms → roundOf a ms .some ≡ true → Fitted (roundOf a ms)
+round-in : (a : Metres) (ms : List ProjectedControl) → Near a → Some ms → roundOf a ms .some ≡ true → Fitted (roundOf a ms)
 unfolding roundOf solvedOf
 round-in a ms N S =
     let c = meansOf a ms in
@@ -216,7 +216,7 @@ round-in a ms N S =
     go false f k h = k h
 
 -- ---- both rounds
-again-in : (f : Fit) (ms : List Mark) → Some ms → (f .some ≡ true → Fitted f) → again f ms .some ≡ true → Fitted (again f ms)
+again-in : (f : Fit) (ms : List ProjectedControl) → Some ms → (f .some ≡ true → Fitted f) → again f ms .some ≡ true → Fitted (again f ms)
 unfolding again
 again-in f ms S k = go (f .some) k
   where
@@ -230,8 +230,8 @@ again-in f ms S k = go (f .some) k
     go true k h = round-in (mercatorForwardOf p) ms (near (k refl)) S h
     go false k h = some-no h
 
-marks-in : (ms : List Mark) → length ms ≤ 64 → Each Marked ms → fitMarks ms .some ≡ true → Fitted (fitMarks ms)
-unfolding fitMarks
+marks-in : (ms : List ProjectedControl) → length ms ≤ 64 → Each Marked ms → fitProjected ms .some ≡ true → Fitted (fitProjected ms)
+unfolding fitProjected
 marks-in [] l h k = some-no k
 marks-in (m ∷ ms) l h k =
     let S : Some (m ∷ ms) = record { least = zero-lt-suc (length ms); most = l; marks = h } in
@@ -244,7 +244,7 @@ marks-in (m ∷ ms) l h k =
 
 pub fit-in : (cs : List Control) → length cs ≤ 64 → Each Placed cs → fitOf cs .some ≡ true → Fitted (fitOf cs)
 unfolding fitOf
-fit-in cs l h k = marks-in (map markOf cs) (subst (λ (n : ℕ). n ≤ 64) (sym (length-map cs markOf)) l) (each-map markOf Placed Marked marked cs h) k
+fit-in cs l h k = marks-in (map projectedOf cs) (subst (λ (n : ℕ). n ≤ 64) (sym (length-map cs projectedOf)) l) (each-map projectedOf Placed Marked marked cs h) k
 
 -- ---- the registration of a fit
 pub record Carries (r : Registration) (f : Fit) : Type 0 where

@@ -23,12 +23,12 @@ use Rattle.elementary.specs.Laws.Sine.{bound, low-bound, UnitSize, sin-unit, co
 use Rattle.elementary.specs.Laws.Mercator.{c89·5, m89·5}
 use Rattle.geodesy.specs.declared.LonLat.{LonLat}
 use Rattle.geodesy.specs.Geodesy.{mercatorForwardOf, mercatorInverseOf}
-use Rattle.geodesy.specs.Contracts.Stages.{longitudeOf, stretchOf, northOf}
+use Rattle.geodesy.specs.Contracts.Stages.{longitudeOf, expOrdinateOf, latitudeOf}
 use Rattle.geodesy.specs.Laws.Finite.{m180, c90, OnEarth, inverse-in, forward-east, forward-anchor}
 use Rattle.similarity.specs.declared.projection.Registration.{Registration}
 use Rattle.similarity.specs.declared.projection.Projection.{Projection}
-use Rattle.similarity.specs.Projection.{anchorOf, planeOffsetOf, toLonLatOf, projectOf, billion, round9Of, geoOf, geoBy}
-use Rattle.similarity.specs.Contracts.Stages.{planeOf, stretchedOf, latitudeOf}
+use Rattle.similarity.specs.Projection.{anchorOf, planeOffsetOf, toLonLatOf, toLonLatBy, billion, round9Of, geoOf, geoBy}
+use Rattle.similarity.specs.Contracts.Stages.{planePositionOf, expStageOf, roundedLatitudeOf}
 
 -- 1,000,000 and 1,000,000,000
 abbrev pub million : Float
@@ -130,6 +130,6 @@ geo-in r S x y v w = rounded-earth (toLonLatOf r x y) (project-in r S x y v w)
 
 -- ---- `geoBy` in stages
 pub geo-staged : (p : Projection) (x y : Float)
-    → geoBy p x y ≡ record { lon = stretchedOf p x y .lon; lat = latitudeOf (atanThird (atanSecond (atanFirst (stretchedOf p x y .lat)))) }
-unfolding geoBy projectOf mercatorInverseOf planeOf stretchedOf latitudeOf longitudeOf stretchOf northOf
+    → geoBy p x y ≡ record { lon = expStageOf p x y .lon; lat = roundedLatitudeOf (atanThird (atanSecond (atanFirst (expStageOf p x y .lat)))) }
+unfolding geoBy toLonLatBy mercatorInverseOf planePositionOf expStageOf roundedLatitudeOf longitudeOf expOrdinateOf latitudeOf
 geo-staged p x y = rw stages-exp

@@ -2,10 +2,10 @@
 use mathlib.Core.Path.{_≡_, refl}
 use lib.Ieee.{Float}
 use Rattle.similarity.specs.declared.projection.Registration.{Registration}
-use Rattle.similarity.specs.Projection.{planeOffsetOf, toLonLatOf, projectionOf, projectOf, geoOf, geoBy}
+use Rattle.similarity.specs.Projection.{planeOffsetOf, toLonLatOf, projectionOf, toLonLatBy, geoOf, geoBy}
 
-pub projects : (r : Registration) (x y : Float) → projectOf (projectionOf r) x y ≡ toLonLatOf r x y
-unfolding projectOf projectionOf toLonLatOf planeOffsetOf
+pub projects : (r : Registration) (x y : Float) → toLonLatBy (projectionOf r) x y ≡ toLonLatOf r x y
+unfolding toLonLatBy projectionOf toLonLatOf planeOffsetOf
 projects r x y = refl
 
 pub geo-projects : (r : Registration) (x y : Float) → geoBy (projectionOf r) x y ≡ geoOf r x y

@@ -9,17 +9,17 @@ use Rattle.stream.proofs.byte.Tie as tie
 fits : (c : tie.Start) → c .args .off + c .args .i + 1 ≤ room (c .args .part .now)
 fits c = within (c .args .part .now) (c .args .off) (c .args .i) 1 (c .pre .0) (omega arith)
 
-add-place : tie.Need-add-place
-add-place c = omega (arith, fits (c .before))
+add-stream-offset : tie.Need-add-stream-offset
+add-stream-offset c = omega (arith, fits (c .before))
 
-place-requires : tie.Need-place-requires
-place-requires c κs = omega (arith, fits (c .before))
+stream-offset-requires : tie.Need-stream-offset-requires
+stream-offset-requires c κs = omega (arith, fits (c .before))
 
 shared-slice-read-result : tie.Need-shared-slice-read-result
 shared-slice-read-result c = omega (arith, fits (c .before .before .before))
 
 returns : tie.Need-returns
-returns c = inside.one _ _ (c .before .before .before .pre .0) _ _ (omega arith) (c .before .place .ensures)
+returns c = inside.one _ _ (c .before .before .before .pre .0) _ _ (omega arith) (c .before .stream-offset .ensures)
 
 pub byte-spec : {M : Type 1} → statement M
-byte-spec = tie.close (tie.spec add-place place-requires shared-slice-read-result returns)
+byte-spec = tie.close (tie.spec add-stream-offset stream-offset-requires shared-slice-read-result returns)

@@ -3,7 +3,7 @@ use mathlib.Core.Path.{_≡_}
 use Prim.Native.Nat.{_+_, _-_, _*_, _%_, _^_, _≤_}
 use native.Mathlib.Omega.{arith}
 use Rattle.stream.specs.Blocks.{wordSum, checked}
-use Rattle.stream.proofs.Judging.{wordSum-more}
+use Rattle.stream.proofs.BlockChecks.{wordSum-more}
 use Rattle.stream.proofs.check.Statement.{statement}
 use Rattle.stream.proofs.check.Tie as tie
 
@@ -23,14 +23,14 @@ loop-holds : tie.Need-loop-holds Inv-loop μ-loop
 unfolding wordSum
 loop-holds c = search needs
 
-mul-four : tie.Need-mul-four Inv-loop μ-loop
-mul-four c = search needs
+mul-u32-le : tie.Need-mul-u32-le Inv-loop μ-loop
+mul-u32-le c = search needs
 
-add-four : tie.Need-add-four Inv-loop μ-loop
-add-four c = search needs
+add-u32-le : tie.Need-add-u32-le Inv-loop μ-loop
+add-u32-le c = search needs
 
-four-requires : tie.Need-four-requires Inv-loop μ-loop
-four-requires c κs = search needs
+u32-le-requires : tie.Need-u32-le-requires Inv-loop μ-loop
+u32-le-requires c κs = search needs
 
 wrapping-add-u32-requires : tie.Need-wrapping-add-u32-requires Inv-loop μ-loop
 wrapping-add-u32-requires c κs = search needs
@@ -46,11 +46,11 @@ loop-again c =
     let at = c .before .before .before in
     omega (arith, wordSum-more (at .before .before .args .s .now) (512 * at .before .before .args .i) (at .loop .k))
 
-add-four-2 : tie.Need-add-four-2 Inv-loop μ-loop
-add-four-2 c = search needs
+add-u32-le-2 : tie.Need-add-u32-le-2 Inv-loop μ-loop
+add-u32-le-2 c = search needs
 
-four-requires-2 : tie.Need-four-requires-2 Inv-loop μ-loop
-four-requires-2 c κs = search needs
+u32-le-requires-2 : tie.Need-u32-le-requires-2 Inv-loop μ-loop
+u32-le-requires-2 c κs = search needs
 
 returns : tie.Need-returns Inv-loop μ-loop
 unfolding checked
@@ -67,13 +67,13 @@ check-spec =
     mul-base
     cast-sum
     loop-holds
-    mul-four
-    add-four
-    four-requires
+    mul-u32-le
+    add-u32-le
+    u32-le-requires
     wrapping-add-u32-requires
     add-k
     loop-less
     loop-again
-    add-four-2
-    four-requires-2
+    add-u32-le-2
+    u32-le-requires-2
     returns)

@@ -3,14 +3,14 @@ use borrow.Author.Needs.{needs}
 use Rattle.stream.proofs.float.Statement.{statement}
 use Rattle.stream.proofs.float.Tie as tie
 
-long-requires : tie.Need-long-requires
-long-requires c κs = search needs
+u64-at-requires : tie.Need-u64-at-requires
+u64-at-requires c κs = search needs
 
 float-of-requires : tie.Need-float-of-requires
 float-of-requires c κs = search needs
 
 returns : tie.Need-returns
-returns c = float-read _ _ (c .before .long .ensures) (c .float-of .ensures)
+returns c = float-read _ _ (c .before .u64-at .ensures) (c .float-of .ensures)
 
 pub float-spec : {M : Type 1} → statement M
-float-spec = tie.close (tie.spec long-requires float-of-requires returns)
+float-spec = tie.close (tie.spec u64-at-requires float-of-requires returns)

@@ -6,21 +6,21 @@ use mathlib.Core.List.{List}
 use lib.ListN.{length}
 use lib.Dec.{eqb}
 use Rattle.stream.specs.declared.Blocks.{Blocks}
-use Rattle.stream.specs.declared.Blocks.the-variants.{Fine, Size, Check}
+use Rattle.stream.specs.declared.Blocks.the-variants.{Valid, Size, Check}
 use Rattle.stream.specs.Conditions.{firstOf}
 use Rattle.stream.specs.Blocks.{ofBlocks}
 
 abbrev pub numberBy : Blocks → ℕ
-numberBy (Fine n) = 0
+numberBy (Valid n) = 0
 numberBy Size = 1
 numberBy Check = 2
 
 abbrev pub countBy : Blocks → ℕ
-countBy (Fine n) = n
+countBy (Valid n) = n
 countBy Size = 0
 countBy Check = 0
 
 -- the first of conditions 1 and 2 that holds, and all blocks where none does
-pub record Judged (s : List ℕ) (r : Blocks) : Type 0 where
+pub record BlocksChecked (s : List ℕ) (r : Blocks) : Type 0 where
   pub number : numberBy r ≡ firstOf (ofBlocks s)
   pub count : countBy r ≡ cond (eqb (numberBy r) 0) (length s / 512) 0

@@ -12,8 +12,8 @@ abbrev pub room : List ℕ → ℕ
 room s = 508 * (length s / 512)
 
 -- where its byte p stands: a block holds 508 of them
-abbrev pub placeOf : ℕ → ℕ
-placeOf p = 512 * (p / 508) + p % 508
+abbrev pub streamOffset : ℕ → ℕ
+streamOffset p = 512 * (p / 508) + p % 508
 
 -- the payload from an offset on
 unfoldable pub rest : List ℕ → ℕ → List ℕ
@@ -28,6 +28,6 @@ abbrev pub oneBlock : ℕ → ℕ → ℕ → Bool
 oneBlock off i n = leb ((off + i) % 508 + n) 508
 
 -- n bytes of the rest, from i on, stand side by side in the part, from `at` on
-pub record Straight (s : List ℕ) (off i n at : ℕ) : Type 0 where
+pub record IsContiguous (s : List ℕ) (off i n at : ℕ) : Type 0 where
   pub fits : at + n ≤ length s
   pub same : (k : ℕ) → k < n → getD s (at + k) 0 ≡ getD (rest s off) (i + k) 0

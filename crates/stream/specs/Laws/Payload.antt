@@ -9,7 +9,7 @@ use lib.ListN.{length, getD, take, drop, length-append, length-take, length-drop
 use lib.Seq.{getD-drop, getD-take, getD-append-add, drop-append-add, drop-drop, length-take-le, take-all}
 use Rattle.stream.specs.Laws.Numbers.{Bytes}
 use Rattle.stream.specs.Payload.{payloads, payload}
-use Rattle.stream.specs.Contracts.Payload.{room, placeOf, rest, partFrom}
+use Rattle.stream.specs.Contracts.Payload.{room, streamOffset, rest, partFrom}
 
 -- ---- of the first n blocks
 payloads-length : (n : ℕ) (s : List ℕ) → 512 * n ≤ length s → length (payloads n s) ≡ 508 * n
@@ -19,16 +19,16 @@ payloads-length (suc n) s h =
     let r : 512 * n ≤ length (drop 512 s) = simp length-drop (omega arith) in
     simp (length-append, length-take, payloads-length n (drop 512 s) r) (omega arith)
 
-in-first : (p : ℕ) → p < 508 → p ≡ placeOf p
+in-first : (p : ℕ) → p < 508 → p ≡ streamOffset p
 in-first p l = omega arith
 
-in-later : (p : ℕ) → (p < 508 → ⊥) → 512 + placeOf (p - 508) ≡ placeOf p
+in-later : (p : ℕ) → (p < 508 → ⊥) → 512 + streamOffset (p - 508) ≡ streamOffset p
 in-later p l = omega arith
 
 past : (p m : ℕ) → m ≡ 508 → (p < 508 → ⊥) → p ≡ m + (p - 508)
 past p m e l = omega arith
 
-payloads-at : (n : ℕ) (s : List ℕ) (p : ℕ) → 512 * n ≤ length s → p < 508 * n → getD (payloads n s) p 0 ≡ getD s (placeOf p) 0
+payloads-at : (n : ℕ) (s : List ℕ) (p : ℕ) → 512 * n ≤ length s → p < 508 * n → getD (payloads n s) p 0 ≡ getD s (streamOffset p) 0
 unfolding payloads
 payloads-at zero s p h q = absurd (omega arith)
 payloads-at (suc n) s p h q =
@@ -43,7 +43,7 @@ payloads-at (suc n) s p h q =
           ap (λ (k : ℕ). getD (take 508 s ++ payloads n (drop 512 s)) k 0) (past p (length (take 508 s)) long l)
           ∙ getD-append-add (take 508 s) (payloads n (drop 512 s)) (p - 508) 0
           ∙ payloads-at n (drop 512 s) (p - 508) more (omega arith)
-          ∙ getD-drop 512 s (placeOf (p - 508)) 0
+          ∙ getD-drop 512 s (streamOffset (p - 508)) 0
           ∙ ap (λ (k : ℕ). getD s k 0) (in-later p l)
     ]
 
@@ -62,7 +62,7 @@ pub payload-length : (s : List ℕ) → length (payload s) ≡ room s
 unfolding payload
 payload-length s = payloads-length (length s / 512) s (omega arith)
 
-pub payload-at : (s : List ℕ) (p : ℕ) → p < room s → getD (payload s) p 0 ≡ getD s (placeOf p) 0
+pub payload-at : (s : List ℕ) (p : ℕ) → p < room s → getD (payload s) p 0 ≡ getD s (streamOffset p) 0
 unfolding payload
 payload-at s p h = payloads-at (length s / 512) s p (omega arith) (omega arith)
 
@@ -87,7 +87,7 @@ within s off i w h k = omega (arith, rest-length s off)
 pub bytes-payload : (s : List ℕ) → Bytes s → Bytes (payload s)
 bytes-payload s b i =
     elim (decLt i (room s)) [
-      | yes l ↦ rw (payload-at s i l) (b (placeOf i))
+      | yes l ↦ rw (payload-at s i l) (b (streamOffset i))
       | no l ↦ rw (List·getD-eq-default (payload s) 0 {n = i} (omega (arith, payload-length s))) (omega arith)
     ]
 

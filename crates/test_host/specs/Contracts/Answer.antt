@@ -9,13 +9,13 @@ use Rattle.scene.specs.Scene.{sceneOf}
 use Rattle.register.specs.declared.outcome.Outcome.{Outcome}
 use Rattle.register.specs.Register.{registerWarnings}
 use Rattle.register.specs.Contracts.Outcome.{pickOutcome, refusedBy, outcomeOf}
-use Rattle.register.specs.Contracts.Warned.{Sheet, pickSheet, allPushed}
+use Rattle.register.specs.Contracts.Warnings.{WarningSlice, pickSlice, allPushed}
 
 unfoldable pub answerOf : List ℕ → Outcome
 answerOf s = pickOutcome (eqb (refusalOf s) 0) (outcomeOf (sceneOf (payload s))) (refusedBy (refusalOf s))
 
-abbrev pub nothing : List ℕ → Sheet
-nothing out = record { out = out; said = record { ok = true; used = 0 } }
+abbrev pub nothing : List ℕ → WarningSlice
+nothing out = record { out = out; cursor = record { ok = true; used = 0 } }
 
-unfoldable pub warnedOf : List ℕ → List ℕ → Sheet
-warnedOf s out = pickSheet (eqb (answerOf s .number) 0) (allPushed (registerWarnings (sceneOf (payload s))) (nothing out)) (nothing out)
+unfoldable pub warnedOf : List ℕ → List ℕ → WarningSlice
+warnedOf s out = pickSlice (eqb (answerOf s .number) 0) (allPushed (registerWarnings (sceneOf (payload s))) (nothing out)) (nothing out)

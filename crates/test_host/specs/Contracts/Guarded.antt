@@ -4,7 +4,7 @@ use mathlib.Core.Bool.{cond}
 use mathlib.Core.List.{List}
 use lib.ListN.{length}
 use lib.Dec.{leb}
-use Rattle.records.specs.Records.{part}
+use Rattle.records.specs.Records.{bytesAt}
 use Rattle.scene.specs.Scene.{Maybe, none, some, Point, pointAt, sceneOf}
 use Rattle.scene.specs.Labels.{pointOfLabel}
 
@@ -14,4 +14,4 @@ spotIn l at i = cond (leb (at + 16 * i + 16) (length l)) (some (pointAt l (at + 
 
 -- what the n bytes at `at` name
 unfoldable pub labelIn : List ℕ → ℕ → ℕ → Maybe Point
-labelIn l at n = cond (leb (at + n) (length l)) (pointOfLabel (part l at n) (sceneOf l .places) (sceneOf l .items)) none
+labelIn l at n = cond (leb (at + n) (length l)) (pointOfLabel (bytesAt l at n) (sceneOf l .places) (sceneOf l .items)) none

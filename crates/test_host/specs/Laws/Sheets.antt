@@ -8,12 +8,12 @@ use Rattle.stream.specs.Numbers.{u16At, u32At, u64At, floatOf, floatAt}
 use Rattle.stream.specs.Conditions.{firstOf}
 use Rattle.stream.specs.Blocks.{sized, wordSum, checked, allChecked, ofBlocks}
 use Rattle.stream.specs.Payload.{payloads, payload}
-use Rattle.records.specs.Records.{plain, allTo, named, labelled, namedThen, counted, allZero, choiceWidth, choiceFits, valuesWidth, itemBegins, itemFits, itemWith}
-use Rattle.records.specs.Records.{endOf, rescaleOf, choiceOf, featureOf, variableOf, placeOf, itemOf, pointsOf, pathWith, cubicsOf, polylineOf, pathOf, byTag, recordOf}
+use Rattle.records.specs.Records.{asciiGraphic, allTo, named, labelled, namedThen, counted, allZero, optionWidth, optionFits, valuesWidth, itemBegins, itemFits, itemWith}
+use Rattle.records.specs.Records.{endOf, rescaleOf, optionOf, featureOf, variableOf, placeOf, itemOf, pointsOf, pathWith, cubicsOf, polylineOf, pathOf, byTag, recordOf}
 use Rattle.records.specs.Walk.{entries, ends}
 use Rattle.records.specs.Layout.{before, stepOf, inOrder, laidOutFrom, laidOut}
-use Rattle.records.specs.Limits.{number, near, choiceFloats, limitedAt, allLimited, limited}
-use Rattle.records.specs.Search.{past, turnOf, recordsOf}
+use Rattle.records.specs.Limits.{isFinite, onCanvas, optionFloats, limitedAt, allLimited, limited}
+use Rattle.records.specs.Search.{endsSearch, searchStepOf, recordsOf}
 use Rattle.records.specs.Values.{flattenIn, rescaleIn, notAbove}
 use Rattle.records.specs.Conditions.{ofValues, ofRecords, ofStream}
 use Rattle.records.specs.Contracts.Refusals.{refusalOf}
@@ -70,5 +70,5 @@ known :
     × (refusalOf (sheet (rescale f0 ++ flatten m1 ++ line ++ points far)) ≡ 4)
     × (refusalOf (block 0 (short (rescale f0 ++ flatten m1))) ≡ 5)
     × (refusalOf (block 0 (short (rescale f0))) ≡ 6)
-unfolding firstOf ofBlocks ofValues ofRecords ofStream sized allChecked checked wordSum payload payloads laidOut laidOutFrom inOrder stepOf before limited allLimited limitedAt choiceFloats number near flattenIn rescaleIn recordsOf turnOf past notAbove entries ends recordOf byTag endOf rescaleOf choiceOf featureOf variableOf placeOf itemOf pointsOf pathOf pathWith cubicsOf polylineOf itemWith itemFits itemBegins valuesWidth choiceFits choiceWidth namedThen counted labelled named plain allTo allZero floatAt floatOf u16At u32At u64At ofBits neg le
+unfolding firstOf ofBlocks ofValues ofRecords ofStream sized allChecked checked wordSum payload payloads laidOut laidOutFrom inOrder stepOf before limited allLimited limitedAt optionFloats isFinite onCanvas flattenIn rescaleIn recordsOf searchStepOf endsSearch notAbove entries ends recordOf byTag endOf rescaleOf optionOf featureOf variableOf placeOf itemOf pointsOf pathOf pathWith cubicsOf polylineOf itemWith itemFits itemBegins valuesWidth optionFits optionWidth namedThen counted labelled named asciiGraphic allTo allZero floatAt floatOf u16At u32At u64At ofBits neg le
 known = (refl, refl, refl, refl, refl, refl, refl)

@@ -10,14 +10,14 @@ use Rattle.stream.specs.Contracts.Payload.{room}
 use Rattle.scene.specs.Contracts.Answers.{pathsFrom, PathWithin}
 use Rattle.densify.specs.Contracts.Written.{drawnBy}
 use Rattle.convert.specs.Convert.{pathsOf}
-use Rattle.convert.specs.Contracts.Space.{sheetBy, outlineBy}
+use Rattle.convert.specs.Contracts.Space.{outputBy, outlineBy}
 use Rattle.convert.specs.Laws.Loops.{path-fits, path-ready, path-played, Loop, none-done, no-more, all-paths, one-path}
 use Rattle.convert.proofs.items.draw_each.Statement.{statement}
 use Rattle.convert.proofs.items.draw_each.Tie as tie
 
 abbrev Inv-loop : tie.InvT-loop
 Inv-loop s cx p many next work₀ positions₀ features₀ warnings₀ state₀ q₀ o₀ more₀ i₀ work positions features warnings state q o more i =
-    Loop (pathsOf cx p many 0 (pathsFrom (payload s) next 0) (pathsFrom (payload s) next 1) (state₀ .budget)) (sheetBy (length work₀) positions₀ features₀ warnings₀ state₀) (sheetBy (length work) positions features warnings state)
+    Loop (pathsOf cx p many 0 (pathsFrom (payload s) next 0) (pathsFrom (payload s) next 1) (state₀ .budget)) (outputBy (length work₀) positions₀ features₀ warnings₀ state₀) (outputBy (length work) positions features warnings state)
     (pathsOf cx p many i (pathsFrom (payload s) q 0) (cond more (pathsFrom (payload s) o 1) []) (state .budget)) (state .budget) q i
 
 abbrev μ-loop : tie.MeasureT-loop
@@ -66,8 +66,8 @@ returns-2 c = all-paths _ _ _ _ _ (c .before .before .before .before .before .lo
 next-outline-requires : tie.Need-next-outline-requires Inv-loop μ-loop
 next-outline-requires c κs = search needs
 
-lay-path-requires : tie.Need-lay-path-requires Inv-loop μ-loop
-lay-path-requires c κs = (path-fits (within (c .before .before)), (λ e. path-fits (c .before .next-outline .ensures .1 e)), c .before .before .before .before .before .before .before .loop .inv .fits .left)
+load-path-requires : tie.Need-load-path-requires Inv-loop μ-loop
+load-path-requires c κs = (path-fits (within (c .before .before)), (λ e. path-fits (c .before .next-outline .ensures .1 e)), c .before .before .before .before .before .before .before .loop .inv .fits .left)
 
 part-of-requires : tie.Need-part-of-requires Inv-loop μ-loop
 part-of-requires c κs = omega (arith, within (c .before .before .before .before .before), c .before .before .before .before .before .before .before .before .before .before .loop .inv .short, c .before .before .before .before .before .before .before .before .before .before .before .before .before .before .before .before .pre .0)
@@ -77,7 +77,7 @@ polyline-or-polygon-requires c κs =
     let s = c .before .before .before .before .before .before .before .before .before .before .before .before .before .before .before .before .before .before .before .before .before .args in
     let l = payload (s .s .now) in
     let p = c .before .before .before .before .before .before .before .before .before .before .before .before .before .before .before .loop in
-    path-ready (p .work) _ (s .cx .flatten) (drawnBy l (c .before .before .before .before .before .before .before .before .before .before .before .before .next-path .result)) (p .state .budget) _ (outlineBy l (c .before .before .before .before .before .before .before .before .before .next-outline .result)) (c .before .before .before .before .before .before .before .lay-path .ensures) (p .inv .fits)
+    path-ready (p .work) _ (s .cx .flatten) (drawnBy l (c .before .before .before .before .before .before .before .before .before .before .before .before .next-path .result)) (p .state .budget) _ (outlineBy l (c .before .before .before .before .before .before .before .before .before .next-outline .result)) (c .before .before .before .before .before .before .before .load-path .ensures) (p .inv .fits)
 
 add-i : tie.Need-add-i Inv-loop μ-loop
 add-i c = omega (arith, within (c .before .before .before .before .before .before .before .before .before .before .before .before .before .before .before .before .before .before .before), c .before .before .before .before .before .before .before .before .before .before .before .before .before .before .before .before .before .before .before .before .before .before .before .before .loop .inv .short, c .before .before .before .before .before .before .before .before .before .before .before .before .before .before .before .before .before .before .before .before .before .before .before .before .before .before .before .before .before .before .pre .0)
@@ -90,7 +90,7 @@ loop-again c =
     let n = c .before .before .before .before .before .before .before .before .before .before .before .before .before .before .before .before .before .before .before .before .before .next-path in
     let o = c .before .before .before .before .before .before .before .before .before .before .before .before .before .before .before .before .before .before .next-outline in
     one-path _ _ _ _ _ (c .before .before .before .before .before .before .before .before .before .before .before .before .before .before .before .before .before .before .before .before .before .before .before .before .loop .inv) (n .result) (n .ensures .0) (c .before .before .before .before .before .before .before .before .before .before .before .before .before .before .before .before .before .before .before .if2 .left) (within (c .before .before .before .before .before .before .before .before .before .before .before .before .before .before .before .before .before .before .before) .more) (o .result) (o .ensures .0)
-    (path-played _ _ _ _ _ _ _ (c .before .before .before .before .before .before .before .before .before .before .before .before .before .before .before .before .lay-path .ensures) (c .before .before .before .before .before .before .before .before .before .before .before .before .before .part-of .ensures) (c .before .before .before .before .before .before .before .before .polyline-or-polygon .ensures))
+    (path-played _ _ _ _ _ _ _ (c .before .before .before .before .before .before .before .before .before .before .before .before .before .before .before .before .load-path .ensures) (c .before .before .before .before .before .before .before .before .before .before .before .before .before .part-of .ensures) (c .before .before .before .before .before .before .before .before .polyline-or-polygon .ensures))
 
 pub draw-each-spec : {M : Type 1} → statement M
 draw-each-spec =
@@ -111,7 +111,7 @@ draw-each-spec =
     same-length-8
     returns-2
     next-outline-requires
-    lay-path-requires
+    load-path-requires
     part-of-requires
     polyline-or-polygon-requires
     add-i

@@ -2,7 +2,7 @@ use mathlib.Core.Path.{refl}
 use borrow.Author.Needs.{needs}
 use Rattle.scene.specs.Contracts.Answers.{itemBy}
 use Rattle.convert.specs.Convert.{propsOf, drawnOf}
-use Rattle.convert.specs.Laws.Playing.{played-quiet}
+use Rattle.convert.specs.Laws.Applying.{played-quiet}
 use Rattle.convert.specs.Laws.Items.{item-drawn}
 use Rattle.convert.proofs.items.draw_item.Statement.{statement}
 use Rattle.convert.proofs.items.draw_item.Tie as tie
@@ -34,8 +34,8 @@ draw-ellipse-requires-2 c κs = search needs
 enum-known-x-4 : tie.Need-enum-known-x-4
 enum-known-x-4 c = search needs
 
-spot-requires : tie.Need-spot-requires
-spot-requires c κs = search needs
+point-feature-requires : tie.Need-point-feature-requires
+point-feature-requires c κs = search needs
 
 enum-told : tie.Need-enum-told
 enum-told c = search needs
@@ -114,7 +114,7 @@ same-length-14 c = search needs
 
 returns-4 : tie.Need-returns-4
 unfolding drawnOf
-returns-4 c = item-drawn _ _ _ _ (c .before .before .before .before .before .before .before .before .before .before .before .props-of .ensures _) (c .before .before .before .before .before .before .before .before .before .before .shape-of .ensures _) (c .before .before .before .before .before .before .before .before .x4 .given .1) (c .before .before .before .before .spot .ensures _ _ (c .before .before .before .before .before .before .before .before .before .before .before .before .before .before .before .before .before .pre .1))
+returns-4 c = item-drawn _ _ _ _ (c .before .before .before .before .before .before .before .before .before .before .before .props-of .ensures _) (c .before .before .before .before .before .before .before .before .before .before .shape-of .ensures _) (c .before .before .before .before .before .before .before .before .x4 .given .1) (c .before .before .before .before .point-feature .ensures _ _ (c .before .before .before .before .before .before .before .before .before .before .before .before .before .before .before .before .before .pre .1))
 
 same-length-15 : tie.Need-same-length-15
 same-length-15 c = search needs
@@ -172,7 +172,7 @@ draw-item-spec =
     enum-known-x-3
     draw-ellipse-requires-2
     enum-known-x-4
-    spot-requires
+    point-feature-requires
     enum-told
     draw-points-requires
     enum-told-2

@@ -7,14 +7,14 @@ use Rattle.stream.specs.Payload.{payload}
 use Rattle.stream.specs.Contracts.Payload.{room}
 use Rattle.scene.specs.Contracts.Answers.{itemsAt, Within}
 use Rattle.convert.specs.Convert.{onScreen, itemsOf}
-use Rattle.convert.specs.Contracts.Space.{sheetBy}
+use Rattle.convert.specs.Contracts.Space.{outputBy}
 use Rattle.convert.specs.Laws.Loops.{Loop, none-done, no-more, all-items, one-item}
 use Rattle.convert.proofs.items.draw_items.Statement.{statement}
 use Rattle.convert.proofs.items.draw_items.Tie as tie
 
 abbrev Inv-loop : tie.InvT-loop
 Inv-loop s from cx work₀ positions₀ features₀ warnings₀ state₀ q₀ i₀ work positions features warnings state q i =
-    Loop (itemsOf onScreen cx 0 (itemsAt (payload s) 0) (state₀ .budget)) (sheetBy (length work₀) positions₀ features₀ warnings₀ state₀) (sheetBy (length work) positions features warnings state)
+    Loop (itemsOf onScreen cx 0 (itemsAt (payload s) 0) (state₀ .budget)) (outputBy (length work₀) positions₀ features₀ warnings₀ state₀) (outputBy (length work) positions features warnings state)
     (itemsOf onScreen cx i (itemsAt (payload s) q) (state .budget)) (state .budget) q i
 
 abbrev μ-loop : tie.MeasureT-loop

@@ -1,7 +1,7 @@
 use borrow.Author.Needs.{needs}
 use borrow.Author.Tests.{not-true, not-false}
 use Rattle.scene.specs.Laws.Answers.{is-given, not-given}
-use Rattle.convert.specs.Laws.Laying.{laid-bounds}
+use Rattle.convert.specs.Laws.Loading.{laid-bounds}
 use Rattle.convert.specs.Laws.Items.{played-from, points-missing, points-drawn}
 use Rattle.convert.proofs.items.draw_points.Statement.{statement}
 use Rattle.convert.proofs.items.draw_points.Tie as tie
@@ -22,12 +22,12 @@ returns c =
 points-of-requires-2 : tie.Need-points-of-requires-2
 points-of-requires-2 c κs = search needs
 
-lay-points-requires : tie.Need-lay-points-requires
-lay-points-requires c κs = (c .before .before .before .before .points-of .ensures .1 (not-false _ (c .before .before .if1 .left)), c .before .points-of2 .ensures .1, c .before .before .before .before .before .before .before .before .before .before .pre .left)
+load-points-requires : tie.Need-load-points-requires
+load-points-requires c κs = (c .before .before .before .before .points-of .ensures .1 (not-false _ (c .before .before .if1 .left)), c .before .points-of2 .ensures .1, c .before .before .before .before .before .before .before .before .before .before .pre .left)
 
 polyline-or-polygon-requires : tie.Need-polyline-or-polygon-requires
 polyline-or-polygon-requires c κs =
-    let lays = c .before .before .before .before .before .before .lay-points .ensures in
+    let lays = c .before .before .before .before .before .before .load-points .ensures in
     (λ ok. (laid-bounds lays ok, lays .left ok), rw (lays .kept) (c .before .before .before .before .before .before .before .before .before .before .before .before .before .before .before .before .before .pre))
 
 same-length-2 : tie.Need-same-length-2
@@ -44,7 +44,7 @@ same-length-5 c = search needs
 
 returns-2 : tie.Need-returns-2
 returns-2 c =
-    let lays = c .before .before .before .before .before .before .before .before .before .before .before .before .before .before .before .lay-points .ensures in
+    let lays = c .before .before .before .before .before .before .before .before .before .before .before .before .before .before .before .load-points .ensures in
     points-drawn _ _ _ _ _ (is-given (c .before .before .before .before .before .before .before .before .before .before .before .before .before .before .before .before .before .before .before .before .points-of .result .some) _ (c .before .before .before .before .before .before .before .before .before .before .before .before .before .before .before .before .before .before .before .before .points-of .ensures .0) (not-false _ (c .before .before .before .before .before .before .before .before .before .before .before .before .before .before .before .before .before .before .if1 .left))) (c .before .before .before .before .before .before .before .before .before .before .before .before .before .before .before .before .before .points-of2 .ensures .0)
     (played-from (c .before .before .before .before .before .before .before .before .before .before .before .before .before .before .before .before .before .before .before .before .before .before .before .before .before .before .args .st) (lays .kept) (c .before .before .before .before .before .before .before .before .polyline-or-polygon .ensures _ _ _ _ lays))
 
@@ -57,7 +57,7 @@ draw-points-spec =
     same-length
     returns
     points-of-requires-2
-    lay-points-requires
+    load-points-requires
     polyline-or-polygon-requires
     same-length-2
     same-length-3

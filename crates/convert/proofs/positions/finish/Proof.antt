@@ -9,11 +9,11 @@ use Rattle.convert.specs.Laws.Events.{state-is}
 use Rattle.convert.proofs.positions.finish.Statement.{statement}
 use Rattle.convert.proofs.positions.finish.Tie as tie
 
-write-line-requires : tie.Need-write-line-requires
-write-line-requires c κs = search needs
+write-feature-requires : tie.Need-write-feature-requires
+write-feature-requires c κs = search needs
 
-lack-requires : tie.Need-lack-requires
-lack-requires c κs = search needs
+out-of-room-requires : tie.Need-out-of-room-requires
+out-of-room-requires c κs = search needs
 
 same-length : tie.Need-same-length
 same-length c = search needs
@@ -21,13 +21,13 @@ same-length c = search needs
 returns : tie.Need-returns
 returns c =
     let s = c .before .before .before .before .before .before .before .args in
-    let line = c .before .before .before .before .write-line .ensures in
+    let line = c .before .before .before .before .write-feature .ensures in
     let short : leb (s .st .features + 6) (length (s .features .now)) ≡ false = sym (line .0) ∙ not-true _ (c .before .if1 .taken) in
     record {
       fits = λ e. absurd (false≢true (sym short ∙ e));
       then = λ e. absurd (false≢true (sym short ∙ e));
       short = line .1 .short;
-      lacks = λ e. state-is (s .st) (c .lack .ensures);
+      lacks = λ e. state-is (s .st) (c .out-of-room .ensures);
     }
 
 add-t15 : tie.Need-add-t15
@@ -39,7 +39,7 @@ same-length-2 c = search needs
 returns-2 : tie.Need-returns-2
 returns-2 c =
     let s = c .before .before .before .before .before .before .args in
-    let line = c .before .before .before .write-line .ensures in
+    let line = c .before .before .before .write-feature .ensures in
     let fits : leb (s .st .features + 6) (length (s .features .now)) ≡ true = sym (line .0) ∙ not-false _ (c .if1 .left) in
     record {
       fits = line .1 .fits;
@@ -52,8 +52,8 @@ pub finish-spec : {M : Type 1} → statement M
 finish-spec =
     tie.close
     (tie.spec
-    write-line-requires
-    lack-requires
+    write-feature-requires
+    out-of-room-requires
     same-length
     returns
     add-t15

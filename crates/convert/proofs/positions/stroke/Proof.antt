@@ -11,7 +11,7 @@ use Rattle.densify.specs.Densify.{Made}
 use Rattle.densify.specs.Contracts.Written.{pointsIn, Written}
 use Rattle.densify.specs.Laws.Writing.{flats-length, next-in}
 use Rattle.convert.specs.Contracts.Space.{most, longest}
-use Rattle.convert.specs.Laws.Playing.{played-stuck}
+use Rattle.convert.specs.Laws.Applying.{played-stuck}
 use Rattle.convert.specs.Laws.Positions.{tail-written, strokeMade, stroke-some, stroke-few, Stands, line-stands, ring-stands, stands-length, stroke-lacks, stroke-finished}
 use Rattle.convert.proofs.positions.stroke.Statement.{statement}
 use Rattle.convert.proofs.positions.stroke.Tie as tie
@@ -51,8 +51,8 @@ some c = let b = c .before .before .before .before .before .before .before in st
 size : (c : tie.After-densify-polyline) → c .densify-polyline .result .ok ≡ true → c .densify-polyline .result .at ≡ 2 * length (made (c .before .before .before .before .before .before .before) .points)
 size c fits = omega (arith, whole c .next fits, flats-length (made (c .before .before .before .before .before .before .before) .points))
 
-lack-requires : tie.Need-lack-requires
-lack-requires c κs = search needs
+out-of-room-requires : tie.Need-out-of-room-requires
+out-of-room-requires c κs = search needs
 
 same-length : tie.Need-same-length
 same-length c = search needs
@@ -60,13 +60,13 @@ same-length c = search needs
 returns-2 : tie.Need-returns-2
 returns-2 c w v h =
     let a = c .before .before .before .before .before in
-    stroke-lacks _ _ _ _ _ w (a .densify-polyline .result) (a .before .before .if1 .left) h (whole a) (not-true _ (c .before .if2 .taken)) (c .lack .ensures)
+    stroke-lacks _ _ _ _ _ w (a .densify-polyline .result) (a .before .before .if1 .left) h (whole a) (not-true _ (c .before .if2 .taken)) (c .out-of-room .ensures)
 
 add-end : tie.Need-add-end
 add-end c = omega (arith, next-in (whole (c .before .before .before .before .before)) (not-false _ (c .before .if2 .left)), whole (c .before .before .before .before .before) .kept, c .before .before .before .before .before .before .before .before .before .before .before .before .good)
 
-seal-requires : tie.Need-seal-requires
-seal-requires c κs =
+repeat-first-position-requires : tie.Need-repeat-first-position-requires
+repeat-first-position-requires c κs =
     let a = c .before .before .before .before .before .before .before in
     let fits : a .densify-polyline .result .ok ≡ true = not-false _ (c .before .before .before .if2 .left) in
     (omega (arith, some a, size a fits), next-in (whole a) fits)
@@ -111,11 +111,11 @@ stroke-spec =
     part-densify-polyline-start
     part-densify-polyline-end
     densify-polyline-requires
-    lack-requires
+    out-of-room-requires
     same-length
     returns-2
     add-end
-    seal-requires
+    repeat-first-position-requires
     cast-finish
     finish-requires
     same-length-2

@@ -3,8 +3,8 @@ use Prim.Native.Nat.{_+_, _≤_}
 use lib.ListN.{length, length-set}
 use borrow.Author.Needs.{needs}
 use Rattle.geojson.specs.Laws.Words.{pair-put}
-use Rattle.convert.specs.Contracts.Space.{sheetBy}
-use Rattle.convert.specs.Laws.Playing.{played-stuck}
+use Rattle.convert.specs.Contracts.Space.{outputBy}
+use Rattle.convert.specs.Laws.Applying.{played-stuck}
 use Rattle.convert.specs.Laws.Events.{state-is, warned-fits, warned-lacks}
 use Rattle.convert.proofs.state.warn.Statement.{statement}
 use Rattle.convert.proofs.state.warn.Tie as tie
@@ -15,14 +15,14 @@ returns c w p f h = played-stuck _ _ _ (c .if1 .taken) h
 sub-if2 : tie.Need-sub-if2
 sub-if2 c = search needs
 
-lack-requires : tie.Need-lack-requires
-lack-requires c κs = search needs
+out-of-room-requires : tie.Need-out-of-room-requires
+out-of-room-requires c κs = search needs
 
 returns-2 : tie.Need-returns-2
 returns-2 c w p f h =
     let s = c .before .before .before .before .before .args in
-    rw (state-is (s .st) (c .lack .ensures))
-    (warned-lacks (record { kind = s .kind; index = s .index }) (sheetBy w p f (s .warnings .now) (s .st)) (s .st .budget) (c .before .before .if1 .left) h (omega arith))
+    rw (state-is (s .st) (c .out-of-room .ensures))
+    (warned-lacks (record { kind = s .kind; index = s .index }) (outputBy w p f (s .warnings .now) (s .st)) (s .st .budget) (c .before .before .if1 .left) h (omega arith))
 
 mul-warnings : tie.Need-mul-warnings
 mul-warnings c = search needs
@@ -50,7 +50,7 @@ returns-3 c w p f h =
     let s = c .before .before .before .before .before .args in
     let room : s .st .warnings + 2 ≤ length (s .warnings .now) = omega arith in
     rw (pair-put (s .warnings .now) (s .st .warnings) (s .kind) (s .index) room)
-    (warned-fits (record { kind = s .kind; index = s .index }) (sheetBy w p f (s .warnings .now) (s .st)) (s .st .budget) (c .before .before .if1 .left) h room)
+    (warned-fits (record { kind = s .kind; index = s .index }) (outputBy w p f (s .warnings .now) (s .st)) (s .st .budget) (c .before .before .if1 .left) h room)
 
 pub warn-spec : {M : Type 1} → statement M
 warn-spec =
@@ -58,7 +58,7 @@ warn-spec =
     (tie.spec
     returns
     sub-if2
-    lack-requires
+    out-of-room-requires
     returns-2
     mul-warnings
     slice-write-warnings

@@ -3,7 +3,7 @@ use native.Mathlib.Omega.{arith}
 use borrow.Author.Needs.{needs}
 use borrow.Author.Tests.{not-true, not-false}
 use Rattle.convert.specs.Convert.{ringTrace}
-use Rattle.convert.specs.Laws.Playing.{played-stuck}
+use Rattle.convert.specs.Laws.Applying.{played-stuck}
 use Rattle.convert.specs.Laws.Events.{state-is}
 use Rattle.convert.specs.Laws.Polygons.{ring-short, ring-full, ring-drawn}
 use Rattle.convert.proofs.strokes.draw_ring.Statement.{statement}
@@ -14,26 +14,26 @@ returns c =
     let a = c .before .before .before .before .before .args in
     λ m v ringed h. played-stuck (ringTrace (a .cx) (a .p) m) _ _ (c .if1 .taken) h
 
-lack-requires : tie.Need-lack-requires
-lack-requires c κs = search needs
+out-of-room-requires : tie.Need-out-of-room-requires
+out-of-room-requires c κs = search needs
 
 returns-2 : tie.Need-returns-2
 returns-2 c =
     let a = c .before .before .before .before .before .before .before .before .args in
     let short = not-true _ (c .before .if2 .taken) in
-    λ m v ringed h. rw (state-is (a .st) (c .lack .ensures)) (ring-short (a .cx) (a .p) ringed refl (c .before .before .before .if1 .left) short h)
+    λ m v ringed h. rw (state-is (a .st) (c .out-of-room .ensures)) (ring-short (a .cx) (a .p) ringed refl (c .before .before .before .if1 .left) short h)
 
 sub-if3 : tie.Need-sub-if3
 sub-if3 c = c .before .before .before .before .before .before .before .before .pre .0 (not-false _ (c .before .if2 .left)) .1
 
-lack-requires-2 : tie.Need-lack-requires-2
-lack-requires-2 c κs = search needs
+out-of-room-requires-2 : tie.Need-out-of-room-requires-2
+out-of-room-requires-2 c κs = search needs
 
 returns-3 : tie.Need-returns-3
 returns-3 c =
     let a = c .before .before .before .before .before .before .before .before .before .before .args in
     let fits = not-false _ (c .before .before .before .if2 .left) in
-    λ m v ringed h. rw (state-is (a .st) (c .lack2 .ensures)) (ring-full (a .cx) (a .p) ringed refl (c .before .before .before .before .before .if1 .left) fits (omega arith) h)
+    λ m v ringed h. rw (state-is (a .st) (c .out-of-room2 .ensures)) (ring-full (a .cx) (a .p) ringed refl (c .before .before .before .before .before .if1 .left) fits (omega arith) h)
 
 with-budget-requires : tie.Need-with-budget-requires
 with-budget-requires c κs = search needs
@@ -64,10 +64,10 @@ draw-ring-spec =
     tie.close
     (tie.spec
     returns
-    lack-requires
+    out-of-room-requires
     returns-2
     sub-if3
-    lack-requires-2
+    out-of-room-requires-2
     returns-3
     with-budget-requires
     stroke-requires

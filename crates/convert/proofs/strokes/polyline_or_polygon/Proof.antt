@@ -7,8 +7,8 @@ use borrow.Author.Needs.{needs}
 use borrow.Author.Tests.{not-true, not-false}
 use lib.ListN.{length}
 use Rattle.convert.specs.Convert.{polylineOrPolygonOf}
-use Rattle.convert.specs.Contracts.Space.{sheetBy, Fits, Bounds}
-use Rattle.convert.specs.Laws.Playing.{played-stuck}
+use Rattle.convert.specs.Contracts.Space.{outputBy, Fits, Bounds}
+use Rattle.convert.specs.Laws.Applying.{played-stuck}
 use Rattle.convert.specs.Laws.Events.{state-is}
 use Rattle.convert.specs.Laws.Polygons.{fits-spent, shape-lacks, shape-few, shape-ring, shape-line, shape-unwritten}
 use Rattle.convert.proofs.strokes.polyline_or_polygon.Statement.{statement}
@@ -21,7 +21,7 @@ module _ (c : tie.After-with-budget) where
 
   -- the sheet and the points that the callees are handed
   drawn-fits : let a = c .before .before .before .before .before .before .before .before .before .args in
-      Fits (sheetBy (length (a .work .now)) (a .positions .now) (a .features .now) (a .warnings .now) (c .with-budget .result)) (c .with-budget .result .budget)
+      Fits (outputBy (length (a .work .now)) (a .positions .now) (a .features .now) (a .warnings .now) (c .with-budget .result)) (c .with-budget .result .budget)
   drawn-fits =
       let e = c .before .before .before .before .before .before .before .before .before in
       rw (state-is (e .args .st) (c .with-budget .ensures)) (fits-spent (e .pre .1) (e .pre .0 (room .1) .1))
@@ -35,15 +35,15 @@ returns c =
     let a = e .args in
     λ w ps o b lays. played-stuck (polylineOrPolygonOf (a .cx) (a .p) (a .closed) ps o b) _ _ (c .if1 .taken) (e .pre .1)
 
-lack-requires : tie.Need-lack-requires
-lack-requires c κs = search needs
+out-of-room-requires : tie.Need-out-of-room-requires
+out-of-room-requires c κs = search needs
 
 returns-2 : tie.Need-returns-2
 returns-2 c =
     let e = c .before .before .before .before .before .before .before .before .before in
     let a = e .args in
     let short = not-true _ (c .before .if2 .taken) in
-    λ w ps o b lays. rw (state-is (a .st) (c .lack .ensures)) (shape-lacks (a .cx) (a .p) lays refl (c .before .before .before .if1 .left) (e .pre .1) short)
+    λ w ps o b lays. rw (state-is (a .st) (c .out-of-room .ensures)) (shape-lacks (a .cx) (a .p) lays refl (c .before .before .before .if1 .left) (e .pre .1) short)
 
 with-budget-requires : tie.Need-with-budget-requires
 with-budget-requires c κs = search needs
@@ -89,8 +89,8 @@ fill-requires c κs =
     let h = drawn-fits s in
     (drawn-bounds s, h .positions, h .features, h .left)
 
-unwritten-requires : tie.Need-unwritten-requires
-unwritten-requires c κs =
+draw-without-writing-requires : tie.Need-draw-without-writing-requires
+draw-without-writing-requires c κs =
     let s = c .before .before .before .before .before .before .before .before .before .before .before .before .before .before .before .before in
     let bounds = drawn-bounds s in
     let filled = c .before .before .before .before .before .before .before .before .before .fill in
@@ -118,7 +118,7 @@ returns-5 c =
     let marked = c .before .before .before .before .before .if6 .taken in
     let less : a .l .end < 8 = ⊎-elim (λ t. omega arith) (λ t. absurd (false≢true (sym (t .left) ∙ marked))) (c .before .before .before .before .before .before .before .before .before .before .before .before .before .before .before .before .if4 .came) in
     let filled = c .before .before .before .before .before .before .before .before .before .before .before .before .fill .ensures in
-    let told = c .before .before .unwritten .ensures in
+    let told = c .before .before .draw-without-writing .ensures in
     λ w ps o b lays.
     shape-unwritten (a .cx) (a .p) lays refl (room s .0) (e .pre .1) (room s .1) more _ (filled .1 .0)
     (rw (state-is (a .st) (s .with-budget .ensures)) at (filled .0) (a .closed) ps o _) marked less (told _ _ _)
@@ -159,7 +159,7 @@ polyline-or-polygon-spec =
     tie.close
     (tie.spec
     returns
-    lack-requires
+    out-of-room-requires
     returns-2
     with-budget-requires
     returns-3
@@ -169,7 +169,7 @@ polyline-or-polygon-spec =
     same-length-3
     returns-4
     fill-requires
-    unwritten-requires
+    draw-without-writing-requires
     same-length-4
     same-length-5
     same-length-6

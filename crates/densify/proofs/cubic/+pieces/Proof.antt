@@ -7,7 +7,7 @@ use borrow.Author.Tests.{not-true, not-false}
 use borrow.Fn.Kinds.{In}
 use borrow.Fn.PlainCycle.{Measures, is, falls, and}
 use Rattle.budget.specs.declared.Budget.{Budget}
-use Rattle.densify.specs.Densify.{Made, andThen, firstOf, secondOf, splitOf}
+use Rattle.densify.specs.Densify.{Made, andThen, firstHalf, secondHalf, splitOf}
 use Rattle.densify.specs.Contracts.Written.{blockIn, Written}
 use Rattle.densify.specs.Laws.Writing.{next-in, join-short, join-done}
 use Rattle.densify.proofs.Splits.{ends-deep, ends-flat, ends-left, halved, deeper}
@@ -18,7 +18,7 @@ use Rattle.densify.proofs.cubic.first_half.Reads as first-half-reads
 use Rattle.densify.proofs.cubic.halves.Reads as halves-reads
 use Rattle.densify.proofs.cubic.is_flat.Reads as is-flat-reads
 use Rattle.densify.proofs.cubic.second_half.Reads as second-half-reads
-use Rattle.densify.proofs.writing.leaf.Reads as leaf-reads
+use Rattle.densify.proofs.append.leaf.Reads as leaf-reads
 use Rattle.densify.proofs.cubic.+pieces.{statement}
 use Rattle.densify.proofs.cubic.+pieces.Tie.{close}
 
@@ -107,12 +107,12 @@ module _ (t : ℕ) where
 
   -- the second half's part
   abbrev second : pieces-lts.Else3 R (pieces-at t) pieces.Post → Budget → Made
-  second c = let s = c .before .before .before .before .before .before in splitOf (16 - (s .args .depth + 1)) (s .args .tol) (secondOf (blockIn (s .args .t1)))
+  second c = let s = c .before .before .before .before .before .before in splitOf (16 - (s .args .depth + 1)) (s .args .tol) (secondHalf (blockIn (s .args .t1)))
 
   -- two halves
   both : (c : pieces-lts.Else3 R (pieces-at t) pieces.Post) → let s = c .before .before .before .before .before .before in
       splitOf (16 - s .args .depth) (s .args .tol) (blockIn (s .args .t1)) (s .args .budget)
-      ≡ andThen (splitOf (16 - (s .args .depth + 1)) (s .args .tol) (firstOf (blockIn (s .args .t1))) (s .args .budget)) (second c)
+      ≡ andThen (splitOf (16 - (s .args .depth + 1)) (s .args .tol) (firstHalf (blockIn (s .args .t1))) (s .args .budget)) (second c)
   both c =
       let s = c .before .before .before .before .before .before in
       halved (s .args .tol) (blockIn (s .args .t1)) (s .args .budget) (s .args .depth) (c .before .before .if1 .left)
@@ -121,7 +121,7 @@ module _ (t : ℕ) where
   -- what the first half left
   one : (c : pieces-lts.After-pieces R (pieces-at t) pieces.Post) → let s = c .before .before .before .before .before .before .before .before .before .before in
       Written (s .args .work .now) (c .pieces .last .1 .1 .1 .1 .0) (s .args .at)
-      (splitOf (16 - (s .args .depth + 1)) (s .args .tol) (firstOf (blockIn (s .args .t1))) (s .args .budget)) (c .pieces .result)
+      (splitOf (16 - (s .args .depth + 1)) (s .args .tol) (firstHalf (blockIn (s .args .t1))) (s .args .budget)) (c .pieces .result)
   one c = rw (c .before .before .first-half .ensures ∙ c .before .before .before .halves .ensures .0) at (c .pieces .ensures)
 
   pieces-returns-4 : pieces-lts.Need-returns-4 R (pieces-at t) pieces.Post

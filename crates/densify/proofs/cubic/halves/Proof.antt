@@ -1,4 +1,4 @@
-use Rattle.densify.specs.Densify.{firstOf, secondOf}
+use Rattle.densify.specs.Densify.{firstHalf, secondHalf}
 use borrow.Author.Needs.{needs}
 use Rattle.densify.proofs.cubic.halves.Statement.{statement}
 use Rattle.densify.proofs.cubic.halves.Tie as tie
@@ -34,7 +34,7 @@ mid-requires-6 : tie.Need-mid-requires-6
 mid-requires-6 c κs = search needs
 
 returns : tie.Need-returns
-unfolding firstOf secondOf
+unfolding firstHalf secondHalf
 returns c = (cc, cc)
 
 pub halves-spec : {M : Type 1} → statement M

@@ -6,9 +6,9 @@ use native.Mathlib.Numerals.{unary-clauses}
 use lib.ListN.{length}
 use Rattle.stream.specs.Payload.{payload}
 use Rattle.scene.specs.Scene.{pointsAt}
-use Rattle.densify.specs.Densify.{plain}
+use Rattle.densify.specs.Densify.{withoutDraws}
 use Rattle.densify.specs.Laws.Writing.{next-in, Leads}
-use Rattle.densify.proofs.Standing.{points-short, points-next, points-end}
+use Rattle.densify.proofs.Points.{points-short, points-next, points-end}
 use borrow.Author.Needs.{needs}
 use borrow.Author.Tests.{not-true, not-false}
 use Rattle.densify.proofs.paths.copy_points.Statement.{statement}
@@ -20,7 +20,7 @@ Inv-loop s from count budget work₀ at next₀ i₀ work next i =
     (i ≤ count)
     × (next ≤ length work)
     × (length work ≡ length work₀)
-    × Leads work₀ at (plain (pointsAt (payload s) from count) budget) work next (plain (pointsAt (payload s) (from + 16 * i) (count - i)) budget)
+    × Leads work₀ at (withoutDraws (pointsAt (payload s) from count) budget) work next (withoutDraws (pointsAt (payload s) (from + 16 * i) (count - i)) budget)
 
 abbrev μ-loop : tie.MeasureT-loop
 μ-loop s from count budget work₀ at next₀ i₀ work next i = count - i

@@ -9,7 +9,7 @@ use Rattle.scene.specs.Scene.{cubicsAt}
 use Rattle.scene.specs.Contracts.Answers.{pointBy}
 use Rattle.densify.specs.Densify.{cubicsOf}
 use Rattle.densify.specs.Laws.Writing.{next-in, Leads}
-use Rattle.densify.proofs.Standing.{cubics-short, cubics-next, cubics-end}
+use Rattle.densify.proofs.Points.{cubics-short, cubics-next, cubics-end}
 use borrow.Author.Needs.{needs}
 use borrow.Author.Tests.{not-true, not-false}
 use Rattle.densify.proofs.paths.flatten_cubics.Statement.{statement}

@@ -5,23 +5,23 @@ use Rattle.scene.specs.Scene.{Point}
 use Rattle.densify.proofs.placing.same_point.Statement.{statement}
 use Rattle.densify.proofs.placing.same_point.Tie as tie
 
-same-requires : tie.Need-same-requires
-same-requires c κs = search needs
+same-value-requires : tie.Need-same-value-requires
+same-value-requires c κs = search needs
 
-same-requires-2 : tie.Need-same-requires-2
-same-requires-2 c κs = search needs
+same-value-requires-2 : tie.Need-same-value-requires-2
+same-value-requires-2 c κs = search needs
 
 returns : tie.Need-returns
 returns c = (
-  λ e. rw (c .before .before .same .ensures .0 (c .before .if1 .taken), c .same2 .ensures .0 e),
-  λ m n e. c .same2 .ensures .1 n (ap (λ (p : Point). p .y) e),
+  λ e. rw (c .before .before .same-value .ensures .0 (c .before .if1 .taken), c .same-value2 .ensures .0 e),
+  λ m n e. c .same-value2 .ensures .1 n (ap (λ (p : Point). p .y) e),
 )
 
 returns-2 : tie.Need-returns-2
 returns-2 c = (
   λ e. absurd (false≢true e),
-  λ m n e. sym (c .if1 .left) ∙ c .before .same .ensures .1 m (ap (λ (p : Point). p .x) e),
+  λ m n e. sym (c .if1 .left) ∙ c .before .same-value .ensures .1 m (ap (λ (p : Point). p .x) e),
 )
 
 pub same-point-spec : {M : Type 1} → statement M
-same-point-spec = tie.close (tie.spec same-requires same-requires-2 returns returns-2)
+same-point-spec = tie.close (tie.spec same-value-requires same-value-requires-2 returns returns-2)

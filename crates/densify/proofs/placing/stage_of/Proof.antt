@@ -18,8 +18,8 @@ atan-second-requires c κs = search needs
 enum-told-3 : tie.Need-enum-told-3
 enum-told-3 c = search needs
 
-latitude-requires : tie.Need-latitude-requires
-latitude-requires c κs = search needs
+rounded-latitude-requires : tie.Need-rounded-latitude-requires
+rounded-latitude-requires c κs = search needs
 
 returns : tie.Need-returns
 unfolding stageOf
@@ -31,7 +31,7 @@ returns-2 c = rw (c .before .enum-told2 .given .1) (c .atan-second .ensures)
 
 returns-3 : tie.Need-returns-3
 unfolding stageOf
-returns-3 c = rw (c .before .enum-told3 .given .1) (c .latitude .ensures)
+returns-3 c = rw (c .before .enum-told3 .given .1) (c .rounded-latitude .ensures)
 
 pub stage-of-spec : {M : Type 1} → statement M
-stage-of-spec = tie.close (tie.spec enum-told atan-first-requires enum-told-2 atan-second-requires enum-told-3 latitude-requires returns returns-2 returns-3)
+stage-of-spec = tie.close (tie.spec enum-told atan-first-requires enum-told-2 atan-second-requires enum-told-3 rounded-latitude-requires returns returns-2 returns-3)

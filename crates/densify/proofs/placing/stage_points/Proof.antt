@@ -50,8 +50,8 @@ mul-v c = search needs
 slice-read-v : tie.Need-slice-read-v Inv-loop μ-loop
 slice-read-v c = omega arith
 
-same-requires : tie.Need-same-requires Inv-loop μ-loop
-same-requires c κs = search needs
+same-value-requires : tie.Need-same-value-requires Inv-loop μ-loop
+same-value-requires c κs = search needs
 
 stage-of-requires-2 : tie.Need-stage-of-requires-2 Inv-loop μ-loop
 stage-of-requires-2 c κs = search needs
@@ -75,7 +75,7 @@ loop-less c = omega arith
 made-is : (c : tie.Joined2 Inv-loop μ-loop) → let s = c .before .before .before .before .before .before .before .before .before .args in c .if2 .made ≡ stageOf (s .k) (getD (c .before .before .before .before .loop .out) (c .before .before .before .before .loop .i + 1) nan)
 made-is c =
     ⊎-elim (λ k. k .2 ∙ k .1 .ensures)
-    (λ k. k .1 ∙ c .before .before .before .before .loop .inv .1 ∙ ap (stageOf _) (sym (c .before .same .ensures .0 (not-false _ (k .0 .left)))))
+    (λ k. k .1 ∙ c .before .before .before .before .loop .inv .1 ∙ ap (stageOf _) (sym (c .before .same-value .ensures .0 (not-false _ (k .0 .left)))))
     (c .if2 .came)
 
 loop-again : tie.Need-loop-again Inv-loop μ-loop
@@ -104,7 +104,7 @@ stage-points-spec =
     add-v
     mul-v
     slice-read-v
-    same-requires
+    same-value-requires
     stage-of-requires-2
     add-out
     mul-out

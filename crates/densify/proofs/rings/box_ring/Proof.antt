@@ -16,9 +16,9 @@ radius : (c : tie.After-min2) → let a = c .before .before .before .before .arg
 radius c = rw (c .before .min .ensures, c .before .before .max .ensures) at (c .min2 .ensures)
 
 -- what the code draws where they are rounded
-drawn : (c : tie.After-draw2) → let m = c .before .before .before in let a = m .before .before .before .before .args in
-    c .draw2 .result ≡ takeOf (a .budget) (quarterOf (a .step) (a .scale) (m .min2 .result) (a .tol) * 4) 8
-drawn c = rw (c .before .quarter-of .ensures) at (c .draw2 .ensures)
+drawn : (c : tie.After-take2) → let m = c .before .before .before in let a = m .before .before .before .before .args in
+    c .take2 .result ≡ takeOf (a .budget) (quarterOf (a .step) (a .scale) (m .min2 .result) (a .tol) * 4) 8
+drawn c = rw (c .before .quarter-of .ensures) at (c .take2 .ensures)
 
 max-requires : tie.Need-max-requires
 max-requires c κs = search needs
@@ -29,8 +29,8 @@ min-requires c κs = search needs
 min-requires-2 : tie.Need-min-requires-2
 min-requires-2 c κs = search needs
 
-draw-requires : tie.Need-draw-requires
-draw-requires c κs = search needs
+take-requires : tie.Need-take-requires
+take-requires c κs = search needs
 
 sharp-corners-requires : tie.Need-sharp-corners-requires
 sharp-corners-requires c κs = search needs
@@ -41,7 +41,7 @@ same-length c = search needs
 returns : tie.Need-returns
 returns c =
     rw (box-sharp _ _ _ _ _ _ _ _ (radius (c .before .before .before .before .before .before .before .before .before)) (c .before .before .before .before .before .before .before .before .if1 .taken))
-    (closed-short (rw (c .before .before .before .before .before .before .before .draw .ensures) at (c .before .before .before .before .sharp-corners .ensures)) (not-true _ (c .if2 .taken)))
+    (closed-short (rw (c .before .before .before .before .before .before .before .take .ensures) at (c .before .before .before .before .sharp-corners .ensures)) (not-true _ (c .if2 .taken)))
 
 close-ring-requires : tie.Need-close-ring-requires
 close-ring-requires c κs = ring-in (c .before .before .before .before .before .sharp-corners .ensures) (not-false _ (c .before .if2 .left))
@@ -54,16 +54,16 @@ returns-2 c =
     let one = c .before .before .before .before .before .before .before .before .sharp-corners .ensures in
     let fits = not-false _ (c .before .before .before .before .if2 .left) in
     rw (box-sharp _ _ _ _ _ _ _ _ (radius (c .before .before .before .before .before .before .before .before .before .before .before .before .before)) (c .before .before .before .before .before .before .before .before .before .before .before .before .if1 .taken))
-    (closed-done (rw (c .before .before .before .before .before .before .before .before .before .before .before .draw .ensures) at one) fits (rw (one .left fits) (c .before .before .close-ring .ensures)))
+    (closed-done (rw (c .before .before .before .before .before .before .before .before .before .before .before .take .ensures) at one) fits (rw (one .left fits) (c .before .before .close-ring .ensures)))
 
 quarter-of-requires : tie.Need-quarter-of-requires
 quarter-of-requires c κs = search needs
 
-mul-draw : tie.Need-mul-draw
-mul-draw c = let a = c .before .before .before .before .before .before .args in omega (arith, c .quarter-of .ensures, quarter-most (a .step) (a .scale) (c .before .before .min2 .result) (a .tol))
+mul-take : tie.Need-mul-take
+mul-take c = let a = c .before .before .before .before .before .before .args in omega (arith, c .quarter-of .ensures, quarter-most (a .step) (a .scale) (c .before .before .min2 .result) (a .tol))
 
-draw-requires-2 : tie.Need-draw-requires-2
-draw-requires-2 c κs = search needs
+take-requires-2 : tie.Need-take-requires-2
+take-requires-2 c κs = search needs
 
 rounded-corners-requires : tie.Need-rounded-corners-requires
 rounded-corners-requires c κs =
@@ -98,7 +98,7 @@ box-ring-spec =
     max-requires
     min-requires
     min-requires-2
-    draw-requires
+    take-requires
     sharp-corners-requires
     same-length
     returns
@@ -106,8 +106,8 @@ box-ring-spec =
     same-length-2
     returns-2
     quarter-of-requires
-    mul-draw
-    draw-requires-2
+    mul-take
+    take-requires-2
     rounded-corners-requires
     same-length-3
     returns-3

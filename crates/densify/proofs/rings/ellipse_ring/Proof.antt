@@ -12,8 +12,8 @@ use Rattle.densify.proofs.rings.ellipse_ring.Statement.{statement}
 use Rattle.densify.proofs.rings.ellipse_ring.Tie as tie
 
 -- what the code draws
-drawn : (c : tie.After-draw) → let a = c .before .before .before .before .args in c .draw .result ≡ takeOf (a .budget) (arcVerticesOf (a .step) (a .scale) (maxOf (a .rx) (a .ry)) (a .tol)) 8
-drawn c = rw (c .before .arc-vertices .ensures, c .before .before .max .ensures) at (c .draw .ensures)
+drawn : (c : tie.After-take) → let a = c .before .before .before .before .args in c .take .result ≡ takeOf (a .budget) (arcVerticesOf (a .step) (a .scale) (maxOf (a .rx) (a .ry)) (a .tol)) 8
+drawn c = rw (c .before .arc-vertices .ensures, c .before .before .max .ensures) at (c .take .ensures)
 
 max-requires : tie.Need-max-requires
 max-requires c κs = search needs
@@ -21,8 +21,8 @@ max-requires c κs = search needs
 arc-vertices-requires : tie.Need-arc-vertices-requires
 arc-vertices-requires c κs = search needs
 
-draw-requires : tie.Need-draw-requires
-draw-requires c κs = search needs
+take-requires : tie.Need-take-requires
+take-requires c κs = search needs
 
 ellipse-points-requires : tie.Need-ellipse-points-requires
 ellipse-points-requires c κs =
@@ -55,7 +55,7 @@ ellipse-ring-spec =
     (tie.spec
     max-requires
     arc-vertices-requires
-    draw-requires
+    take-requires
     ellipse-points-requires
     same-length
     returns

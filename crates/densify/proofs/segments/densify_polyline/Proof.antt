@@ -15,8 +15,8 @@ same-length c = search needs
 returns : tie.Need-returns
 returns c = placed-short _ (c .before .before .before .before .sample-polyline .ensures) (not-true _ (c .if1 .taken))
 
-place-points-requires : tie.Need-place-points-requires
-place-points-requires c κs =
+project-points-requires : tie.Need-project-points-requires
+project-points-requires c κs =
     let one = c .before .before .before .before .before .sample-polyline .ensures in
     let fits = not-false _ (c .before .if1 .left) in
     (omega (arith, one .next fits), next-in one fits)
@@ -25,7 +25,7 @@ same-length-2 : tie.Need-same-length-2
 same-length-2 c = search needs
 
 returns-2 : tie.Need-returns-2
-returns-2 c = placed-written _ (c .before .before .before .before .before .before .before .before .sample-polyline .ensures) (not-false _ (c .before .before .before .before .if1 .left)) (c .before .before .place-points .ensures)
+returns-2 c = placed-written _ (c .before .before .before .before .before .before .before .before .sample-polyline .ensures) (not-false _ (c .before .before .before .before .if1 .left)) (c .before .before .project-points .ensures)
 
 pub densify-polyline-spec : {M : Type 1} → statement M
 densify-polyline-spec =
@@ -34,6 +34,6 @@ densify-polyline-spec =
     sample-polyline-requires
     same-length
     returns
-    place-points-requires
+    project-points-requires
     same-length-2
     returns-2)

@@ -7,8 +7,8 @@ use lib.Ieee.{Float}
 use borrow.Author.Needs.{needs}
 use borrow.Author.Tests.{not-true, not-false}
 use Rattle.budget.specs.Budget.{takeOf}
-use Rattle.densify.specs.declared.writing.Done.{Done}
-use Rattle.densify.specs.Densify.{plain, segmentWant, segmentsOf, densifyPolylineOf}
+use Rattle.densify.specs.declared.append.PointCursor.{PointCursor}
+use Rattle.densify.specs.Densify.{withoutDraws, segmentWant, segmentsOf, densifyPolylineOf}
 use Rattle.densify.specs.Contracts.Written.{pointsIn, Written}
 use Rattle.densify.specs.Positions.{pointOf}
 use Rattle.densify.specs.Laws.Writing.{written-none, next-in, Leads}
@@ -54,7 +54,7 @@ put-point-requires c κs = c .before .before .before .before .before .before .pr
 
 -- the first point stands there
 first : (c : tie.After-put-point Inv-loop μ-loop) → let s = c .before .before .before .before .before .before .before .args in
-    Written (s .out .now) (c .put-point .last .1 .1 .1 .0) (s .at) (plain (pointOf (s .work .now) (s .from) ∷ []) (s .budget)) (c .put-point .result)
+    Written (s .out .now) (c .put-point .last .1 .1 .1 .0) (s .at) (withoutDraws (pointOf (s .work .now) (s .from) ∷ []) (s .budget)) (c .put-point .result)
 first c = c .put-point .ensures
 
 returns-2 : tie.Need-returns-2 Inv-loop μ-loop
@@ -92,13 +92,13 @@ shared-slice-read-by c = omega arith
 segment-want-requires : tie.Need-segment-want-requires Inv-loop μ-loop
 segment-want-requires c κs = search needs
 
-draw-requires : tie.Need-draw-requires Inv-loop μ-loop
-draw-requires c κs = search needs
+take-requires : tie.Need-take-requires Inv-loop μ-loop
+take-requires c κs = search needs
 
 -- what the turn's segment drew
-drawn : (c : tie.After-draw Inv-loop μ-loop) → let l = c .before .before .before .before .before .loop in let s = c .before .before .before .before .before .before .before .before .before .before .before .before .before .before .before .before .before .args in
-    c .draw .result ≡ takeOf (l .left) (segmentWant (s .step) (s .scale) (record { x = l .ax; y = l .ay }) (pointOf (s .work .now) (l .i))) 1
-drawn c = rw (c .before .segment-want .ensures) at (c .draw .ensures)
+drawn : (c : tie.After-take Inv-loop μ-loop) → let l = c .before .before .before .before .before .loop in let s = c .before .before .before .before .before .before .before .before .before .before .before .before .before .before .before .before .before .args in
+    c .take .result ≡ takeOf (l .left) (segmentWant (s .step) (s .scale) (record { x = l .ax; y = l .ay }) (pointOf (s .work .now) (l .i))) 1
+drawn c = rw (c .before .segment-want .ensures) at (c .take .ensures)
 
 sample-segment-requires : tie.Need-sample-segment-requires Inv-loop μ-loop
 sample-segment-requires c κs = (grant-within _ _ _ _ _ (drawn (c .before .before)), c .before .before .before .before .before .before .before .loop .inv .1)
@@ -108,7 +108,7 @@ room : (c : tie.In-loop Inv-loop μ-loop) → c .before .loop .i + 2 ≤ c .befo
 room c = omega arith
 
 -- all segments after the first point are the polyline
-whole : {w : List Float} {r : Done} (p : tie.At-loop Inv-loop μ-loop) → let f = p .before .before .before .before .before in let s = p .before .before .before .before .before .before .before .before .before .before .before .before .args in
+whole : {w : List Float} {r : PointCursor} (p : tie.At-loop Inv-loop μ-loop) → let f = p .before .before .before .before .before in let s = p .before .before .before .before .before .before .before .before .before .before .before .before .args in
     Written (f .put-point .last .1 .1 .1 .0) w (f .put-point .result .at) (onwards (s .step) (s .scale) (s .work .now) (s .from) (s .to) (s .budget)) r
     → Written (s .out .now) w (s .at) (densifyPolylineOf (s .step) (s .scale) (pointsIn (s .work .now) (s .from) (s .to)) (s .budget)) r
 whole p h = polyline-done _ _ _ _ _ _ (omega arith) (first (p .before .before .before .before .before)) (not-false _ (p .before .if2 .left)) h
@@ -171,7 +171,7 @@ sample-polyline-spec =
     mul-by
     shared-slice-read-by
     segment-want-requires
-    draw-requires
+    take-requires
     sample-segment-requires
     same-length-2
     returns-3

@@ -5,7 +5,7 @@ use Prim.Native.Nat.{suc, _-_, _≤_}
 use native.Mathlib.Omega.{arith}
 use borrow.Author.Needs.{needs}
 use borrow.Author.Tests.{not-true, not-false}
-use Rattle.densify.specs.Densify.{plain, alongOf, samplesTo}
+use Rattle.densify.specs.Densify.{withoutDraws, alongOf, samplesTo}
 use Rattle.densify.specs.Contracts.Written.{pointIn, Written}
 use Rattle.densify.specs.Laws.Writing.{written-none, next-in}
 use Rattle.densify.specs.Laws.Segments.{sampled, sample-next, sample-short}
@@ -39,7 +39,7 @@ put-point-requires c κs = next-in (c .before .before .before .loop .inv .2) ref
 
 -- what the turn wrote
 one : (c : tie.After-put-point Inv-loop μ-loop) → let s = c .before .before .before .before .before .before in let l = c .before .before .before .before .loop in
-    Written (l .out) (c .put-point .last .1 .1 .1 .0) (l .next) (plain (alongOf (pointIn (s .args .a)) (pointIn (s .args .b)) (l .k) (s .args .n) ∷ []) (s .args .budget)) (c .put-point .result)
+    Written (l .out) (c .put-point .last .1 .1 .1 .0) (l .next) (withoutDraws (alongOf (pointIn (s .args .a)) (pointIn (s .args .b)) (l .k) (s .args .n) ∷ []) (s .args .budget)) (c .put-point .result)
 one c = rw (c .before .before .along .ensures) at (c .put-point .ensures)
 
 returns : tie.Need-returns Inv-loop μ-loop

@@ -18,12 +18,12 @@ array-read-hypot-4 c = search needs
 hypot-requires : tie.Need-hypot-requires
 hypot-requires c κs = search needs
 
-parts-requires : tie.Need-parts-requires
-parts-requires c κs = search needs
+segment-parts-requires : tie.Need-segment-parts-requires
+segment-parts-requires c κs = search needs
 
 returns : tie.Need-returns
 unfolding segmentWant
-returns c = rw (← c .before .hypot .ensures) (c .parts .ensures)
+returns c = rw (← c .before .hypot .ensures) (c .segment-parts .ensures)
 
 pub segment-want-spec : {M : Type 1} → statement M
 segment-want-spec =
@@ -34,5 +34,5 @@ segment-want-spec =
     array-read-hypot-3
     array-read-hypot-4
     hypot-requires
-    parts-requires
+    segment-parts-requires
     returns)

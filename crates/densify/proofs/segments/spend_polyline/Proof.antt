@@ -67,8 +67,8 @@ shared-slice-read-by c = omega arith
 segment-want-requires : tie.Need-segment-want-requires Inv-loop μ-loop
 segment-want-requires c κs = search needs
 
-draw-requires : tie.Need-draw-requires Inv-loop μ-loop
-draw-requires c κs = search needs
+take-requires : tie.Need-take-requires Inv-loop μ-loop
+take-requires c κs = search needs
 
 add-i-2 : tie.Need-add-i-2 Inv-loop μ-loop
 add-i-2 c = omega arith
@@ -80,7 +80,7 @@ loop-again : tie.Need-loop-again Inv-loop μ-loop
 loop-again c =
     let w = c .before .before in
     let l = w .before .before .before .before .loop in
-    let drawn = rw (w .segment-want .ensures) at (c .before .draw .ensures) in
+    let drawn = rw (w .segment-want .ensures) at (c .before .take .ensures) in
     (omega arith, l .inv .1 ∙ spent-next _ _ _ (l .i) _ (l .left) _ (omega arith) drawn)
 
 returns-2 : tie.Need-returns-2 Inv-loop μ-loop
@@ -113,7 +113,7 @@ spend-polyline-spec =
     mul-by
     shared-slice-read-by
     segment-want-requires
-    draw-requires
+    take-requires
     add-i-2
     loop-less
     loop-again

@@ -2,7 +2,7 @@ use borrow.Author.Needs.{needs}
 use mathlib.Core.Path.{_≡_, _∙_}
 use mathlib.Core.Bool.{true}
 use lib.Ieee.{binary64, fits, toBits}
-use Rattle.float.specs.Contracts.Pointed.{Pointed}
+use Rattle.float.specs.Contracts.Fraction.{HasFraction}
 use Rattle.float.specs.Laws.Whole.{ceil-cuts}
 use Rattle.float.proofs.Cutting.{above-number, large-own, small-ceil, cut-ceil, up-to-zero}
 use Rattle.float.proofs.whole.ceil.Statement.{statement}
@@ -20,22 +20,22 @@ returns c = large-own (c .before .before .args .x) (held (c .before .before)) ce
 returns-2 : tie.Need-returns-2
 returns-2 c = small-ceil (c .before .before .before .args .x) (held (c .before .before .before)) (c .before .before .if1 .taken) (c .if3 .taken)
 
-point : (c : tie.Else3) → Pointed (toBits binary64 (c .before .before .before .args .x))
+point : (c : tie.Else3) → HasFraction (toBits binary64 (c .before .before .before .args .x))
 point c = record { low = c .if3 .left; high = c .before .if2 .left }
 
 unit-requires : tie.Need-unit-requires
 unit-requires c κs = point c
 
-sub-cut : tie.Need-sub-cut
-sub-cut c = search needs
+sub-clear-fraction : tie.Need-sub-clear-fraction
+sub-clear-fraction c = search needs
 
-cut-requires : tie.Need-cut-requires
-cut-requires c κs = search needs
+clear-fraction-requires : tie.Need-clear-fraction-requires
+clear-fraction-requires c κs = search needs
 
 returns-3 : tie.Need-returns-3
 returns-3 c =
-    cut-ceil (c .before .before .before .before .before .args .x) (held (c .before .before .before .before .before)) (point (c .before .before)) (c .cut .result)
-    (c .before .unit .result) (c .before .before .before .before .if1 .taken) (c .before .unit .ensures .is) (c .cut .ensures)
+    cut-ceil (c .before .before .before .before .before .args .x) (held (c .before .before .before .before .before)) (point (c .before .before)) (c .clear-fraction .result)
+    (c .before .unit .result) (c .before .before .before .before .if1 .taken) (c .before .unit .ensures .is) (c .clear-fraction .ensures)
 
 trunc-requires : tie.Need-trunc-requires
 trunc-requires c κs = search needs
@@ -51,8 +51,8 @@ ceil-spec =
     returns
     returns-2
     unit-requires
-    sub-cut
-    cut-requires
+    sub-clear-fraction
+    clear-fraction-requires
     returns-3
     trunc-requires
     returns-4)

@@ -4,7 +4,7 @@ use Prim.Native.Nat.{_-_}
 use native.Mathlib.Omega.{arith}
 use lib.Pow.{pow-pos}
 use lib.Ieee.{binary64, fits, toBits}
-use Rattle.float.specs.Contracts.Pointed.{Pointed, fieldOf}
+use Rattle.float.specs.Contracts.Fraction.{HasFraction, fieldOf}
 use Rattle.float.specs.Laws.Whole.{round-cuts}
 use Rattle.float.proofs.Cutting.{nan-own, a-number, wide, large-own, small-round, half-round, zero-no-nan, one-no-nan, cut-round}
 use Rattle.float.proofs.whole.round.Statement.{statement}
@@ -40,19 +40,19 @@ float-from-bits-result-2 c = one-no-nan (c .before .before .before .before .args
 returns-4 : tie.Need-returns-4
 returns-4 c = half-round (c .before .before .before .before .args .x) (held (c .before .before .before .before)) (c .if4 .taken)
 
-point : (c : tie.Else4) → Pointed (toBits binary64 (c .before .before .before .before .args .x))
+point : (c : tie.Else4) → HasFraction (toBits binary64 (c .before .before .before .before .args .x))
 point c = record { low = omega arith; high = c .before .before .if2 .left }
 
 half-requires : tie.Need-half-requires
 half-requires c κs = point c
 
-cut-requires : tie.Need-cut-requires
-cut-requires c κs = (point (c .before), omega (arith, c .half .ensures, pow-pos (1075 - fieldOf (toBits binary64 (c .before .before .before .before .before .args .x)))))
+clear-fraction-requires : tie.Need-clear-fraction-requires
+clear-fraction-requires c κs = (point (c .before), omega (arith, c .half .ensures, pow-pos (1075 - fieldOf (toBits binary64 (c .before .before .before .before .before .args .x)))))
 
 returns-5 : tie.Need-returns-5
 returns-5 c =
-    cut-round (c .before .before .before .before .before .before .args .x) (held (c .before .before .before .before .before .before)) (point (c .before .before)) (c .cut .result)
-    (c .before .half .result) (c .before .half .ensures) (c .cut .ensures)
+    cut-round (c .before .before .before .before .before .before .args .x) (held (c .before .before .before .before .before .before)) (point (c .before .before)) (c .clear-fraction .result)
+    (c .before .half .result) (c .before .half .ensures) (c .clear-fraction .ensures)
 
 pub round-spec : {M : Type 1} → statement M
 round-spec =
@@ -68,5 +68,5 @@ round-spec =
     float-from-bits-result-2
     returns-4
     half-requires
-    cut-requires
+    clear-fraction-requires
     returns-5)

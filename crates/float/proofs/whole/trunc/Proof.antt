@@ -4,7 +4,7 @@ use Prim.Native.Nat.{_-_}
 use native.Mathlib.Omega.{arith}
 use lib.Pow.{pow-pos}
 use lib.Ieee.{binary64, fits, toBits}
-use Rattle.float.specs.Contracts.Pointed.{Pointed, fieldOf}
+use Rattle.float.specs.Contracts.Fraction.{HasFraction, fieldOf}
 use Rattle.float.specs.Laws.Whole.{trunc-cuts}
 use Rattle.float.proofs.Cutting.{nan-own, a-number, wide, large-own, small-trunc, zero-no-nan, cut-trunc}
 use Rattle.float.proofs.whole.trunc.Statement.{statement}
@@ -31,14 +31,14 @@ float-from-bits-result c = zero-no-nan (c .before .before .before .args .x) (hel
 returns-3 : tie.Need-returns-3
 returns-3 c = small-trunc (c .before .before .before .args .x) (held (c .before .before .before)) (c .if3 .taken)
 
-point : (c : tie.Else3) → Pointed (toBits binary64 (c .before .before .before .args .x))
+point : (c : tie.Else3) → HasFraction (toBits binary64 (c .before .before .before .args .x))
 point c = record { low = c .if3 .left; high = c .before .if2 .left }
 
-cut-requires : tie.Need-cut-requires
-cut-requires c κs = (point c, pow-pos (1075 - fieldOf (toBits binary64 (c .before .before .before .args .x))))
+clear-fraction-requires : tie.Need-clear-fraction-requires
+clear-fraction-requires c κs = (point c, pow-pos (1075 - fieldOf (toBits binary64 (c .before .before .before .args .x))))
 
 returns-4 : tie.Need-returns-4
-returns-4 c = cut-trunc (c .before .before .before .before .args .x) (held (c .before .before .before .before)) (point (c .before)) (c .cut .result) (c .cut .ensures)
+returns-4 c = cut-trunc (c .before .before .before .before .args .x) (held (c .before .before .before .before)) (point (c .before)) (c .clear-fraction .result) (c .clear-fraction .ensures)
 
 pub trunc-spec : {M : Type 1} → statement M
 trunc-spec =
@@ -50,5 +50,5 @@ trunc-spec =
     mul-result
     float-from-bits-result
     returns-3
-    cut-requires
+    clear-fraction-requires
     returns-4)

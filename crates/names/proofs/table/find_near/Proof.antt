@@ -3,7 +3,7 @@ use Prim.Native.Nat.{ℕ, _+_, _-_, _≤_, _<_}
 use native.Mathlib.Omega.{arith}
 use lib.ListN.{length}
 use Rattle.stream.specs.Payload.{payload}
-use Rattle.records.specs.Records.{part}
+use Rattle.records.specs.Records.{bytesAt}
 use Rattle.names.proofs.Orders.{told-same, told-before, told-after}
 use Rattle.names.proofs.Reading.{front-is}
 use Rattle.names.proofs.Halves.{Between, between-all, between-up, between-down, between-hit, between-none}
@@ -12,7 +12,7 @@ use Rattle.names.proofs.table.find_near.Tie as tie
 
 abbrev Inv-loop : tie.InvT-loop
 Inv-loop s t count first p n more w lo₀ hi₀ mid₀ lo hi mid =
-    Between more (payload s) t count (part (payload s) (p + 1) n) lo hi × (lo < hi → (lo ≤ mid) × (mid < hi))
+    Between more (payload s) t count (bytesAt (payload s) (p + 1) n) lo hi × (lo < hi → (lo ≤ mid) × (mid < hi))
 
 abbrev μ-loop : tie.MeasureT-loop
 μ-loop s t count first p n more w lo₀ hi₀ mid₀ lo hi mid = hi - lo

@@ -7,13 +7,13 @@ use lib.ListN.{getD}
 use Rattle.stream.specs.Payload.{payload}
 use Rattle.stream.specs.Contracts.Payload.{room}
 use Rattle.stream.specs.Laws.Payload.{payload-length}
-use Rattle.names.specs.Contracts.Table.{Stands}
+use Rattle.names.specs.Contracts.Table.{NameFits}
 use Rattle.names.proofs.Halves.{insert-hit, insert-gap}
 use Rattle.names.proofs.table.insert.Statement.{statement}
 use Rattle.names.proofs.table.insert.Tie as tie
 
 -- the name lies within, and eight bytes behind it
-fits : (s : List ℕ) (more p n : ℕ) → Stands more (payload s) p → n + more ≡ getD (payload s) p 0 → p + 9 + n ≤ room s
+fits : (s : List ℕ) (more p n : ℕ) → NameFits more (payload s) p → n + more ≡ getD (payload s) p 0 → p + 9 + n ≤ room s
 fits s more p n h e = omega (arith, h .fits, payload-length s)
 
 last-of-requires : tie.Need-last-of-requires
@@ -30,8 +30,8 @@ returns c =
     let o = c .before .before .before .before .before .before .pre in
     insert-hit _ _ _ _ _ _ (o .0) (o .1) (o .2) (o .4) (o .5) _ (c .before .find-near .ensures .within (c .if1 .taken)) (c .before .find-near .ensures .is (c .if1 .taken))
 
-make-room-requires : tie.Need-make-room-requires
-make-room-requires c κs = (c .before .before .find-near .ensures .gap (c .before .if1 .left) .within, c .before .before .before .before .before .before .before .pre .4)
+shift-up-requires : tie.Need-shift-up-requires
+shift-up-requires c κs = (c .before .before .find-near .ensures .gap (c .before .if1 .left) .within, c .before .before .before .before .before .before .before .pre .4)
 
 cast-t : tie.Need-cast-t
 cast-t c = search needs
@@ -46,7 +46,7 @@ slice-write-t : tie.Need-slice-write-t
 slice-write-t c =
     let g = c .before .before .before .before .before .find-near .ensures .gap (c .before .before .before .before .if1 .left) .within in
     let h = c .before .before .before .before .before .before .before .before .before .before .pre .4 in
-    omega (arith, c .before .before .make-room .ensures .size)
+    omega (arith, c .before .before .shift-up .ensures .size)
 
 add-result : tie.Need-add-result
 add-result c = search needs
@@ -57,7 +57,7 @@ same-length-2 c = search needs
 returns-2 : tie.Need-returns-2
 returns-2 c =
     let o = c .before .before .before .before .before .before .before .before .before .before .pre in
-    insert-gap _ _ _ _ _ _ (o .0) (o .1) (o .2) (o .4) (o .5) _ (c .before .before .before .before .before .find-near .ensures .gap (c .before .before .before .before .if1 .left)) _ (c .before .before .make-room .ensures)
+    insert-gap _ _ _ _ _ _ (o .0) (o .1) (o .2) (o .4) (o .5) _ (c .before .before .before .before .before .find-near .ensures .gap (c .before .before .before .before .if1 .left)) _ (c .before .before .shift-up .ensures)
 
 pub insert-spec : {M : Type 1} → statement M
 insert-spec =
@@ -67,7 +67,7 @@ insert-spec =
     find-near-requires
     same-length
     returns
-    make-room-requires
+    shift-up-requires
     cast-t
     mul-t
     slice-write-t

@@ -4,7 +4,7 @@ use native.Mathlib.Omega.{arith}
 use lib.ListN.{drop}
 use Rattle.stream.specs.Payload.{payload}
 use Rattle.stream.specs.Laws.Payload.{rest-length}
-use Rattle.records.specs.Records.{part}
+use Rattle.records.specs.Records.{bytesAt}
 use Rattle.names.specs.Contracts.Table.{orderOf}
 use Rattle.names.proofs.Orders.{bytes-end, byte-less, byte-more, byte-same}
 use Rattle.names.proofs.table.order_bytes.Statement.{statement}
@@ -12,7 +12,7 @@ use Rattle.names.proofs.table.order_bytes.Tie as tie
 
 abbrev Inv-loop : tie.InvT-loop
 Inv-loop s p q n i₀ i =
-    (i ≤ n) × (orderOf (part (payload s) p n) (part (payload s) q n) ≡ orderOf (drop i (part (payload s) p n)) (drop i (part (payload s) q n)))
+    (i ≤ n) × (orderOf (bytesAt (payload s) p n) (bytesAt (payload s) q n) ≡ orderOf (drop i (bytesAt (payload s) p n)) (drop i (bytesAt (payload s) q n)))
 
 abbrev μ-loop : tie.MeasureT-loop
 μ-loop s p q n i₀ i = n - i

@@ -6,10 +6,10 @@ use lib.ListN.{drop}
 use Rattle.stream.specs.Payload.{payload}
 use Rattle.stream.specs.Contracts.Payload.{room}
 use Rattle.stream.specs.Laws.Payload.{part-room}
-use Rattle.records.specs.declared.order.Turn.{Turn}
-use Rattle.records.specs.Records.{recordOf, part}
+use Rattle.records.specs.declared.order.OrderStep.{OrderStep}
+use Rattle.records.specs.Records.{recordOf, bytesAt}
 use Rattle.records.specs.Layout.{laidOut, laidOutFrom}
-use Rattle.records.specs.Contracts.Order.{passOf, nextOf, Kept, KeptAfter}
+use Rattle.records.specs.Contracts.Order.{passOf, passStepOf, StateWithin, StepWithin}
 use Rattle.records.specs.Laws.Walk.{found, got-room}
 use Rattle.records.proofs.Passes.{order-bad, order-end, order-stop, order-go}
 use Rattle.records.proofs.order.layout.Statement.{statement}
@@ -18,7 +18,7 @@ use Rattle.records.proofs.order.layout.Tie as tie
 abbrev Inv-loop : tie.InvT-loop
 Inv-loop s p₀ st₀ p st =
     (p ≤ room s)
-    × Kept st (room s)
+    × StateWithin st (room s)
     × (laidOut (payload s) ≡ laidOutFrom (passOf (payload s) st) (drop p (payload s)))
 
 abbrev μ-loop : tie.MeasureT-loop
@@ -29,7 +29,7 @@ stands : (c : tie.After-next-record Inv-loop μ-loop) → recordOf (drop (c .bef
 stands c = found _ _ (c .before .before .loop .inv .0) (c .before .part-from .ensures) (c .next-record .ensures)
 
 loop-holds : tie.Need-loop-holds Inv-loop μ-loop
-unfolding laidOut part
+unfolding laidOut bytesAt
 loop-holds c = (omega arith, (omega arith, omega arith), refl)
 
 part-from-requires : tie.Need-part-from-requires Inv-loop μ-loop
@@ -61,7 +61,7 @@ enum-told-3 c = search needs
 
 returns-3 : tie.Need-returns-3 Inv-loop μ-loop
 returns-3 c =
-    order-stop _ (passOf _ (c .before .before .before .before .before .before .before .before .loop .st)) (stands (c .before .before .before .before .before .before) ∙ c .before .before .before .before .r .given .1) (sym (ap (nextOf _) (c .enum-told3 .given .1)) ∙ c .before .before .step .ensures .0)
+    order-stop _ (passOf _ (c .before .before .before .before .before .before .before .before .loop .st)) (stands (c .before .before .before .before .before .before) ∙ c .before .before .before .before .r .given .1) (sym (ap (passStepOf _) (c .enum-told3 .given .1)) ∙ c .before .before .step .ensures .0)
     ∙ sym (c .before .before .before .before .before .before .before .before .loop .inv .2)
 
 enum-known-t : tie.Need-enum-known-t Inv-loop μ-loop
@@ -78,8 +78,8 @@ loop-again c =
     let s = c .before .before .before .before .before .before .before .before .before .before .before .args .s .now in
     let p = c .before .before .before .before .before .before .before .before .before .loop .p in
     let e = stands (c .before .before .before .before .before .before .before) ∙ c .before .before .before .before .before .r .given .1 in
-    let kept = subst (λ (t : Turn). KeptAfter t (room s)) (c .before .t .given .1) (c .before .before .before .step .ensures .1) in
-    (got-room s p e .1, kept, c .before .before .before .before .before .before .before .before .before .loop .inv .2 ∙ order-go (payload s) p (passOf _ (c .before .before .before .before .before .before .before .before .before .loop .st)) e (sym (ap (nextOf _) (c .before .t .given .1)) ∙ c .before .before .before .step .ensures .0))
+    let kept = subst (λ (t : OrderStep). StepWithin t (room s)) (c .before .t .given .1) (c .before .before .before .step .ensures .1) in
+    (got-room s p e .1, kept, c .before .before .before .before .before .before .before .before .before .loop .inv .2 ∙ order-go (payload s) p (passOf _ (c .before .before .before .before .before .before .before .before .before .loop .st)) e (sym (ap (passStepOf _) (c .before .t .given .1)) ∙ c .before .before .before .step .ensures .0))
 
 pub layout-spec : {M : Type 1} → statement M
 layout-spec =

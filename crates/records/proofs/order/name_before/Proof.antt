@@ -6,7 +6,7 @@ use lib.ListN.{drop}
 use Rattle.stream.specs.Payload.{payload}
 use Rattle.stream.specs.Laws.Payload.{rest-length}
 use Rattle.records.specs.Layout.{before}
-use Rattle.records.specs.Records.{part}
+use Rattle.records.specs.Records.{bytesAt}
 use Rattle.records.proofs.Names.{end-a, end-b, is-less, is-greater, is-same}
 use Rattle.records.proofs.order.name_before.Statement.{statement}
 use Rattle.records.proofs.order.name_before.Tie as tie
@@ -15,7 +15,7 @@ abbrev Inv-loop : tie.InvT-loop
 Inv-loop s p n q m i₀ i =
     (i ≤ m)
     × (i ≤ n)
-    × (before (part (payload s) p n) (part (payload s) q m) ≡ before (drop i (part (payload s) p n)) (drop i (part (payload s) q m)))
+    × (before (bytesAt (payload s) p n) (bytesAt (payload s) q m) ≡ before (drop i (bytesAt (payload s) p n)) (drop i (bytesAt (payload s) q m)))
 
 abbrev μ-loop : tie.MeasureT-loop
 μ-loop s p n q m i₀ i = m - i

@@ -10,8 +10,8 @@ use Rattle.records.proofs.order.step.Tie as tie
 enum-told : tie.Need-enum-told
 enum-told c = search needs
 
-go-if-requires : tie.Need-go-if-requires
-go-if-requires c κs = search needs
+step-if-requires : tie.Need-step-if-requires
+step-if-requires c κs = search needs
 
 enum-known-r : tie.Need-enum-known-r
 enum-known-r c = search needs
@@ -64,17 +64,17 @@ add-next c = search needs
 add-next-2 : tie.Need-add-next-2
 add-next-2 c = omega (arith, got-role _ (c .before .before .before .before .before .before .pre .1) (c .before .before .before .r3 .given .1))
 
-go-if-requires-2 : tie.Need-go-if-requires-2
-go-if-requires-2 c κs = search needs
+step-if-requires-2 : tie.Need-step-if-requires-2
+step-if-requires-2 c κs = search needs
 
 enum-told-5 : tie.Need-enum-told-5
 enum-told-5 c = search needs
 
-go-if-requires-3 : tie.Need-go-if-requires-3
-go-if-requires-3 c κs = search needs
+step-if-requires-3 : tie.Need-step-if-requires-3
+step-if-requires-3 c κs = search needs
 
 returns-3 : tie.Need-returns-3
-returns-3 c = rescale-is _ _ (c .before .before .before .before .args .st) _ (c .before .before .before .before .pre .0) (c .before .enum-told .given .1) (c .go-if .ensures)
+returns-3 c = rescale-is _ _ (c .before .before .before .before .args .st) _ (c .before .before .before .before .pre .0) (c .before .enum-told .given .1) (c .step-if .ensures)
 
 returns-4 : tie.Need-returns-4
 returns-4 c = choice-is _ _ (c .before .before .before .before .before .before .args .st) _ (c .before .before .before .before .before .before .pre .0) (c .before .before .before .r .given .1) (c .before .if1 .left) (c .tag .ensures)
@@ -94,17 +94,17 @@ returns-8 c = item-is _ _ (c .before .before .before .before .args .st) _ (c .be
 returns-9 : tie.Need-returns-9
 returns-9 c =
     points-is _ _ (c .before .before .before .before .before .before .before .args .st) _ (c .before .before .before .before .before .before .before .pre .0) (c .before .before .before .before .r3 .given .1) (got-role _ (c .before .before .before .before .before .before .before .pre .1) (c .before .before .before .before .r3 .given .1)) (sym (c .before .before .has-role .ensures) ∙ c .before .if2 .left)
-    (c .go-if2 .ensures)
+    (c .step-if2 .ensures)
 
 returns-10 : tie.Need-returns-10
-returns-10 c = path-is _ _ (c .before .before .before .before .args .st) _ (c .before .before .before .before .pre .0) (c .before .enum-told5 .given .1) (c .go-if3 .ensures)
+returns-10 c = path-is _ _ (c .before .before .before .before .args .st) _ (c .before .before .before .before .pre .0) (c .before .enum-told5 .given .1) (c .step-if3 .ensures)
 
 pub step-spec : {M : Type 1} → statement M
 step-spec =
     tie.close
     (tie.spec
     enum-told
-    go-if-requires
+    step-if-requires
     enum-known-r
     returns
     tag-requires
@@ -121,9 +121,9 @@ step-spec =
     returns-2
     add-next
     add-next-2
-    go-if-requires-2
+    step-if-requires-2
     enum-told-5
-    go-if-requires-3
+    step-if-requires-3
     returns-3
     returns-4
     returns-5

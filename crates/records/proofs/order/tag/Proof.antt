@@ -7,11 +7,11 @@ use Rattle.records.proofs.order.tag.Tie as tie
 returns : tie.Need-returns
 returns c = rw (lt-leb 1 (c .before .args .st .last) (c .if1 .taken)) refl
 
-go-if-requires : tie.Need-go-if-requires
-go-if-requires c κs = search needs
+step-if-requires : tie.Need-step-if-requires
+step-if-requires c κs = search needs
 
 returns-2 : tie.Need-returns-2
-returns-2 c = rw (le-leb 1 (c .before .before .args .st .last) (c .before .if1 .left)) (c .go-if .ensures)
+returns-2 c = rw (le-leb 1 (c .before .before .args .st .last) (c .before .if1 .left)) (c .step-if .ensures)
 
 pub tag-spec : {M : Type 1} → statement M
-tag-spec = tie.close (tie.spec returns go-if-requires returns-2)
+tag-spec = tie.close (tie.spec returns step-if-requires returns-2)

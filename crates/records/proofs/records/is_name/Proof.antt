@@ -5,8 +5,8 @@ use Rattle.records.proofs.Cases.{named-cut, named-is, named-long, named
 use Rattle.records.proofs.records.is_name.Statement.{statement}
 use Rattle.records.proofs.records.is_name.Tie as tie
 
-left-requires : tie.Need-left-requires
-left-requires c κs = search needs
+remaining-requires : tie.Need-remaining-requires
+remaining-requires c κs = search needs
 
 returns : tie.Need-returns
 returns c = named-cut _ _ (omega arith)
@@ -32,22 +32,22 @@ sub-if4-2 c = search needs
 returns-4 : tie.Need-returns-4
 returns-4 c = named-short _ _ (omega arith)
 
-add-all-plain : tie.Need-add-all-plain
-add-all-plain c = search needs
+add-all-ascii-graphic : tie.Need-add-all-ascii-graphic
+add-all-ascii-graphic c = search needs
 
-all-plain-requires : tie.Need-all-plain-requires
-all-plain-requires c κs = search needs
+all-ascii-graphic-requires : tie.Need-all-ascii-graphic-requires
+all-ascii-graphic-requires c κs = search needs
 
 returns-5 : tie.Need-returns-5
 returns-5 c =
     let length = c .before .before .before .before in
-    named-is _ _ (omega arith) (length .before .byte .ensures) (length .wide .ensures .0) (omega arith) (omega arith) (omega arith) (c .all-plain .ensures)
+    named-is _ _ (omega arith) (length .before .byte .ensures) (length .wide .ensures .0) (omega arith) (omega arith) (omega arith) (c .all-ascii-graphic .ensures)
 
 pub is-name-spec : {M : Type 1} → statement M
 is-name-spec =
     tie.close
     (tie.spec
-    left-requires
+    remaining-requires
     returns
     byte-requires
     wide-requires
@@ -56,6 +56,6 @@ is-name-spec =
     sub-if4
     sub-if4-2
     returns-4
-    add-all-plain
-    all-plain-requires
+    add-all-ascii-graphic
+    all-ascii-graphic-requires
     returns-5)

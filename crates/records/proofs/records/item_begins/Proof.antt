@@ -4,8 +4,8 @@ use Rattle.records.proofs.Cases.{begins-cut, begins-flags, begins-is, b
 use Rattle.records.proofs.records.item_begins.Statement.{statement}
 use Rattle.records.proofs.records.item_begins.Tie as tie
 
-left-requires : tie.Need-left-requires
-left-requires c κs = search needs
+remaining-requires : tie.Need-remaining-requires
+remaining-requires c κs = search needs
 
 returns : tie.Need-returns
 returns c = begins-cut _ (omega arith)
@@ -32,7 +32,7 @@ pub item-begins-spec : {M : Type 1} → statement M
 item-begins-spec =
     tie.close
     (tie.spec
-    left-requires
+    remaining-requires
     returns
     byte-requires
     returns-2

@@ -13,8 +13,8 @@ is-name-requires c κs = search needs
 returns : tie.Need-returns
 returns c = then-nameless _ _ (was-false (c .before .is-name .ensures) (c .if1 .taken))
 
-left-requires : tie.Need-left-requires
-left-requires c κs = search needs
+remaining-requires : tie.Need-remaining-requires
+remaining-requires c κs = search needs
 
 add-result : tie.Need-add-result
 add-result c = search needs
@@ -31,7 +31,7 @@ add-result-2 c = search needs
 returns-2 : tie.Need-returns-2
 returns-2 c =
     let named = c .before .before .before in
-    then-is _ _ (was-true (named .before .is-name .ensures) (named .if1 .left)) (c .before .byte .ensures) (c .wide .ensures .0) (c .before .before .left .ensures)
+    then-is _ _ (was-true (named .before .is-name .ensures) (named .if1 .left)) (c .before .byte .ensures) (c .wide .ensures .0) (c .before .before .remaining .ensures)
 
 pub named-then-spec : {M : Type 1} → statement M
 named-then-spec =
@@ -39,7 +39,7 @@ named-then-spec =
     (tie.spec
     is-name-requires
     returns
-    left-requires
+    remaining-requires
     add-result
     byte-requires
     wide-requires

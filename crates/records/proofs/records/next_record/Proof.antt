@@ -7,11 +7,11 @@ use Rattle.records.proofs.Cases.{record-is, record-none, tag-other}
 use Rattle.records.proofs.records.next_record.Statement.{statement}
 use Rattle.records.proofs.records.next_record.Tie as tie
 
-left-requires : tie.Need-left-requires
-left-requires c κs = search needs
+remaining-requires : tie.Need-remaining-requires
+remaining-requires c κs = search needs
 
 returns : tie.Need-returns
-returns c = record-none _ (sym (c .before .left .ensures) ∙ c .if1 .taken)
+returns c = record-none _ (sym (c .before .remaining .ensures) ∙ c .if1 .taken)
 
 byte-requires : tie.Need-byte-requires
 byte-requires c κs = search needs
@@ -22,8 +22,8 @@ read-end-requires c κs = search needs
 read-rescale-requires : tie.Need-read-rescale-requires
 read-rescale-requires c κs = search needs
 
-read-choice-requires : tie.Need-read-choice-requires
-read-choice-requires c κs = search needs
+read-option-requires : tie.Need-read-option-requires
+read-option-requires c κs = search needs
 
 read-feature-requires : tie.Need-read-feature-requires
 read-feature-requires c κs = search needs
@@ -53,7 +53,7 @@ returns-3 c = record-is _ (omega arith) (sym (c .before .before .byte .ensures) 
 
 returns-4 : tie.Need-returns-4
 unfolding byTag
-returns-4 c = record-is _ (omega arith) (sym (c .before .before .byte .ensures) ∙ c .before .match .keys3) (c .read-choice .ensures)
+returns-4 c = record-is _ (omega arith) (sym (c .before .before .byte .ensures) ∙ c .before .match .keys3) (c .read-option .ensures)
 
 returns-5 : tie.Need-returns-5
 unfolding byTag
@@ -86,12 +86,12 @@ pub next-record-spec : {M : Type 1} → statement M
 next-record-spec =
     tie.close
     (tie.spec
-    left-requires
+    remaining-requires
     returns
     byte-requires
     read-end-requires
     read-rescale-requires
-    read-choice-requires
+    read-option-requires
     read-feature-requires
     read-variable-requires
     read-place-requires

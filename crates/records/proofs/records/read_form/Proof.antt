@@ -19,8 +19,8 @@ byte-requires c κs = (search needs, omega (arith, counted-fits _ _ _ (was-true 
 byte-requires-2 : tie.Need-byte-requires-2
 byte-requires-2 c κs = (search needs, omega (arith, counted-fits _ _ _ (was-true (c .before .before .counts .ensures) (c .before .if1 .left))))
 
-short-requires : tie.Need-short-requires
-short-requires c κs = (search needs, omega (arith, counted-fits _ _ _ (was-true (c .before .before .before .counts .ensures) (c .before .before .if1 .left))))
+u16-at-requires : tie.Need-u16-at-requires
+u16-at-requires c κs = (search needs, omega (arith, counted-fits _ _ _ (was-true (c .before .before .before .counts .ensures) (c .before .before .if1 .left))))
 
 add-t12 : tie.Need-add-t12
 add-t12 c = search needs
@@ -47,7 +47,7 @@ read-form-spec =
     returns
     byte-requires
     byte-requires-2
-    short-requires
+    u16-at-requires
     add-t12
     wide16-requires
     mul-t14

@@ -13,8 +13,8 @@ item-begins-requires c κs = search needs
 returns : tie.Need-returns
 returns c = item-not _ (was-false (c .before .item-begins .ensures) (c .if1 .taken))
 
-left-requires : tie.Need-left-requires
-left-requires c κs = search needs
+remaining-requires : tie.Need-remaining-requires
+remaining-requires c κs = search needs
 
 byte-requires : tie.Need-byte-requires
 byte-requires c κs = (search needs, omega (arith, begins-fits _ (was-true (c .before .before .item-begins .ensures) (c .before .if1 .left))))
@@ -77,7 +77,7 @@ read-item-spec =
     (tie.spec
     item-begins-requires
     returns
-    left-requires
+    remaining-requires
     byte-requires
     byte-requires-2
     byte-requires-3

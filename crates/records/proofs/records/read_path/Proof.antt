@@ -6,8 +6,8 @@ use Rattle.records.proofs.Cases.{path-closed, path-cut, path-form, path
 use Rattle.records.proofs.records.read_path.Statement.{statement}
 use Rattle.records.proofs.records.read_path.Tie as tie
 
-left-requires : tie.Need-left-requires
-left-requires c κs = search needs
+remaining-requires : tie.Need-remaining-requires
+remaining-requires c κs = search needs
 
 returns : tie.Need-returns
 returns c = path-cut _ (omega arith)
@@ -48,7 +48,7 @@ pub read-path-spec : {M : Type 1} → statement M
 read-path-spec =
     tie.close
     (tie.spec
-    left-requires
+    remaining-requires
     returns
     byte-requires
     returns-2

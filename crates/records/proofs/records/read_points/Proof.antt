@@ -19,8 +19,8 @@ byte-requires c κs = (search needs, omega (arith, counted-fits _ 2 16 (was-true
 returns-2 : tie.Need-returns-2
 returns-2 c = points-role _ (omega arith)
 
-short-requires : tie.Need-short-requires
-short-requires c κs = (search needs, omega (arith, counted-fits _ 2 16 (was-true (c .before .before .before .counts .ensures) (c .before .before .if1 .left))))
+u16-at-requires : tie.Need-u16-at-requires
+u16-at-requires c κs = (search needs, omega (arith, counted-fits _ 2 16 (was-true (c .before .before .before .counts .ensures) (c .before .before .if1 .left))))
 
 wide16-requires : tie.Need-wide16-requires
 wide16-requires c κs = search needs
@@ -44,7 +44,7 @@ read-points-spec =
     returns
     byte-requires
     returns-2
-    short-requires
+    u16-at-requires
     wide16-requires
     mul-t9
     add-t10

@@ -15,8 +15,8 @@ Inv-loop part off len i₀ i = (i ≤ len) × (allZero (rest part off) ≡ allZe
 abbrev μ-loop : tie.MeasureT-loop
 μ-loop part off len i₀ i = len - i
 
-left-requires : tie.Need-left-requires Inv-loop μ-loop
-left-requires c κs = search needs
+remaining-requires : tie.Need-remaining-requires Inv-loop μ-loop
+remaining-requires c κs = search needs
 
 loop-holds : tie.Need-loop-holds Inv-loop μ-loop
 loop-holds c = search needs
@@ -24,8 +24,8 @@ loop-holds c = search needs
 sub-loop : tie.Need-sub-loop Inv-loop μ-loop
 sub-loop c = search needs
 
-long-requires : tie.Need-long-requires Inv-loop μ-loop
-long-requires c κs = search needs
+u64-at-requires : tie.Need-u64-at-requires Inv-loop μ-loop
+u64-at-requires c κs = search needs
 
 returns : tie.Need-returns Inv-loop μ-loop
 returns c = long-fails _ (c .before .before .before .loop .i) (omega arith)
@@ -51,10 +51,10 @@ zeros-spec =
     (tie.spec
     Inv-loop
     μ-loop
-    left-requires
+    remaining-requires
     loop-holds
     sub-loop
-    long-requires
+    u64-at-requires
     returns
     add-i
     loop-less

@@ -15,8 +15,8 @@ Inv-loop part off i len k₀ k = allZero (drop i (rest part off)) ≡ allZero (d
 abbrev μ-loop : tie.MeasureT-loop
 μ-loop part off i len k₀ k = len - k
 
-left-requires : tie.Need-left-requires Inv-loop μ-loop
-left-requires c κs = search needs
+remaining-requires : tie.Need-remaining-requires Inv-loop μ-loop
+remaining-requires c κs = search needs
 
 loop-holds : tie.Need-loop-holds Inv-loop μ-loop
 loop-holds c = search needs
@@ -45,7 +45,7 @@ zeros-from-spec =
     (tie.spec
     Inv-loop
     μ-loop
-    left-requires
+    remaining-requires
     loop-holds
     byte-requires
     returns

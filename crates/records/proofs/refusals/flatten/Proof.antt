@@ -11,7 +11,7 @@ use Rattle.stream.specs.Laws.Numbers.{float-drop}
 use Rattle.stream.specs.Laws.Payload.{payload-length, rest-length}
 use Rattle.stream.specs.declared.Float64.the-variants.{Finite}
 use Rattle.records.specs.declared.search.Hit.{Hit}
-use Rattle.records.specs.Records.{choiceWidth}
+use Rattle.records.specs.Records.{optionWidth}
 use Rattle.records.specs.Contracts.Hits.{recordsAt, hitsOf}
 use Rattle.records.specs.Values.{thousandth, flattenIn}
 use Rattle.records.specs.Laws.Search.{choice-within}
@@ -30,7 +30,7 @@ module _ (l : List ℕ) (h : Hit) (e : recordsAt l 0 2 5 ≡ hitsOf l 2 5 h) whe
 
 -- the option's float lies within the payload
 within : (c : tie.Else1) → c .before .before .find .result .at + 10 ≤ room (c .before .before .before .before .args .s .now)
-unfolding choiceWidth
+unfolding optionWidth
 within c =
     omega (arith, payload-length (c .before .before .before .before .args .s .now), choice-within (c .before .before .find .ensures .1 .0 (not-false _ (c .if1 .left))))
 

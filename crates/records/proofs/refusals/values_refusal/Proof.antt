@@ -5,7 +5,7 @@ use Rattle.stream.specs.Payload.{payload}
 use Rattle.stream.specs.Contracts.Payload.{rest}
 use Rattle.stream.specs.Laws.Payload.{rest-length}
 use Rattle.records.specs.Values.{rescaleIn}
-use Rattle.records.proofs.Refusing.{flat, shrunk, neither}
+use Rattle.records.proofs.RefusalNumbers.{flat, shrunk, neither}
 use Rattle.records.proofs.refusals.values_refusal.Statement.{statement}
 use Rattle.records.proofs.refusals.values_refusal.Tie as tie
 

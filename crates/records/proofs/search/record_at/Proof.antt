@@ -13,8 +13,8 @@ use Rattle.records.proofs.search.record_at.Tie as tie
 inside : (c : tie.Else1) → c .before .before .before .args .p ≤ room (c .before .before .before .args .s .now)
 inside c = omega (arith, rest-length (c .before .before .before .args .s .now) 0)
 
-left-requires : tie.Need-left-requires
-left-requires c κs = search needs
+remaining-requires : tie.Need-remaining-requires
+remaining-requires c κs = search needs
 
 returns : tie.Need-returns
 returns c =
@@ -32,4 +32,4 @@ returns-2 c = sym (found _ _ (inside (c .before .before)) (c .before .part-from 
 
 pub record-at-spec : {M : Type 1} → statement M
 record-at-spec =
-    tie.close (tie.spec left-requires returns part-from-requires next-record-requires returns-2)
+    tie.close (tie.spec remaining-requires returns part-from-requires next-record-requires returns-2)

@@ -9,29 +9,29 @@ use lib.ListN.{drop}
 use Rattle.stream.specs.Payload.{payload}
 use Rattle.stream.specs.Contracts.Payload.{room}
 use Rattle.records.specs.declared.records.Step.the-variants.{Got}
-use Rattle.records.specs.declared.search.Turn.{Turn}
-use Rattle.records.specs.declared.search.Turn.the-variants.{On}
+use Rattle.records.specs.declared.search.SearchStep.{SearchStep}
+use Rattle.records.specs.declared.search.SearchStep.the-variants.{Skip}
 use Rattle.records.specs.Records.{recordOf}
-use Rattle.records.specs.Search.{turnOf, sought}
-use Rattle.records.specs.Contracts.Hits.{recordsAt, Standing, hitsOf, Later}
+use Rattle.records.specs.Search.{searchStepOf, withFound}
+use Rattle.records.specs.Contracts.Hits.{recordsAt, RecordAt, hitsOf, SkipsTo}
 use Rattle.records.specs.Laws.Walk.{got-room}
 use Rattle.records.specs.Laws.Search.{search-bad, search-end, search-got, search-over, here, not-greater, passed-over}
 use Rattle.records.proofs.search.seek.Statement.{statement}
 use Rattle.records.proofs.search.seek.Tie as tie
 
 abbrev Inv-loop : tie.InvT-loop
-Inv-loop s p tag key q₀ q = (p ≤ q) × (recordsAt (payload s) p tag key ≡ recordsAt (payload s) q tag key) × Later (payload s) tag p q
+Inv-loop s p tag key q₀ q = (p ≤ q) × (recordsAt (payload s) p tag key ≡ recordsAt (payload s) q tag key) × SkipsTo (payload s) tag p q
 
 abbrev μ-loop : tie.MeasureT-loop
 μ-loop s p tag key q₀ q = room s - q
 
 -- nothing is found where no such record stands
-none : (l : List ℕ) (t k p q : ℕ) {found : List (List ℕ)} → p ≤ q → Later l t p q → found ≡ [] → (found ≡ hitsOf l t k (record { some = false; at = q; next = q })) × ((false ≡ true → Standing l t k q q) × ((p ≤ q) × Later l t p q))
+none : (l : List ℕ) (t k p q : ℕ) {found : List (List ℕ)} → p ≤ q → SkipsTo l t p q → found ≡ [] → (found ≡ hitsOf l t k (record { some = false; at = q; next = q })) × ((false ≡ true → RecordAt l t k q q) × ((p ≤ q) × SkipsTo l t p q))
 unfolding hitsOf
 none l t k p q h a e = (e, ((λ n. absurd (subst T (sym n) tt)), (h, a)))
 
 -- a record stands at the position
-module _ (w : tie.After-turn-at Inv-loop μ-loop) where
+module _ (w : tie.After-search-step Inv-loop μ-loop) where
   abbrev at : tie.At-loop Inv-loop μ-loop
   at = w .before .before .before .before .before .before .before .before
 
@@ -47,18 +47,18 @@ module _ (w : tie.After-turn-at Inv-loop μ-loop) where
   within : (1 ≤ size) × (at .loop .q + size ≤ room s)
   within = got-room s (at .loop .q) got
 
-  turned : {x : Turn} → w .turn-at .result ≡ x → turnOf (at .before .before .args .tag) (at .before .before .args .key) (w .before .before .r .given .0 .0) ≡ x
-  turned h = sym (w .turn-at .ensures) ∙ h
+  turned : {x : SearchStep} → w .search-step .result ≡ x → searchStepOf (at .before .before .args .tag) (at .before .before .args .key) (w .before .before .r .given .0 .0) ≡ x
+  turned h = sym (w .search-step .ensures) ∙ h
 
   -- what a search finds from a position on
   abbrev from : ℕ → List (List ℕ)
   from p = recordsAt (payload s) p (at .before .before .args .tag) (at .before .before .args .key)
 
-  onward : {x : Turn} → w .turn-at .result ≡ x → from (at .before .before .args .p) ≡ sought x (drop (at .loop .q) (payload s)) (from (at .loop .q + size))
+  onward : {x : SearchStep} → w .search-step .result ≡ x → from (at .before .before .args .p) ≡ withFound x (drop (at .loop .q) (payload s)) (from (at .loop .q + size))
   onward h = at .loop .inv .1 ∙ rw (← turned h) (search-got (payload s) (at .loop .q) _ _ got)
 
   -- it has no greater tag
-  later : w .turn-at .result ≡ On → Later (payload s) (at .before .before .args .tag) (at .before .before .args .p) (at .loop .q + size)
+  later : w .search-step .result ≡ Skip → SkipsTo (payload s) (at .before .before .args .tag) (at .before .before .args .p) (at .loop .q + size)
   later h t k a b = at .loop .inv .2 t k a b ∙ passed-over (payload s) (at .loop .q) t k got (omega (arith, not-greater (at .before .before .args .tag) _ _ (turned h) (omega arith))) b
 
 loop-holds : tie.Need-loop-holds Inv-loop μ-loop
@@ -67,13 +67,13 @@ loop-holds c = (omega arith, refl, λ t k h m. refl)
 tag-at-requires : tie.Need-tag-at-requires Inv-loop μ-loop
 tag-at-requires c κs = search needs
 
-is-over-requires : tie.Need-is-over-requires Inv-loop μ-loop
-is-over-requires c κs = search needs
+is-search-over-requires : tie.Need-is-search-over-requires Inv-loop μ-loop
+is-search-over-requires c κs = search needs
 
 returns : tie.Need-returns Inv-loop μ-loop
 returns c =
     let a = c .before .before .before in
-    none _ _ _ _ (a .loop .q) (a .loop .inv .0) (a .loop .inv .2) (a .loop .inv .1 ∙ search-over _ (a .loop .q) _ _ (c .before .before .tag-at .ensures) (sym (c .before .is-over .ensures) ∙ c .if1 .taken))
+    none _ _ _ _ (a .loop .q) (a .loop .inv .0) (a .loop .inv .2) (a .loop .inv .1 ∙ search-over _ (a .loop .q) _ _ (c .before .before .tag-at .ensures) (sym (c .before .is-search-over .ensures) ∙ c .if1 .taken))
 
 record-at-requires : tie.Need-record-at-requires Inv-loop μ-loop
 record-at-requires c κs = search needs
@@ -97,8 +97,8 @@ returns-3 c =
 enum-known-r : tie.Need-enum-known-r Inv-loop μ-loop
 enum-known-r c = search needs
 
-turn-at-requires : tie.Need-turn-at-requires Inv-loop μ-loop
-turn-at-requires c κs = search needs
+search-step-requires : tie.Need-search-step-requires Inv-loop μ-loop
+search-step-requires c κs = search needs
 
 enum-told-3 : tie.Need-enum-told-3 Inv-loop μ-loop
 enum-told-3 c = search needs
@@ -139,7 +139,7 @@ seek-spec =
     μ-loop
     loop-holds
     tag-at-requires
-    is-over-requires
+    is-search-over-requires
     returns
     record-at-requires
     enum-told
@@ -147,7 +147,7 @@ seek-spec =
     enum-told-2
     returns-3
     enum-known-r
-    turn-at-requires
+    search-step-requires
     enum-told-3
     add-t12
     returns-4

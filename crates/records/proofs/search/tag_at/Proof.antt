@@ -8,8 +8,8 @@ use Rattle.stream.specs.Laws.Payload.{payload-length, rest-length}
 use Rattle.records.proofs.search.tag_at.Statement.{statement}
 use Rattle.records.proofs.search.tag_at.Tie as tie
 
-left-requires : tie.Need-left-requires
-left-requires c κs = search needs
+remaining-requires : tie.Need-remaining-requires
+remaining-requires c κs = search needs
 
 returns : tie.Need-returns
 returns c =
@@ -24,4 +24,4 @@ unfolding rest
 returns-2 c = c .byte .ensures
 
 pub tag-at-spec : {M : Type 1} → statement M
-tag-at-spec = tie.close (tie.spec left-requires returns byte-requires returns-2)
+tag-at-spec = tie.close (tie.spec remaining-requires returns byte-requires returns-2)

@@ -8,25 +8,25 @@ use Rattle.register.proofs.controls.gather_batch.Reads as reads
 use Rattle.register.proofs.controls.gather_batch.Lts as lts
 use Rattle.names.proofs.note_labels.Reads as note-labels-reads
 use Rattle.register.proofs.controls.features_before.Reads as features-before-reads
-use Rattle.register.proofs.controls.forget.Reads as forget-reads
+use Rattle.register.proofs.controls.clear_known.Reads as forget-reads
 use Rattle.register.proofs.controls.more_of.Reads as more-of-reads
-use Rattle.register.proofs.controls.read.Reads as read-reads
+use Rattle.register.proofs.controls.read_batch.Reads as read-reads
 
 -- src/controls.rt:303:9
 more-of-requires : tie.Need-more-of-requires
 more-of-requires c κs = search needs
 
 -- src/controls.rt:305:53
-slice-aggregate-note-labels : tie.Need-slice-aggregate-note-labels
-slice-aggregate-note-labels c = search needs
+slice-aggregate-match-labels : tie.Need-slice-aggregate-match-labels
+slice-aggregate-match-labels c = search needs
 
 -- src/controls.rt:305:64
-slice-aggregate-note-labels-2 : tie.Need-slice-aggregate-note-labels-2
-slice-aggregate-note-labels-2 c = search needs
+slice-aggregate-match-labels-2 : tie.Need-slice-aggregate-match-labels-2
+slice-aggregate-match-labels-2 c = search needs
 
 -- src/controls.rt:305:9
-note-labels-requires : tie.Need-note-labels-requires
-note-labels-requires c κs =
+match-labels-requires : tie.Need-match-labels-requires
+match-labels-requires c κs =
     let pre = c .before .before .before .before .before .before .before .before .before .pre in
     let e = c .before .before .before .more-of .ensures in
     (pre .0, more-few (c .before .before .before .before .before .before .before .before .before .args .lons) e, rw e (pre .4 .table), pre .4 .unmarked, search needs, search needs)
@@ -39,7 +39,7 @@ same-length c = search needs
 returns : tie.Need-returns
 returns c =
     let pre = c .before .before .before .before .before .before .before .before .before .before .before .before .before .before .before .pre in
-    let d = rw (c .before .before .before .before .before .before .before .before .before .more-of .ensures) at (c .before .before .before .before .before .note-labels .ensures) in
+    let d = rw (c .before .before .before .before .before .before .before .before .before .more-of .ensures) at (c .before .before .before .before .before .match-labels .ensures) in
     λ cs js h o. batch-lost _ _ _ _ _ (pre .4) d (pre .1 .labels) h (c .if1 .taken)
 
 -- src/controls.rt:309:43
@@ -51,20 +51,20 @@ features-before-requires : tie.Need-features-before-requires
 features-before-requires c κs = search needs
 
 -- src/controls.rt:309:5
-forget-requires : tie.Need-forget-requires
-forget-requires c κs =
-    let d = c .before .before .before .before .before .before .before .before .note-labels .ensures in
+clear-known-requires : tie.Need-clear-known-requires
+clear-known-requires c κs =
+    let d = c .before .before .before .before .before .before .before .before .match-labels .ensures in
     (more-few (c .before .before .before .before .before .before .before .before .before .before .before .before .before .before .before .before .before .before .args .lons) (c .before .before .before .before .before .before .before .before .before .before .before .before .more-of .ensures), d .table)
 
 -- src/controls.rt:310:25
-slice-aggregate-read : tie.Need-slice-aggregate-read
-slice-aggregate-read c = search needs
+slice-aggregate-read-batch : tie.Need-slice-aggregate-read-batch
+slice-aggregate-read-batch c = search needs
 
 -- src/controls.rt:310:5
-read-requires : tie.Need-read-requires
-read-requires c κs =
+read-batch-requires : tie.Need-read-batch-requires
+read-batch-requires c κs =
     let pre = c .before .before .before .before .before .before .before .before .before .before .before .before .before .before .before .before .before .before .before .before .before .before .before .before .before .before .pre in
-    (omega (arith, pre .0, pre .1 .few, pre .2, payload-length (c .before .before .before .before .before .before .before .before .before .before .before .before .before .before .before .before .before .before .before .before .before .before .before .before .before .before .args .s .now)), search needs, search needs, search needs, pre .3, rw (← (c .before .before .before .before .before .before .before .before .before .before .before .before .before .before .before .before .before .before .before .before .more-of .ensures)) (c .before .before .before .before .before .before .before .forget .ensures .table))
+    (omega (arith, pre .0, pre .1 .few, pre .2, payload-length (c .before .before .before .before .before .before .before .before .before .before .before .before .before .before .before .before .before .before .before .before .before .before .before .before .before .before .args .s .now)), search needs, search needs, search needs, pre .3, rw (← (c .before .before .before .before .before .before .before .before .before .before .before .before .before .before .before .before .before .before .before .before .more-of .ensures)) (c .before .before .before .before .before .before .before .clear-known .ensures .table))
 
 -- src/controls.rt:278:1
 same-length-2 : tie.Need-same-length-2
@@ -86,25 +86,25 @@ same-length-5 c = search needs
 returns-2 : tie.Need-returns-2
 returns-2 c =
     let pre = c .before .before .before .before .before .before .before .before .before .before .before .before .before .before .before .before .before .before .before .before .before .before .before .before .before .before .before .before .before .before .before .before .before .before .before .pre in
-    let d = rw (c .before .before .before .before .before .before .before .before .before .before .before .before .before .before .before .before .before .before .before .before .before .before .before .before .before .before .before .before .before .more-of .ensures) at (c .before .before .before .before .before .before .before .before .before .before .before .before .before .before .before .before .before .before .before .before .before .before .before .before .before .note-labels .ensures) in
-    let o = rw (c .before .before .before .before .before .before .before .before .before .before .before .before .before .before .before .before .before .before .before .before .before .before .before .before .before .before .before .before .before .more-of .ensures, c .before .before .before .before .before .before .before .before .before .before .before .before .before .before .before .before .before .features-before .ensures, surveyed-features (pre .1)) at (c .before .before .before .before .before .before .before .before .before .before .before .before .before .before .before .before .forget .ensures) in
-    λ cs js h q. batch-read _ _ _ _ _ (pre .4) d (pre .1 .labels) h o q (c .before .before .before .before .before .before .before .before .read .ensures (ready _ _ _ _ _ (pre .4) d (pre .1 .labels) h o))
+    let d = rw (c .before .before .before .before .before .before .before .before .before .before .before .before .before .before .before .before .before .before .before .before .before .before .before .before .before .before .before .before .before .more-of .ensures) at (c .before .before .before .before .before .before .before .before .before .before .before .before .before .before .before .before .before .before .before .before .before .before .before .before .before .match-labels .ensures) in
+    let o = rw (c .before .before .before .before .before .before .before .before .before .before .before .before .before .before .before .before .before .before .before .before .before .before .before .before .before .before .before .before .before .more-of .ensures, c .before .before .before .before .before .before .before .before .before .before .before .before .before .before .before .before .before .features-before .ensures, surveyed-features (pre .1)) at (c .before .before .before .before .before .before .before .before .before .before .before .before .before .before .before .before .clear-known .ensures) in
+    λ cs js h q. batch-read _ _ _ _ _ (pre .4) d (pre .1 .labels) h o q (c .before .before .before .before .before .before .before .before .read-batch .ensures (ready _ _ _ _ _ (pre .4) d (pre .1 .labels) h o))
 
 pub gather-batch-spec : {M : Type 1} → statement M
 gather-batch-spec =
     tie.close
     (tie.spec
     more-of-requires
-    slice-aggregate-note-labels
-    slice-aggregate-note-labels-2
-    note-labels-requires
+    slice-aggregate-match-labels
+    slice-aggregate-match-labels-2
+    match-labels-requires
     same-length
     returns
     sub-features-before
     features-before-requires
-    forget-requires
-    slice-aggregate-read
-    read-requires
+    clear-known-requires
+    slice-aggregate-read-batch
+    read-batch-requires
     same-length-2
     same-length-3
     same-length-4

@@ -12,7 +12,7 @@ use Rattle.register.proofs.controls.gather_part.Tie as tie
 use Rattle.register.proofs.controls.gather_part.Reads as reads
 use Rattle.register.proofs.controls.gather_part.Lts as lts
 use Rattle.register.proofs.controls.features_before.Reads as features-before-reads
-use Rattle.register.proofs.controls.fill.Reads as fill-reads
+use Rattle.register.proofs.controls.fill_batch.Reads as fill-reads
 use Rattle.register.proofs.controls.first_of.Reads as first-of-reads
 use Rattle.register.proofs.controls.gather_batch.Reads as gather-batch-reads
 
@@ -44,12 +44,12 @@ loop-holds : tie.Need-loop-holds Inv-loop μ-loop
 loop-holds c = (part-start _ _ (c .before .before .before .before .before .before .before .pre .2) (c .before .before .before .before .before .before .before .pre .1) (c .before .before .first-of .ensures) (c .features-before .ensures), refl, refl, refl, refl)
 
 -- src/controls.rt:330:37
-slice-aggregate-fill : tie.Need-slice-aggregate-fill Inv-loop μ-loop
-slice-aggregate-fill c = search needs
+slice-aggregate-fill-batch : tie.Need-slice-aggregate-fill-batch Inv-loop μ-loop
+slice-aggregate-fill-batch c = search needs
 
 -- src/controls.rt:330:13
-fill-requires : tie.Need-fill-requires Inv-loop μ-loop
-fill-requires c κs = (c .before .before .before .before .before .before .before .before .before .before .pre .0, c .before .before .loop .inv .0 .follows)
+fill-batch-requires : tie.Need-fill-batch-requires Inv-loop μ-loop
+fill-batch-requires c κs = (c .before .before .before .before .before .before .before .before .before .before .pre .0, c .before .before .loop .inv .0 .follows)
 
 -- src/controls.rt:332:13
 same-length : tie.Need-same-length Inv-loop μ-loop
@@ -66,7 +66,7 @@ same-length-3 c = c .before .before .before .before .before .before .before .bef
 -- src/controls.rt:332:13
 returns : tie.Need-returns Inv-loop μ-loop
 returns c =
-    part-end (c .before .before .before .before .before .before .before .before .loop .inv .0) (c .before .before .before .before .before .fill .ensures) (c .if1 .taken) (omega (arith, c .before .before .before .before .before .before .before .before .before .before .before .before .before .before .before .before .pre .3, c .before .before .before .before .before .before .before .before .loop .inv .1, c .before .before .before .before .t .given))
+    part-end (c .before .before .before .before .before .before .before .before .loop .inv .0) (c .before .before .before .before .before .fill-batch .ensures) (c .if1 .taken) (omega (arith, c .before .before .before .before .before .before .before .before .before .before .before .before .before .before .before .before .pre .3, c .before .before .before .before .before .before .before .before .loop .inv .1, c .before .before .before .before .t .given))
 
 -- src/controls.rt:334:49
 slice-aggregate-gather-batch : tie.Need-slice-aggregate-gather-batch Inv-loop μ-loop
@@ -76,26 +76,26 @@ slice-aggregate-gather-batch c = search needs
 gather-batch-requires : tie.Need-gather-batch-requires Inv-loop μ-loop
 gather-batch-requires c κs =
     let pre = c .before .before .before .before .before .before .before .before .before .before .before .before .before .before .before .before .before .before .before .before .pre in
-    let d = c .before .before .before .before .before .before .before .before .before .fill .ensures in
+    let d = c .before .before .before .before .before .before .before .before .before .fill-batch .ensures in
     (pre .0, pre .2, omega (arith, left (c .before .before .before .before .before .before .before .before .before .before .before .before .loop .inv .0), d .filling .enough, part-total (pre .2) (c .before .before .before .before .before .before .before .before .before .before .before .before .before .before .before .before .before .before .before .before .args .lons)), c .before .before .before .before .before .before .before .before .before .before .before .before .loop .inv .0 .follows, d .filling, omega (arith, pre .4, c .before .before .before .before .before .before .before .before .before .before .before .before .loop .inv .2), omega (arith, pre .5, c .before .before .before .before .before .before .before .before .before .before .before .before .loop .inv .3))
 
 -- src/controls.rt:336:9
 add-base : tie.Need-add-base Inv-loop μ-loop
 add-base c =
     let pre = c .before .before .before .before .before .before .before .before .before .before .before .before .before .before .before .before .before .before .before .before .before .before .before .before .before .before .before .before .before .before .pre in
-    let d = c .before .before .before .before .before .before .before .before .before .before .before .before .before .before .before .before .before .before .before .fill .ensures in
+    let d = c .before .before .before .before .before .before .before .before .before .before .before .before .before .before .before .before .before .before .before .fill-batch .ensures in
     omega (arith, left (c .before .before .before .before .before .before .before .before .before .before .before .before .before .before .before .before .before .before .before .before .before .before .loop .inv .0), d .filling .enough, part-total (pre .2) (c .before .before .before .before .before .before .before .before .before .before .before .before .before .before .before .before .before .before .before .before .before .before .before .before .before .before .before .before .before .before .args .lons), pre .2 .few, pre .0, payload-length (c .before .before .before .before .before .before .before .before .before .before .before .before .before .before .before .before .before .before .before .before .before .before .before .before .before .before .before .before .before .before .args .s .now))
 
 -- src/controls.rt:328:5
 loop-less : tie.Need-loop-less Inv-loop μ-loop
 loop-less c =
-    let d = c .before .before .before .before .before .before .before .before .before .before .before .before .before .before .before .before .before .before .before .fill .ensures in
+    let d = c .before .before .before .before .before .before .before .before .before .before .before .before .before .before .before .before .before .before .before .fill-batch .ensures in
     further (c .before .before .before .before .before .before .before .before .before .before .before .before .before .before .if1 .left) (d .more) (d .fits)
 
 -- src/controls.rt:328:5
 loop-again : tie.Need-loop-again Inv-loop μ-loop
 loop-again c =
-    (part-on (c .before .before .before .before .before .before .before .before .before .before .before .before .before .before .before .before .before .before .before .before .before .before .loop .inv .0) (c .before .before .before .before .before .before .before .before .before .before .before .before .before .before .before .before .before .before .before .fill .ensures) _ _ _ (c .before .before .before .before .before .before .before .before .before .gather-batch .ensures), omega (arith, c .before .before .before .before .before .before .before .before .t2 .given, c .before .before .before .before .before .before .before .before .before .before .before .before .before .before .before .before .before .before .t .given, c .before .before .before .before .before .before .before .before .before .before .before .before .before .before .before .before .before .before .before .before .before .before .loop .inv .1), omega (arith, c .before .before .before .before .before .flat .given, c .before .before .before .before .before .before .before .before .before .before .before .before .before .before .before .before .before .before .before .before .before .before .loop .inv .2), omega (arith, c .before .before .before .kept .given, c .before .before .before .before .before .before .before .before .before .before .before .before .before .before .before .before .before .before .before .before .before .before .loop .inv .3), omega (arith, c .before .before .before .before .before .before .before .before .before .before .before .before .before .before .before .before .runs2 .given, c .before .before .before .before .before .before .before .before .before .before .before .before .before .before .before .before .before .before .before .before .before .before .loop .inv .4))
+    (part-on (c .before .before .before .before .before .before .before .before .before .before .before .before .before .before .before .before .before .before .before .before .before .before .loop .inv .0) (c .before .before .before .before .before .before .before .before .before .before .before .before .before .before .before .before .before .before .before .fill-batch .ensures) _ _ _ (c .before .before .before .before .before .before .before .before .before .gather-batch .ensures), omega (arith, c .before .before .before .before .before .before .before .before .t2 .given, c .before .before .before .before .before .before .before .before .before .before .before .before .before .before .before .before .before .before .t .given, c .before .before .before .before .before .before .before .before .before .before .before .before .before .before .before .before .before .before .before .before .before .before .loop .inv .1), omega (arith, c .before .before .before .before .before .flat .given, c .before .before .before .before .before .before .before .before .before .before .before .before .before .before .before .before .before .before .before .before .before .before .loop .inv .2), omega (arith, c .before .before .before .kept .given, c .before .before .before .before .before .before .before .before .before .before .before .before .before .before .before .before .before .before .before .before .before .before .loop .inv .3), omega (arith, c .before .before .before .before .before .before .before .before .before .before .before .before .before .before .before .before .runs2 .given, c .before .before .before .before .before .before .before .before .before .before .before .before .before .before .before .before .before .before .before .before .before .before .loop .inv .4))
 
 pub gather-part-spec : {M : Type 1} → statement M
 gather-part-spec =
@@ -107,8 +107,8 @@ gather-part-spec =
     sub-features-before
     features-before-requires
     loop-holds
-    slice-aggregate-fill
-    fill-requires
+    slice-aggregate-fill-batch
+    fill-batch-requires
     same-length
     same-length-2
     same-length-3

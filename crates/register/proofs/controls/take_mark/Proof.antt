@@ -1,7 +1,7 @@
 use borrow.Author.Needs.{needs}
 use native.Mathlib.Omega.{arith}
 use borrow.Author.Tests.{not-true, not-false}
-use Rattle.register.proofs.Forgetting.{taken-none, taken-found}
+use Rattle.register.proofs.Known.{taken-none, taken-found}
 use Rattle.register.proofs.controls.take_mark.Statement.{statement}
 use Rattle.register.proofs.controls.take_mark.Tie as tie
 

@@ -6,8 +6,8 @@ use Prim.Native.Nat.{_-_}
 use native.Mathlib.Omega.{arith}
 use Rattle.stream.specs.Contracts.Payload.{room}
 use Rattle.scene.specs.Contracts.Answers.{Within}
-use Rattle.register.proofs.Turning.{Turn, turned, long, suffix, run}
-use Rattle.register.proofs.Mentioning.{Looking, looking, no-lon, on-other, one-lon}
+use Rattle.register.proofs.Declarations.{Turn, turned, long, suffix, run}
+use Rattle.register.proofs.MentionLists.{Looking, looking, no-lon, on-other, one-lon}
 use Rattle.register.proofs.mentions.next_lon.Statement.{statement}
 use Rattle.register.proofs.mentions.next_lon.Tie as tie
 
@@ -23,7 +23,7 @@ within c h = c .next-variable .ensures .1 .0 (not-false _ h)
 -- a turn, up to whether the variable is `<L>_lon`
 turn : (c : tie.After-is-lon Inv-loop μ-loop)
     → let at = c .before .before .before .before .before .before .before .before .before .loop in
-    Turn (c .before .before .before .before .before .before .before .before .before .before .before .before .args .s .now) (at .runs) (at .at) (at .len) (at .q) (c .before .before .before .before .before .before .before .before .next-variable .result) (c .before .before .before .set-runs .last .0) (c .is-lon .result)
+    Turn (c .before .before .before .before .before .before .before .before .before .before .before .before .args .s .now) (at .runs) (at .at) (at .len) (at .q) (c .before .before .before .before .before .before .before .before .next-variable .result) (c .before .before .before .set-prefix-starts .last .0) (c .is-lon .result)
 turn c =
     let v = c .before .before .before .before .before .before .before .before in
     let h = c .before .before .before .before .before .before .if1 .left in
@@ -33,10 +33,10 @@ turn c =
       found = h;
       within = within v h;
       headed = v .next-variable .ensures .1 .1 .0 (not-false _ h);
-      common = c .before .before .before .before .before .common .result;
-      alike = c .before .before .before .before .before .common .ensures .0;
-      low = c .before .before .before .before .before .common .ensures .1;
-      next = c .before .before .before .set-runs .ensures;
+      common = c .before .before .before .before .before .common-prefix .result;
+      alike = c .before .before .before .before .before .common-prefix .ensures .0;
+      low = c .before .before .before .before .before .common-prefix .ensures .1;
+      next = c .before .before .before .set-prefix-starts .ensures;
       lon = c .is-lon .ensures;
     }
 
@@ -57,11 +57,11 @@ returns c =
     let v = c .before .before .before .next-variable in
     no-lon (c .before .before .before .before .loop .inv) (v .result) (v .ensures .0) (c .before .if1 .taken) (c .no-mention .ensures .0) (c .no-mention .ensures .1)
 
-common-requires : tie.Need-common-requires Inv-loop μ-loop
-common-requires c κs = (c .before .before .before .loop .inv .along .within, within (c .before .before) (c .if1 .left) .name)
+common-prefix-requires : tie.Need-common-prefix-requires Inv-loop μ-loop
+common-prefix-requires c κs = (c .before .before .before .loop .inv .along .within, within (c .before .before) (c .if1 .left) .name)
 
-set-runs-requires : tie.Need-set-runs-requires Inv-loop μ-loop
-set-runs-requires c κs = (omega (arith, c .before .common .ensures .1, c .before .before .before .before .before .loop .inv .along .short), c .before .before .before .before .before .loop .inv .along .passed .sized)
+set-prefix-starts-requires : tie.Need-set-prefix-starts-requires Inv-loop μ-loop
+set-prefix-starts-requires c κs = (omega (arith, c .before .common-prefix .ensures .1, c .before .before .before .before .before .loop .inv .along .short), c .before .before .before .before .before .loop .inv .along .passed .sized)
 
 is-lon-requires : tie.Need-is-lon-requires Inv-loop μ-loop
 is-lon-requires c κs = within (c .before .before .before .before .before .before .before) (c .before .before .before .before .before .if1 .left) .name
@@ -116,8 +116,8 @@ next-lon-spec =
     no-mention-requires
     same-length
     returns
-    common-requires
-    set-runs-requires
+    common-prefix-requires
+    set-prefix-starts-requires
     is-lon-requires
     sub-from
     mul-from

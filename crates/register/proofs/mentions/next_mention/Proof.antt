@@ -11,12 +11,12 @@ same-length c = search needs
 returns : tie.Need-returns
 returns c = rw (c .before .before .before .before .if1 .taken) (c .before .before .next-lon .ensures)
 
-next-featured-requires : tie.Need-next-featured-requires
-next-featured-requires c κs = search needs
+next-feature-name-requires : tie.Need-next-feature-name-requires
+next-feature-name-requires c κs = search needs
 
 returns-2 : tie.Need-returns-2
-returns-2 c = rw (c .before .if1 .left) (c .next-featured .ensures (c .before .before .before .before .args .runs .now))
+returns-2 c = rw (c .before .if1 .left) (c .next-feature-name .ensures (c .before .before .before .before .args .runs .now))
 
 pub next-mention-spec : {M : Type 1} → statement M
 next-mention-spec =
-    tie.close (tie.spec next-lon-requires same-length returns next-featured-requires returns-2)
+    tie.close (tie.spec next-lon-requires same-length returns next-feature-name-requires returns-2)

@@ -8,7 +8,7 @@ use Rattle.stream.specs.Payload.{payload}
 use Rattle.scene.specs.Scene.{Scene, sceneOf}
 use Rattle.scene.specs.Laws.Answers.{is-given, not-given}
 use Rattle.register.specs.declared.declared.Declared.{Declared}
-use Rattle.register.specs.Register.{var, geoFrame, isMercator, allPlaced, controlsOf}
+use Rattle.register.specs.Register.{var, geoFrame, isMercator, allWithinLimits, controlsOf}
 use Rattle.register.specs.Contracts.Survey.{Declares}
 use Rattle.register.specs.Contracts.Gathered.{Gathers}
 use Rattle.register.specs.Laws.Outcomes.{Passed, over, counted, all-kept, none-kept, one-kept, keeps, anchor-in, anchor-out, refused, not-mercator, unplaced, unplaced-anchor, too-many, by-fit, by-one, no-anchor, by-anchor}
@@ -35,8 +35,8 @@ module _ (c : tie.After-gather) where
 abbrev gathered : tie.Else2 → tie.After-gather
 gathered c = c .before .before .before .before .before .before
 
-all : (c : tie.Else2) → allPlaced (controlsOf (sc (gathered c))) ≡ true
-all c = sym (holds (gathered c) .placed) ∙ not-false _ (c .if2 .left)
+all : (c : tie.Else2) → allWithinLimits (controlsOf (sc (gathered c))) ≡ true
+all c = sym (holds (gathered c) .within) ∙ not-false _ (c .if2 .left)
 
 -- past 8
 module _ (c : tie.Joined3) where
@@ -74,10 +74,10 @@ same-length c = search needs
 returns-2 : tie.Need-returns-2
 returns-2 c =
     let g = c .before .before .before .before .before .before .before in
-    refused 8 (c .refuse2 .ensures) (omega arith) (unplaced (sc g) (mercator g) (sym (holds g .placed) ∙ not-true _ (c .before .if2 .taken)))
+    refused 8 (c .refuse2 .ensures) (omega arith) (unplaced (sc g) (mercator g) (sym (holds g .within) ∙ not-true _ (c .before .if2 .taken)))
 
-is-placed-requires : tie.Need-is-placed-requires
-is-placed-requires c κs = search needs
+is-within-limits-requires : tie.Need-is-within-limits-requires
+is-within-limits-requires c κs = search needs
 
 refuse-requires-3 : tie.Need-refuse-requires-3
 refuse-requires-3 c κs = search needs
@@ -91,7 +91,7 @@ returns-3 c =
     let p = t .before .before in
     let g = gathered p in
     refused 8 (c .refuse3 .ensures) (omega arith)
-    (unplaced-anchor (sc g) (mercator g) (all p) (anchor-out (d g .anchor) _ (declares g .anchor) (t .before .if3 .taken) (sym (t .is-placed .ensures) ∙ not-true _ (c .before .if4 .taken))))
+    (unplaced-anchor (sc g) (mercator g) (all p) (anchor-out (d g .anchor) _ (declares g .anchor) (t .before .if3 .taken) (sym (t .is-within-limits .ensures) ∙ not-true _ (c .before .if4 .taken))))
 
 refuse-requires-4 : tie.Need-refuse-requires-4
 refuse-requires-4 c κs = search needs
@@ -174,7 +174,7 @@ register-spec =
     refuse-requires-2
     same-length
     returns-2
-    is-placed-requires
+    is-within-limits-requires
     refuse-requires-3
     same-length-2
     returns-3

@@ -6,7 +6,7 @@ use Rattle.stream.specs.Payload.{payload}
 use Rattle.stream.specs.Contracts.Payload.{room}
 use Rattle.stream.specs.Laws.Payload.{payload-length}
 use Rattle.scene.specs.Contracts.Answers.{featureBy}
-use Rattle.register.proofs.Surveying.{Numbering, numbering, numbered, one-numbered}
+use Rattle.register.proofs.Surveys.{Numbering, numbering, numbered, one-numbered}
 use Rattle.register.proofs.survey.count_features.Statement.{statement}
 use Rattle.register.proofs.survey.count_features.Tie as tie
 

@@ -5,7 +5,7 @@ use native.Mathlib.Omega.{arith}
 use Rattle.stream.specs.Payload.{payload}
 use Rattle.stream.specs.Contracts.Payload.{room}
 use Rattle.stream.specs.Laws.Payload.{payload-length}
-use Rattle.register.proofs.Surveying.{Surveying, surveying, all-said, surveyed, lon-surveyed, other-surveyed}
+use Rattle.register.proofs.Surveys.{Surveying, surveying, all-said, surveyed, lon-surveyed, other-surveyed}
 use Rattle.register.proofs.survey.survey_stream.Statement.{statement}
 use Rattle.register.proofs.survey.survey_stream.Tie as tie
 
@@ -35,8 +35,8 @@ returns c =
     let v = a .next-variable in
     surveyed (a .before .loop .inv) (v .result) (v .ensures .0) (v .ensures .1 .1 .1) (c .read-declared .ensures) (a .before .before .count-features .ensures .behind) (c .before .if1 .taken)
 
-note-requires : tie.Need-note-requires Inv-loop μ-loop
-note-requires c κs = c .before .before .next-variable .ensures .1 .0 (not-false _ (c .if1 .left)) .name
+record-geo-requires : tie.Need-record-geo-requires Inv-loop μ-loop
+record-geo-requires c κs = c .before .before .next-variable .ensures .1 .0 (not-false _ (c .if1 .left)) .name
 
 is-lon-requires : tie.Need-is-lon-requires Inv-loop μ-loop
 is-lon-requires c κs = c .before .before .before .next-variable .ensures .1 .0 (not-false _ (c .before .if1 .left)) .name
@@ -62,7 +62,7 @@ loop-again c =
     let v = a .next-variable in
     let w = v .ensures .1 .0 (not-false _ (b .if1 .left)) in
     let s = a .before .before .before .before .args .s .now in
-    lon-surveyed (a .before .loop .inv) (v .result) (v .ensures .0) (v .ensures .1 .1 .1) (b .if1 .left) (c .before .before .note .ensures) (c .before .is-lon .ensures) (w .more) (omega (arith, payload-length s, w .fits)) (c .if2 .taken)
+    lon-surveyed (a .before .loop .inv) (v .result) (v .ensures .0) (v .ensures .1 .1 .1) (b .if1 .left) (c .before .before .record-geo .ensures) (c .before .is-lon .ensures) (w .more) (omega (arith, payload-length s, w .fits)) (c .if2 .taken)
 
 loop-less-2 : tie.Need-loop-less-2 Inv-loop μ-loop
 loop-less-2 c = omega (arith, c .before .before .before .before .before .next-variable .ensures .1 .0 (not-false _ (c .before .before .before .if1 .left)))
@@ -74,7 +74,7 @@ loop-again-2 c =
     let v = a .next-variable in
     let w = v .ensures .1 .0 (not-false _ (b .if1 .left)) in
     let s = a .before .before .before .before .args .s .now in
-    other-surveyed (a .before .loop .inv) (v .result) (v .ensures .0) (v .ensures .1 .1 .1) (b .if1 .left) (c .before .before .note .ensures) (c .before .is-lon .ensures) (w .more) (omega (arith, payload-length s, w .fits)) (c .if2 .left)
+    other-surveyed (a .before .loop .inv) (v .result) (v .ensures .0) (v .ensures .1 .1 .1) (b .if1 .left) (c .before .before .record-geo .ensures) (c .before .is-lon .ensures) (w .more) (omega (arith, payload-length s, w .fits)) (c .if2 .left)
 
 pub survey-stream-spec : {M : Type 1} → statement M
 survey-stream-spec =
@@ -87,7 +87,7 @@ survey-stream-spec =
     next-variable-requires
     read-declared-requires
     returns
-    note-requires
+    record-geo-requires
     is-lon-requires
     add-names
     add-lons

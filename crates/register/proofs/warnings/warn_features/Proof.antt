@@ -8,9 +8,9 @@ use native.Mathlib.Omega.{arith}
 use lib.ListN.{length}
 use Rattle.stream.specs.Payload.{payload}
 use Rattle.stream.specs.Contracts.Payload.{room}
-use Rattle.scene.specs.Contracts.Answers.{Within, Headed}
+use Rattle.scene.specs.Contracts.Answers.{Within, LengthPrefixed}
 use Rattle.register.proofs.Pushing.{sheet, sheets}
-use Rattle.register.proofs.Telling.{Told, none-told, all-told, one-fits, one-control, one-warned}
+use Rattle.register.proofs.WarningLaws.{Told, none-told, all-told, one-fits, one-control, one-warned}
 use Rattle.register.proofs.warnings.warn_features.Statement.{statement}
 use Rattle.register.proofs.warnings.warn_features.Tie as tie
 
@@ -23,7 +23,7 @@ abbrev μ-loop : tie.MeasureT-loop
 within : (c : tie.Else1 Inv-loop μ-loop) → Within (room (c .before .before .before .before .before .before .before .before .args .s .now)) (c .before .before .before .loop .q) (c .before .before .next-name .result .at) (c .before .before .next-name .result .len + 16) (c .before .before .next-name .result .next)
 within c = c .before .before .next-name .ensures .1 .0 (not-false _ (c .if1 .left))
 
-headed : (c : tie.Else1 Inv-loop μ-loop) → Headed (payload (c .before .before .before .before .before .before .before .before .args .s .now)) (c .before .before .next-name .result .at) (c .before .before .next-name .result .len)
+headed : (c : tie.Else1 Inv-loop μ-loop) → LengthPrefixed (payload (c .before .before .before .before .before .before .before .before .args .s .now)) (c .before .before .next-name .result .at) (c .before .before .next-name .result .len)
 headed c = c .before .before .next-name .ensures .1 .1 .1 (not-false _ (c .if1 .left))
 
 long : (c : tie.Else1 Inv-loop μ-loop) → c .before .before .before .before .before .before .before .before .args .n ≤ length (c .before .before .before .before .before .before .before .before .args .kept .now)

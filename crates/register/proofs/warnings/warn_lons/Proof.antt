@@ -6,7 +6,7 @@ use native.Mathlib.Omega.{arith}
 use Rattle.stream.specs.Contracts.Payload.{room}
 use Rattle.scene.specs.Laws.Rising.{variables-rising}
 use Rattle.register.proofs.Pushing.{sheet, sheets}
-use Rattle.register.proofs.Telling.{Telling, telling, all-variables, lon-fits, lon-control, lon-warned}
+use Rattle.register.proofs.WarningLaws.{Telling, telling, all-variables, lon-fits, lon-control, lon-warned}
 use Rattle.register.proofs.warnings.warn_lons.Statement.{statement}
 use Rattle.register.proofs.warnings.warn_lons.Tie as tie
 

@@ -1,5 +1,5 @@
 use borrow.Author.Needs.{needs}
-use Rattle.register.proofs.Telling.{all-warned}
+use Rattle.register.proofs.WarningLaws.{all-warned}
 use Rattle.register.proofs.warnings.write_warnings.Statement.{statement}
 use Rattle.register.proofs.warnings.write_warnings.Tie as tie
 

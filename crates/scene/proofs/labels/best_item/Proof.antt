@@ -6,7 +6,7 @@ use native.Mathlib.Omega.{arith}
 use lib.ListN.{getD}
 use Rattle.stream.specs.Payload.{payload}
 use Rattle.stream.specs.Contracts.Payload.{room}
-use Rattle.records.specs.Records.{part}
+use Rattle.records.specs.Records.{bytesAt}
 use Rattle.scene.specs.Labels.{bestItem}
 use Rattle.scene.specs.Contracts.Answers.{itemsAt, bestBy}
 use Rattle.scene.specs.Laws.Found.{One, one-found}
@@ -18,7 +18,7 @@ use Rattle.scene.proofs.labels.best_item.Tie as tie
 abbrev Inv-loop : tie.InvT-loop
 Inv-loop s p at n b₀ q₀ i₀ b q i =
     (i ≤ q)
-    × (bestItem (part (payload s) at n) 0 (itemsAt (payload s) p) (bestBy b₀) ≡ bestItem (part (payload s) at n) i (itemsAt (payload s) q) (bestBy b))
+    × (bestItem (bytesAt (payload s) at n) 0 (itemsAt (payload s) p) (bestBy b₀) ≡ bestItem (bytesAt (payload s) at n) i (itemsAt (payload s) q) (bestBy b))
 
 abbrev μ-loop : tie.MeasureT-loop
 μ-loop s p at n b₀ q₀ i₀ b q i = room s - q
@@ -42,11 +42,11 @@ returns c =
     let a = v .before in
     no-item _ _ (a .loop .q) (a .loop .i) _ (v .find .result) (v .find .ensures) (c .if1 .taken) ∙ sym (a .loop .inv .1)
 
-add-bears : tie.Need-add-bears Inv-loop μ-loop
-add-bears c = omega (arith, ends (c .before))
+add-label-at-equals : tie.Need-add-label-at-equals Inv-loop μ-loop
+add-label-at-equals c = omega (arith, ends (c .before))
 
-bears-requires : tie.Need-bears-requires Inv-loop μ-loop
-bears-requires c κs = (ends (c .before), c .before .before .before .before .before .before .pre)
+label-at-equals-requires : tie.Need-label-at-equals-requires Inv-loop μ-loop
+label-at-equals-requires c κs = (ends (c .before), c .before .before .before .before .before .before .pre)
 
 consider-item-requires : tie.Need-consider-item-requires Inv-loop μ-loop
 consider-item-requires c κs = search needs
@@ -63,7 +63,7 @@ loop-again c =
     let a = v .before in (
       omega (arith, one (c .before .before .before), a .loop .inv .0),
       a .loop .inv .1
-          ∙ next-item _ _ (a .loop .q) (a .loop .i) _ (v .find .result) (one (c .before .before .before)) (c .before .bears .ensures)
+          ∙ next-item _ _ (a .loop .q) (a .loop .i) _ (v .find .result) (one (c .before .before .before)) (c .before .label-at-equals .ensures)
           (⊎-elim (λ w. inl (w .0 .taken, ap bestBy (w .2) ∙ w .1 .ensures)) (λ w. inr (w .0 .left, ap bestBy (w .1))) (c .if2 .came)),
     )
 
@@ -76,8 +76,8 @@ best-item-spec =
     loop-holds
     find-requires
     returns
-    add-bears
-    bears-requires
+    add-label-at-equals
+    label-at-equals-requires
     consider-item-requires
     add-i
     loop-less

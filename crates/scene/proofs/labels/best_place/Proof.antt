@@ -7,7 +7,7 @@ use native.Mathlib.Omega.{arith}
 use lib.ListN.{getD}
 use Rattle.stream.specs.Payload.{payload}
 use Rattle.stream.specs.Contracts.Payload.{room}
-use Rattle.records.specs.Records.{part}
+use Rattle.records.specs.Records.{bytesAt}
 use Rattle.records.specs.Laws.Search.{standing-tells}
 use Rattle.scene.specs.Scene.{none, itemAt}
 use Rattle.scene.specs.Labels.{bestPlace}
@@ -21,7 +21,7 @@ abbrev Inv-loop : tie.InvT-loop
 Inv-loop s p at n b₀ q₀ i₀ b q i =
     (i ≤ q)
     × (itemsAt (payload s) p ≡ itemsAt (payload s) q)
-    × (bestPlace (part (payload s) at n) 0 (placesAt (payload s) p) none ≡ bestPlace (part (payload s) at n) i (placesAt (payload s) q) (bestBy b))
+    × (bestPlace (bytesAt (payload s) at n) 0 (placesAt (payload s) p) none ≡ bestPlace (bytesAt (payload s) at n) i (placesAt (payload s) q) (bestBy b))
 
 abbrev μ-loop : tie.MeasureT-loop
 μ-loop s p at n b₀ q₀ i₀ b q i = room s - q
@@ -45,11 +45,11 @@ returns c =
     let a = v .before in
     (no-place _ _ (a .loop .q) (a .loop .i) _ (v .seek .result) (answer _ (a .loop .q) _ _ _ (v .seek .ensures)) (c .if1 .taken) ∙ sym (a .loop .inv .2), a .loop .inv .1 ∙ ap (map itemAt) (v .seek .ensures .1 .1 .1 6 0 (omega arith) (omega arith)))
 
-add-is-called : tie.Need-add-is-called Inv-loop μ-loop
-add-is-called c = omega (arith, ends (c .before))
+add-name-at-equals : tie.Need-add-name-at-equals Inv-loop μ-loop
+add-name-at-equals c = omega (arith, ends (c .before))
 
-is-called-requires : tie.Need-is-called-requires Inv-loop μ-loop
-is-called-requires c κs = (ends (c .before), c .before .before .before .before .before .before .pre)
+name-at-equals-requires : tie.Need-name-at-equals-requires Inv-loop μ-loop
+name-at-equals-requires c κs = (ends (c .before), c .before .before .before .before .before .before .pre)
 
 consider-place-requires : tie.Need-consider-place-requires Inv-loop μ-loop
 consider-place-requires c κs = search needs
@@ -67,7 +67,7 @@ loop-again c =
       omega (arith, one (c .before .before .before), a .loop .inv .0),
       a .loop .inv .1 ∙ ap (map itemAt) (beyond (one (c .before .before .before)) (v .seek .ensures .1 .1 .1) 6 0 (omega arith) (omega arith)),
       a .loop .inv .2
-          ∙ next-place _ _ (a .loop .q) (a .loop .i) _ (v .seek .result) (one (c .before .before .before)) (c .before .is-called .ensures)
+          ∙ next-place _ _ (a .loop .q) (a .loop .i) _ (v .seek .result) (one (c .before .before .before)) (c .before .name-at-equals .ensures)
           (⊎-elim (λ w. inl (w .0 .taken, ap bestBy (w .2) ∙ w .1 .ensures)) (λ w. inr (w .0 .left, ap bestBy (w .1))) (c .if2 .came)),
     )
 
@@ -80,8 +80,8 @@ best-place-spec =
     loop-holds
     seek-requires
     returns
-    add-is-called
-    is-called-requires
+    add-name-at-equals
+    name-at-equals-requires
     consider-place-requires
     add-i
     loop-less

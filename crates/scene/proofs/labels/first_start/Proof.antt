@@ -6,7 +6,7 @@ use mathlib.Core.Bool.{false, not}
 use Prim.Native.Nat.{ℕ, _+_, _≤_}
 use native.Mathlib.Omega.{arith}
 use Rattle.stream.specs.Contracts.Payload.{room}
-use Rattle.scene.specs.declared.sections.Path.{Path}
+use Rattle.scene.specs.declared.readers.Path.{Path}
 use Rattle.scene.specs.Contracts.Answers.{PathWithin}
 use Rattle.scene.proofs.Starts.{no-path, empty-path, curve-starts, polyline-starts}
 use Rattle.scene.proofs.labels.first_start.Statement.{statement}
@@ -30,8 +30,8 @@ returns-2 c =
     let v = c .before .before .before .before .before .before in
     empty-path _ (c .before .before .before .before .before .before .before .before .args .p) (v .next-path .result) (v .next-path .ensures .0) (c .before .before .before .before .if1 .left) (c .before .before .if2 .taken) (c .if3 .taken)
 
-spot-if-requires : tie.Need-spot-if-requires
-spot-if-requires c κs =
+point-if-requires : tie.Need-point-if-requires
+point-if-requires c κs =
     let k = within (c .before .before .before .before) (c .before .before .if1 .left) in
     λ e. ⊎-elim (λ w. first-fits k (not-true _ (w .0 .taken)) (w .2 .left)) (λ w. k .start (not-false _ (w .left))) (c .if2 .came)
 
@@ -41,9 +41,9 @@ returns-3 c =
     let p = v .before .before .args .p in
     let r = v .next-path .result in
     let e = v .next-path .ensures .0 in
-    c .spot-if .ensures
+    c .point-if .ensures
     ∙ ⊎-elim (λ w. polyline-starts _ p r e (c .before .before .before .if1 .left) (w .0 .taken) (w .2 .left) (within v (c .before .before .before .if1 .left) .first)) (λ w. curve-starts _ p r e (c .before .before .before .if1 .left) (w .left))
     (c .before .if2 .came)
 
 pub first-start-spec : {M : Type 1} → statement M
-first-start-spec = tie.close (tie.spec next-path-requires returns returns-2 spot-if-requires returns-3)
+first-start-spec = tie.close (tie.spec next-path-requires returns returns-2 point-if-requires returns-3)

@@ -6,19 +6,19 @@ use mathlib.Core.List.{List}
 use native.Mathlib.Nat.{le-trans}
 use lib.Dec.{le→leb, lit≤}
 use lib.Ieee.{inFloat}
-use Rattle.similarity.specs.declared.fit.Mark.{Mark}
+use Rattle.similarity.specs.declared.fit.ProjectedControl.{ProjectedControl}
 use Rattle.similarity.specs.Fit.{noSums, added, sumsOf}
 use Rattle.similarity.specs.Contracts.Fours.{foursIn}
-use Rattle.similarity.specs.Laws.Marks.{one-more, sums-more, means-all}
-use Rattle.similarity.specs.Contracts.Marks.{marksIn}
+use Rattle.similarity.specs.Laws.Projected.{one-more, sums-more, means-all}
+use Rattle.similarity.specs.Contracts.Projected.{allProjectedIn}
 use Rattle.similarity.proofs.fit.means_of.Statement.{statement}
 use Rattle.similarity.proofs.fit.means_of.Tie as tie
 
 abbrev Inv-loop : tie.InvT-loop
-Inv-loop a marks n s₀ k₀ s k = (k ≤ n) × (s ≡ sumsOf a (marksIn marks k) noSums)
+Inv-loop a projected n s₀ k₀ s k = (k ≤ n) × (s ≡ sumsOf a (allProjectedIn projected k) noSums)
 
 abbrev μ-loop : tie.MeasureT-loop
-μ-loop a marks n s₀ k₀ s k = n - k
+μ-loop a projected n s₀ k₀ s k = n - k
 
 no-sums-requires : tie.Need-no-sums-requires Inv-loop μ-loop
 no-sums-requires c κs = search needs
@@ -27,11 +27,11 @@ loop-holds : tie.Need-loop-holds Inv-loop μ-loop
 unfolding foursIn sumsOf
 loop-holds c = (omega arith, c .no-sums .ensures)
 
-mark-at-requires : tie.Need-mark-at-requires Inv-loop μ-loop
-mark-at-requires c κs = omega arith
+projected-at-requires : tie.Need-projected-at-requires Inv-loop μ-loop
+projected-at-requires c κs = omega arith
 
-add-mark-requires : tie.Need-add-mark-requires Inv-loop μ-loop
-add-mark-requires c κs = search needs
+add-control-requires : tie.Need-add-control-requires Inv-loop μ-loop
+add-control-requires c κs = search needs
 
 add-k : tie.Need-add-k Inv-loop μ-loop
 add-k c = search needs
@@ -43,7 +43,7 @@ loop-again : tie.Need-loop-again Inv-loop μ-loop
 loop-again c =
     let a = c .before .before .before .before .before .before .args in
     let l = c .before .before .before .loop in
-    (omega arith, one-more (λ (ms : List Mark). sumsOf (a .a) ms noSums) (added (a .a)) (λ ms m. sums-more (a .a) ms m noSums) (a .marks .now) (l .k) (l .inv .1) (c .before .mark-at .ensures) (c .add-mark .ensures))
+    (omega arith, one-more (λ (ms : List ProjectedControl). sumsOf (a .a) ms noSums) (added (a .a)) (λ ms m. sums-more (a .a) ms m noSums) (a .projected .now) (l .k) (l .inv .1) (c .before .projected-at .ensures) (c .add-control .ensures))
 
 int-to-float-divide : tie.Need-int-to-float-divide Inv-loop μ-loop
 unfolding inFloat
@@ -57,7 +57,7 @@ returns c =
     let a = c .before .before .before .before .before .before .args in
     let l = c .before .before .before .loop in
     let n : l .k ≡ a .n = omega (arith, c .before .before .loop-test) in
-    means-all (a .a) (a .marks .now) (a .n) (rw n at (l .inv .1)) (c .divide .ensures)
+    means-all (a .a) (a .projected .now) (a .n) (rw n at (l .inv .1)) (c .divide .ensures)
 
 pub means-of-spec : {M : Type 1} → statement M
 means-of-spec =
@@ -67,8 +67,8 @@ means-of-spec =
     μ-loop
     no-sums-requires
     loop-holds
-    mark-at-requires
-    add-mark-requires
+    projected-at-requires
+    add-control-requires
     add-k
     loop-less
     loop-again

@@ -3,19 +3,19 @@ use Prim.Native.Nat.{_≤_, _-_}
 use native.Mathlib.Omega.{arith}
 use borrow.Author.Needs.{needs}
 use mathlib.Core.List.{List}
-use Rattle.similarity.specs.declared.fit.Mark.{Mark}
+use Rattle.similarity.specs.declared.fit.ProjectedControl.{ProjectedControl}
 use Rattle.similarity.specs.Fit.{noMoments, momented, momentsOf}
 use Rattle.similarity.specs.Contracts.Fours.{foursIn}
-use Rattle.similarity.specs.Laws.Marks.{one-more, moments-more}
-use Rattle.similarity.specs.Contracts.Marks.{marksIn}
+use Rattle.similarity.specs.Laws.Projected.{one-more, moments-more}
+use Rattle.similarity.specs.Contracts.Projected.{allProjectedIn}
 use Rattle.similarity.proofs.fit.moments_of.Statement.{statement}
 use Rattle.similarity.proofs.fit.moments_of.Tie as tie
 
 abbrev Inv-loop : tie.InvT-loop
-Inv-loop a c marks n s₀ k₀ s k = (k ≤ n) × (s ≡ momentsOf a c (marksIn marks k) noMoments)
+Inv-loop a c projected n s₀ k₀ s k = (k ≤ n) × (s ≡ momentsOf a c (allProjectedIn projected k) noMoments)
 
 abbrev μ-loop : tie.MeasureT-loop
-μ-loop a c marks n s₀ k₀ s k = n - k
+μ-loop a c projected n s₀ k₀ s k = n - k
 
 no-moments-requires : tie.Need-no-moments-requires Inv-loop μ-loop
 no-moments-requires c κs = search needs
@@ -24,8 +24,8 @@ loop-holds : tie.Need-loop-holds Inv-loop μ-loop
 unfolding foursIn momentsOf
 loop-holds c = (omega arith, c .no-moments .ensures)
 
-mark-at-requires : tie.Need-mark-at-requires Inv-loop μ-loop
-mark-at-requires c κs = omega arith
+projected-at-requires : tie.Need-projected-at-requires Inv-loop μ-loop
+projected-at-requires c κs = omega arith
 
 add-moment-requires : tie.Need-add-moment-requires Inv-loop μ-loop
 add-moment-requires c κs = search needs
@@ -40,7 +40,7 @@ loop-again : tie.Need-loop-again Inv-loop μ-loop
 loop-again c =
     let a = c .before .before .before .before .before .before .args in
     let l = c .before .before .before .loop in
-    (omega arith, one-more (λ (ms : List Mark). momentsOf (a .a) (a .c) ms noMoments) (momented (a .a) (a .c)) (λ ms m. moments-more (a .a) (a .c) ms m noMoments) (a .marks .now) (l .k) (l .inv .1) (c .before .mark-at .ensures) (c .add-moment .ensures))
+    (omega arith, one-more (λ (ms : List ProjectedControl). momentsOf (a .a) (a .c) ms noMoments) (momented (a .a) (a .c)) (λ ms m. moments-more (a .a) (a .c) ms m noMoments) (a .projected .now) (l .k) (l .inv .1) (c .before .projected-at .ensures) (c .add-moment .ensures))
 
 returns : tie.Need-returns Inv-loop μ-loop
 returns c =
@@ -56,7 +56,7 @@ moments-of-spec =
     μ-loop
     no-moments-requires
     loop-holds
-    mark-at-requires
+    projected-at-requires
     add-moment-requires
     add-k
     loop-less

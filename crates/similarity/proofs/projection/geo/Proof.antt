@@ -3,8 +3,8 @@ use Rattle.similarity.specs.Projection.{geoBy}
 use Rattle.similarity.proofs.projection.geo.Statement.{statement}
 use Rattle.similarity.proofs.projection.geo.Tie as tie
 
-project-requires : tie.Need-project-requires
-project-requires c κs = search needs
+to-lonlat-requires : tie.Need-to-lonlat-requires
+to-lonlat-requires c κs = search needs
 
 round9-requires : tie.Need-round9-requires
 round9-requires c κs = search needs
@@ -17,4 +17,4 @@ unfolding geoBy
 returns c = cc
 
 pub geo-spec : {M : Type 1} → statement M
-geo-spec = tie.close (tie.spec project-requires round9-requires round9-requires-2 returns)
+geo-spec = tie.close (tie.spec to-lonlat-requires round9-requires round9-requires-2 returns)

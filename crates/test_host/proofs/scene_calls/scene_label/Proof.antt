@@ -9,22 +9,22 @@ use Rattle.test_host.proofs.scene_calls.scene_label.Tie as tie
 
 -- the name lies in the payload
 within : (c : tie.Else2) → c .before .before .before .before .args .at + c .before .before .before .before .args .n ≤ room (c .before .before .before .before .args .s .now)
-within c = omega (arith, c .if2 .left, c .before .if1 .left, c .before .before .left .ensures, rest-length (c .before .before .before .before .args .s .now) 0)
+within c = omega (arith, c .if2 .left, c .before .if1 .left, c .before .before .remaining .ensures, rest-length (c .before .before .before .before .args .s .now) 0)
 
-left-requires : tie.Need-left-requires
-left-requires c κs = search needs
+remaining-requires : tie.Need-remaining-requires
+remaining-requires c κs = search needs
 
 none-requires : tie.Need-none-requires
 none-requires c κs = search needs
 
 returns : tie.Need-returns
-returns c = let a = c .before .before .before .before in no-label (a .args .s .now) (a .args .at) (a .args .n) (c .none .ensures) (omega (arith, c .before .if1 .taken, c .before .before .left .ensures, rest-length (a .args .s .now) 0))
+returns c = let a = c .before .before .before .before in no-label (a .args .s .now) (a .args .at) (a .args .n) (c .none .ensures) (omega (arith, c .before .if1 .taken, c .before .before .remaining .ensures, rest-length (a .args .s .now) 0))
 
 none-requires-2 : tie.Need-none-requires-2
 none-requires-2 c κs = search needs
 
 returns-2 : tie.Need-returns-2
-returns-2 c = let a = c .before .before .before .before .before in no-label (a .args .s .now) (a .args .at) (a .args .n) (c .none2 .ensures) (omega (arith, c .before .if2 .taken, c .before .before .if1 .left, c .before .before .before .left .ensures, rest-length (a .args .s .now) 0))
+returns-2 c = let a = c .before .before .before .before .before in no-label (a .args .s .now) (a .args .at) (a .args .n) (c .none2 .ensures) (omega (arith, c .before .if2 .taken, c .before .before .if1 .left, c .before .before .before .remaining .ensures, rest-length (a .args .s .now) 0))
 
 point-of-label-requires : tie.Need-point-of-label-requires
 point-of-label-requires c κs = within c
@@ -36,7 +36,7 @@ pub scene-label-spec : {M : Type 1} → statement M
 scene-label-spec =
     tie.close
     (tie.spec
-    left-requires
+    remaining-requires
     none-requires
     returns
     none-requires-2

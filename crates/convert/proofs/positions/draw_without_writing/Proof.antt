@@ -1,0 +1,41 @@
+use native.Mathlib.Omega.{arith}
+use borrow.Author.Needs.{needs}
+use Rattle.densify.specs.Densify.{densifyPolylineOf}
+use Rattle.densify.specs.Contracts.Written.{pointsIn}
+use Rattle.densify.specs.Laws.Replay.{densify-replays}
+use Rattle.densify.specs.Laws.Sizes.{left-falls}
+use Rattle.convert.specs.Convert.{missing, drawWithoutWriting}
+use Rattle.convert.specs.Laws.Applying.{played-drawn}
+use Rattle.convert.specs.Laws.Events.{state-is}
+use Rattle.convert.proofs.positions.draw_without_writing.Statement.{statement}
+use Rattle.convert.proofs.positions.draw_without_writing.Tie as tie
+
+spend-polyline-requires : tie.Need-spend-polyline-requires
+spend-polyline-requires c κs = search needs
+
+with-budget-requires : tie.Need-with-budget-requires
+with-budget-requires c κs = search needs
+
+warn-requires : tie.Need-warn-requires
+warn-requires c κs = search needs
+
+same-length : tie.Need-same-length
+same-length c = search needs
+
+returns : tie.Need-returns
+unfolding drawWithoutWriting
+returns c w q f h =
+    let s = c .before .before .before .before .before .before .before .before .args in
+    let ps = pointsIn (s .work .now) (s .from) (s .to) in
+    let m = densifyPolylineOf (s .cx .step) (s .cx .projection .registration .scale) ps (s .st .budget) in
+    let drawn = state-is (s .st) (c .before .before .before .with-budget .ensures) in
+    let spent = c .before .before .before .before .before .spend-polyline .ensures in
+    let left = left-falls (densify-replays (s .cx .step) (s .cx .projection .registration .scale) ps (s .st .budget)) in
+    played-drawn m (λ b. missing (s .item) b)
+    (rw (drawn, spent) at (c .before .before .warn .ensures w q f
+    (rw (drawn, spent) (record { positions = h .positions; features = h .features; warnings = h .warnings; left = omega arith }))))
+
+pub draw-without-writing-spec : {M : Type 1} → statement M
+draw-without-writing-spec =
+    tie.close
+    (tie.spec spend-polyline-requires with-budget-requires warn-requires same-length returns)

@@ -1,0 +1,83 @@
+use mathlib.Core.Path.{_≡_}
+use mathlib.Core.Bool.{cond}
+use mathlib.Core.List.{List}
+use Prim.Native.Nat.{ℕ}
+use Rattle.stream.specs.Conditions.{firstOf}
+use Rattle.records.specs.Contracts.Refusals.{refusalOf}
+use mathlib.Core.Logic.{⊎-elim}
+use native.Mathlib.Omega.{arith}
+use borrow.Author.Needs.{needs}
+use borrow.Author.Tests.{not-true, not-false}
+use Rattle.records.specs.Laws.Refusals.{is-short, is-laid-out}
+use Rattle.stream.specs.Payload.{payload}
+use Rattle.scene.specs.Scene.{sceneOf}
+use Rattle.register.specs.Laws.Kept.{kept-few}
+use Rattle.geopic.specs.Geopic.{Buffers, early}
+use Rattle.geopic.specs.Laws.Conditions.{early-none}
+use Rattle.geopic.specs.Laws.Calls.{controls-are, begun, drawn}
+use Rattle.geopic.proofs.write_output.Statement.{statement}
+use Rattle.geopic.proofs.write_output.Tie as tie
+
+abbrev lent : tie.Start → Buffers
+lent a = record { work = a .args .work .now; positions = a .args .positions .now; features = a .args .features .now; warnings = a .args .warnings .now }
+
+-- none of 1 to 6
+read : (s : List ℕ) → firstOf (early s) ≡ 0 → refusalOf s ≡ 0
+read s h = early-none s h .0
+
+-- 18 if a warning lacked room
+short : (j : tie.Joined1) → j .if1 .number ≡ cond (j .before .before .before .before .write-warnings .result .ok) 0 18
+short j =
+    let ok = j .before .before .before .before .write-warnings .result .ok in
+    ⊎-elim (λ w. rw (not-true ok (w .0 .taken)) (w .1)) (λ w. rw (not-false ok (w .0 .left)) (w .1)) (j .if1 .came)
+
+write-warnings-requires : tie.Need-write-warnings-requires
+write-warnings-requires c κs =
+    let a = c .before .before .before .before .before .before .before in
+    let s = a .args .s .now in
+    let h = read s (a .pre .none) in
+    let n = controls-are s (a .pre .is) in
+    (omega (arith, is-short s h), is-laid-out s h, a .pre .surveyed, n, omega (arith, n, kept-few (sceneOf (payload s)) (a .args .kept .now) (a .pre .room-kept) (a .pre .kept-so)), a .pre .room-kept, a .pre .kept-so)
+
+projection-of-requires : tie.Need-projection-of-requires
+projection-of-requires c κs = search needs
+
+flatten-requires : tie.Need-flatten-requires
+flatten-requires c κs = search needs
+
+convert-requires : tie.Need-convert-requires
+convert-requires c κs =
+    let a = c .before .before .before .before .before .before .before .before .before .before .before .before .before .before .before .before .before .before in
+    let s = a .args .s .now in
+    (omega (arith, is-short s (read s (a .pre .none))), begun s (lent a) (c .before .before .before .before .before .before .before .before .before .before .write-warnings .ensures) (short (c .before .before .before .before .before .before)) .fits, a .pre .surveyed .labels)
+
+same-length : tie.Need-same-length
+same-length c = search needs
+
+same-length-2 : tie.Need-same-length-2
+same-length-2 c = search needs
+
+same-length-3 : tie.Need-same-length-3
+same-length-3 c = search needs
+
+same-length-4 : tie.Need-same-length-4
+same-length-4 c = search needs
+
+returns : tie.Need-returns
+returns c =
+    let a = c .before .before .before .before .before .before .before .before .before .before .before .before .before .before .before .before .before .before .before .before .before .before .before .before .before .before .before in
+    drawn (a .args .s .now) (lent a) (c .before .before .before .before .before .before .before .before .before .before .before .before .before .before .before .before .before .before .before .write-warnings .ensures) (short (c .before .before .before .before .before .before .before .before .before .before .before .before .before .before .before)) (a .pre .is) (c .before .before .before .before .before .before .before .before .before .before .before .before .before .before .projection-of .ensures) (c .before .before .before .before .before .before .before .before .before .before .before .before .before .flatten .ensures) (c .before .before .before .before .before .before .before .before .convert .ensures)
+
+pub write-output-spec : {M : Type 1} → statement M
+write-output-spec =
+    tie.close
+    (tie.spec
+    write-warnings-requires
+    projection-of-requires
+    flatten-requires
+    convert-requires
+    same-length
+    same-length-2
+    same-length-3
+    same-length-4
+    returns)

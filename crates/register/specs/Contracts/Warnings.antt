@@ -1,0 +1,72 @@
+-- Warnings as the code writes them into a lent slice, two numbers each, up to the first that lacks room, and of which names.
+use Prim.Native.Nat.{ℕ, _+_, _≤_, _<_}
+use mathlib.Core.Path.{_≡_}
+use mathlib.Core.Bool.{Bool, true, false, _&&_, _||_, cond}
+use mathlib.Core.List.{List, [], _∷_}
+use lib.ListN.{length, take, drop, getD, set}
+use lib.Dec.{leb, eqb}
+use lib.Ieee.{Float}
+use Rattle.stream.specs.Payload.{payload}
+use Rattle.stream.specs.Contracts.Payload.{room}
+use Rattle.records.specs.Records.{bytesAt}
+use Rattle.scene.specs.Scene.{Maybe, none, some, NamedFeature, sceneOf}
+use Rattle.scene.specs.Labels.{sameBytes}
+use Rattle.register.specs.declared.warnings.WarningCursor.{WarningCursor}
+use Rattle.register.specs.Register.{Warning, isSome, resolved, mentioned, variableEvents}
+use Rattle.register.specs.Contracts.Gathered.{numbersIn}
+
+-- the slice, and what was said of it
+pub record WarningSlice : Type 0 where
+  pub out : List ℕ
+  pub cursor : WarningCursor
+
+abbrev pub pickSlice : Bool → WarningSlice → WarningSlice → WarningSlice
+pickSlice true a b = a
+pickSlice false a b = b
+
+unfoldable pub pushed : Warning → WarningSlice → WarningSlice
+pushed w t =
+    let n = t .cursor .used in
+    pickSlice (t .cursor .ok && leb (n + 2) (length (t .out)))
+    (record { out = set (set (t .out) n (w .kind)) (n + 1) (w .index); cursor = record { ok = true; used = n + 2 } })
+    (record { out = t .out; cursor = record { ok = false; used = n } })
+
+-- one after the other
+unfoldable pub allPushed : List Warning → WarningSlice → WarningSlice
+allPushed [] t = t
+allPushed (w ∷ ws) t = allPushed ws (pushed w t)
+
+-- ---- numbers of names that are control points
+-- the first of these is j
+unfoldable pub firstIs : ℕ → List ℕ → Bool
+firstIs j [] = false
+firstIs j (k ∷ ks) = eqb k j
+
+-- ---- names, by where their lengths stand
+-- one of these is x
+unfoldable pub anyNameIs : List ℕ → List ℕ → List ℕ → Bool
+anyNameIs l [] x = false
+anyNameIs l (p ∷ ps) x = sameBytes (bytesAt l (p + 1) (getD l p 0)) x || anyNameIs l ps x
+
+-- the first h of them lie within the payload
+pub record NamesFit (s heads : List ℕ) (h : ℕ) : Type 0 where
+  pub few : h ≤ length heads
+  pub within : (k : ℕ) → k < h → getD heads k 0 + 1 + getD (payload s) (getD heads k 0) 0 ≤ room s
+
+-- they are those of fs that resolve
+pub record ResolvedNames (s heads : List ℕ) (h : ℕ) (fs : List NamedFeature) : Type 0 where
+  pub stands : NamesFit s heads h
+  pub names : (x : List ℕ) → anyNameIs (payload s) (take h heads) x
+      ≡ (isSome (resolved (sceneOf (payload s)) x) && mentioned x fs)
+
+-- what is known behind the host features: their heads, and which of n kept numbers are left for the variables
+pub record AfterFeatures (s kept : List ℕ) (n : ℕ) (heads : List ℕ) (h features : ℕ) : Type 0 where
+  pub heading : ResolvedNames s heads h (sceneOf (payload s) .features)
+  pub left : drop h (take n kept)
+      ≡ numbersIn features (variableEvents (sceneOf (payload s)) 0 (sceneOf (payload s) .variables))
+  pub short : features ≤ room s
+
+-- the warning of a mention that is no control point, where b says that a host feature which resolves has its name
+unfoldable pub kindBy : Maybe Float → Bool → ℕ
+kindBy none b = 2
+kindBy (some lat) b = cond b 3 2

@@ -1,0 +1,105 @@
+// `rescale` and the options.
+ghost use mathlib.Core.Path.{_≡_};
+ghost use Prim.Native.Nat.{_≤_};
+ghost use Rattle.stream.specs.Payload.{payload};
+ghost use Rattle.records.specs.Contracts.Hits.{recordsAt};
+ghost use Rattle.scene.specs.Scene.{sceneOf, floatValueAt, first};
+ghost use Rattle.scene.specs.Contracts.Answers.{maybeFloat, maybePoint, frameBy};
+use crate::fields::OptionalPoint;
+use crate::fields::OptionalFloat;
+use crate::fields::float_at;
+use crate::fields::point_if;
+use crate::fields::float_if;
+use records::find;
+use stream::byte;
+
+// Where `some` is false, `frame` is free.
+#[repr(C)]
+pub struct FrameOption {
+    pub some: bool,
+    // 0 enu, 1 Mercator
+    pub frame: u8,
+}
+
+// An option that is one float.
+fn float_option(s: &[u8], option: u8) -> OptionalFloat
+    requires { ⌜ 3 ≤ option ⌝ }
+    ensures { λ r. ⌜ maybeFloat r ≡ first (λ b. floatValueAt b 2) (recordsAt (payload (now (s .entry))) 0 2 option) ⌝ }
+{
+    let h = find(s, 0, 2, option);
+    if !h.some {
+        return OptionalFloat {
+            some: false,
+            value: 0.0,
+        };
+    }
+    float_if(s, true, h.at + 2)
+}
+
+pub fn scale(s: &[u8]) -> OptionalFloat
+    ensures { λ r. ⌜ maybeFloat r ≡ sceneOf (payload (now (s .entry))) .scale ⌝ }
+{
+    float_option(s, 3)
+}
+
+pub fn bearing(s: &[u8]) -> OptionalFloat
+    ensures { λ r. ⌜ maybeFloat r ≡ sceneOf (payload (now (s .entry))) .bearing ⌝ }
+{
+    float_option(s, 4)
+}
+
+pub fn view_scale(s: &[u8]) -> OptionalFloat
+    ensures { λ r. ⌜ maybeFloat r ≡ sceneOf (payload (now (s .entry))) .viewScale ⌝ }
+{
+    float_option(s, 6)
+}
+
+// 0.001 where the option is absent.
+pub fn flatten(s: &[u8]) -> f64
+    ensures { λ r. ⌜ r ≡ sceneOf (payload (now (s .entry))) .flatten ⌝ }
+{
+    let v = float_option(s, 5);
+    if v.some {
+        return v.value;
+    }
+    0.001
+}
+
+pub fn frame(s: &[u8]) -> FrameOption
+    ensures { λ r. ⌜ frameBy r ≡ sceneOf (payload (now (s .entry))) .frame ⌝ }
+{
+    let h = find(s, 0, 2, 1);
+    if !h.some {
+        return FrameOption {
+            some: false,
+            frame: 0,
+        };
+    }
+    FrameOption {
+        some: true,
+        frame: byte(s, 0, h.at + 2),
+    }
+}
+
+pub fn anchor(s: &[u8]) -> OptionalPoint
+    ensures { λ r. ⌜ maybePoint r ≡ sceneOf (payload (now (s .entry))) .anchor ⌝ }
+{
+    let h = find(s, 0, 2, 2);
+    if !h.some {
+        return OptionalPoint {
+            some: false,
+            x: 0.0,
+            y: 0.0,
+        };
+    }
+    point_if(s, true, h.at + 2)
+}
+
+pub fn rescale(s: &[u8]) -> f64
+    ensures { λ r. ⌜ r ≡ sceneOf (payload (now (s .entry))) .rescale ⌝ }
+{
+    if s.len() < 512 {
+        return 0.0;
+    }
+    float_at(s, 1)
+}
