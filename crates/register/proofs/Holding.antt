@@ -25,10 +25,10 @@ both false b (inl h) = cc
 both false b (inr h) = h .1
 
 -- ---- one more in a list
-placed-append : (cs : List Control) (c : Control) → allWithinLimits (cs ++ c ∷ []) ≡ (allWithinLimits cs && withinLimits (c .lon) (c .lat))
+within-append : (cs : List Control) (c : Control) → allWithinLimits (cs ++ c ∷ []) ≡ (allWithinLimits cs && withinLimits (c .lon) (c .lat))
 unfolding allWithinLimits
-placed-append [] c = and-true (withinLimits (c .lon) (c .lat))
-placed-append (d ∷ cs) c = rw (placed-append cs c) (sym (and-assoc (withinLimits (d .lon) (d .lat)) (allWithinLimits cs) (withinLimits (c .lon) (c .lat))))
+within-append [] c = and-true (withinLimits (c .lon) (c .lat))
+within-append (d ∷ cs) c = rw (within-append cs c) (sym (and-assoc (withinLimits (d .lon) (d .lat)) (allWithinLimits cs) (withinLimits (c .lon) (c .lat))))
 
 length-one : {A : Type 0} (xs : List A) (x : A) → length (xs ++ x ∷ []) ≡ length xs + 1
 length-one xs x = length-append xs (x ∷ [])
@@ -50,8 +50,8 @@ counts n = by (ltb 64 n) refl
 -- ---- one more is put
 module _ {b : Bool} {cs : List Control} {js : List ℕ} {g : Tally} {flat : List Float} {kept : List ℕ} (h : Holds b cs js g flat kept) (c : Control) (j : ℕ)
     {ok : Bool} (e : ok ≡ (g .within && withinLimits (c .lon) (c .lat))) where
-  placed-now : ok ≡ allWithinLimits (cs ++ c ∷ [])
-  placed-now = e ∙ rw (h .within) (sym (placed-append cs c))
+  within-now : ok ≡ allWithinLimits (cs ++ c ∷ [])
+  within-now = e ∙ rw (h .within) (sym (within-append cs c))
 
   one-more : (length (cs ++ c ∷ []) ≡ length cs + 1) × (length (js ++ j ∷ []) ≡ length (cs ++ c ∷ []))
   one-more =
@@ -64,7 +64,7 @@ module _ {b : Bool} {cs : List Control} {js : List ℕ} {g : Tally} {flat : List
   put-full k =
       record {
         count = sym (many (length (cs ++ c ∷ [])) too-many);
-        within = placed-now;
+        within = within-now;
         controls = λ t d. absurd (omega (arith, too-many));
         numbers = λ t d. absurd (omega (arith, too-many));
         as-many = one-more .1;
@@ -83,7 +83,7 @@ module _ {b : Bool} {cs : List Control} {js : List ℕ} {g : Tally} {flat : List
   put-more k =
       record {
         count = rw next (sym (few (g .n + 1) (omega arith)));
-        within = placed-now;
+        within = within-now;
         controls = λ t d. rw (next, add-one (g .n)) (four-more flat (g .n) (c .x) (c .y) (c .lon) (c .lat) (omega (arith, h .room-for)) controlBy ∙ rw (is, h .controls t (omega (arith, is))) refl);
         numbers = λ t d. rw (next, add-one (g .n)) (take-suc-set kept (g .n) j (omega (arith, h .kept-room)) ∙ rw (is, h .numbers t (omega (arith, is))) refl);
         as-many = one-more .1;
@@ -108,7 +108,7 @@ holds-as cs c d f a o h =
     let e : length (cs ++ c ∷ []) ≡ length (cs ++ d ∷ []) = length-one cs c ∙ sym (length-one cs d) in
     record {
       count = h .count ∙ ap upTo65 e;
-      within = h .within ∙ placed-append cs c ∙ rw (a, o) (sym (placed-append cs d));
+      within = h .within ∙ within-append cs c ∙ rw (a, o) (sym (within-append cs d));
       controls = λ t k. absurd (false≢true (sym f ∙ t));
       numbers = λ t k. absurd (false≢true (sym f ∙ t));
       as-many = h .as-many ∙ e;

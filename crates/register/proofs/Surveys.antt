@@ -103,7 +103,7 @@ module _ {l : List ℕ} {n q : ℕ} (d : Numbering l n q) (f : Feature) (e : fea
 
 -- ---- the walk over the variables: so much is known at q
 pub record Surveying (l : List ℕ) (geo : Geo) (n m q : ℕ) : Type 0 where
-  pub cursor : Each (Ahead (variablesAt l 0) (variablesAt l q)) geo
+  pub agrees : Each (Ahead (variablesAt l 0) (variablesAt l q)) geo
   pub names : n + lonsIn (variablesAt l q) ≡ length (featuresAt l 0) + lonsIn (variablesAt l 0)
   pub lons : m + lonsIn (variablesAt l q) ≡ lonsIn (variablesAt l 0)
   pub fewer : m ≤ n
@@ -111,18 +111,18 @@ pub record Surveying (l : List ℕ) (geo : Geo) (n m q : ℕ) : Type 0 where
   pub fits : q ≤ length l
   pub labels : LabelsFrom l q
 
-abbrev nothing-said : OptionalFloat
-nothing-said = record { some = false; value = f0 }
+abbrev absent : OptionalFloat
+absent = record { some = false; value = f0 }
 
-abbrev unsaid : Geo
-unsaid = record { frame = nothing-said; px = nothing-said; scale = nothing-said; bearing = nothing-said; lon = nothing-said; lat = nothing-said }
+abbrev none-set : Geo
+none-set = record { frame = absent; px = absent; scale = absent; bearing = absent; lon = absent; lat = absent }
 
-pub surveying : (l : List ℕ) {n q : ℕ} → Numbered l n q → Surveying l unsaid n 0 q
+pub surveying : (l : List ℕ) {n q : ℕ} → Numbered l n q → Surveying l none-set n 0 q
 surveying l {q = q} v =
     let all = v .behind .all in
     let from : (name : List ℕ) → variableOf name (variablesAt l 0) ≡ variableOf name (variablesAt l q) = λ name. ap (variableOf name) all in
     record {
-      said = record { frame = from _; px = from _; scale = from _; bearing = from _; lon = from _; lat = from _ };
+      agrees = record { frame = from _; px = from _; scale = from _; bearing = from _; lon = from _; lat = from _ };
       names = omega (arith, v .count, ap lonsIn all);
       lons = omega (arith, ap lonsIn all);
       fewer = omega arith;
@@ -138,8 +138,8 @@ module _ {l : List ℕ} {geo : Geo} {n m q : ℕ} (d : Surveying l geo n m q) (v
   none-left : not (v .some) ≡ true → variablesAt l q ≡ []
   none-left s = rw (e, not-true (v .some) s) refl
 
-  pub all-said : not (v .some) ≡ true → Agrees (variablesAt l 0) geo
-  all-said s = each-last (variablesAt l 0) (rw (none-left s) at (d .cursor))
+  pub all-agree : not (v .some) ≡ true → Agrees (variablesAt l 0) geo
+  all-agree s = each-last (variablesAt l 0) (rw (none-left s) at (d .agrees))
 
   pub surveyed : {x : Declared} {vars : ℕ} → Declares (sceneOf l) x → VariablesFrom l vars → not (v .some) ≡ true → Surveyed l (record { declared = x; names = n; lons = m; vars = vars; labels = v .next })
   unfolding lonsIn
@@ -158,17 +158,17 @@ module _ {l : List ℕ} {geo : Geo} {n m q : ℕ} (d : Surveying l geo n m q) (v
     here : variablesAt l q ≡ record { name = bytesAt l (v .at) (v .len); value = v .value } ∷ variablesAt l (v .next)
     here = rw (e, not-false (v .some) s) refl
 
-    said-on : Each (Ahead (variablesAt l 0) (variablesAt l (v .next))) geo′
-    said-on = rw g (each-kept (variablesAt l 0) (variablesAt l (v .next)) (bytesAt l (v .at) (v .len)) (v .value) (rw here at (d .cursor)))
+    agrees-on : Each (Ahead (variablesAt l 0) (variablesAt l (v .next))) geo′
+    agrees-on = rw g (each-kept (variablesAt l 0) (variablesAt l (v .next)) (bytesAt l (v .at) (v .len)) (v .value) (rw here at (d .agrees)))
 
     pub lon-surveyed : t ≡ true → Surveying l geo′ (n + 1) (m + 1) (v .next)
     unfolding lonsIn
     lon-surveyed h =
         let z : lonsIn (variablesAt l q) ≡ suc (lonsIn (variablesAt l (v .next))) = rw (here, ← b, h) refl in
-        record { cursor = said-on; names = omega (arith, d .names); lons = omega (arith, d .lons); fewer = omega (arith, d .fewer); short = omega (arith, d .short); fits = end; labels = labels-on }
+        record { agrees = agrees-on; names = omega (arith, d .names); lons = omega (arith, d .lons); fewer = omega (arith, d .fewer); short = omega (arith, d .short); fits = end; labels = labels-on }
 
     pub other-surveyed : t ≡ false → Surveying l geo′ n m (v .next)
     unfolding lonsIn
     other-surveyed h =
         let z : lonsIn (variablesAt l q) ≡ lonsIn (variablesAt l (v .next)) = rw (here, ← b, h) refl in
-        record { cursor = said-on; names = omega (arith, d .names); lons = omega (arith, d .lons); fewer = d .fewer; short = omega (arith, d .short); fits = end; labels = labels-on }
+        record { agrees = agrees-on; names = omega (arith, d .names); lons = omega (arith, d .lons); fewer = d .fewer; short = omega (arith, d .short); fits = end; labels = labels-on }

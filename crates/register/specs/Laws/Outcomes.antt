@@ -116,13 +116,13 @@ pub not-mercator : (sc : Scene) → isMercator (sc .frame) (var sc geoFrame) ≡
 unfolding outcomeOf ofRegistration firstOf
 not-mercator sc h = rw h
 
-pub unplaced : (sc : Scene) → isMercator (sc .frame) (var sc geoFrame) ≡ true → allWithinLimits (controlsOf sc) ≡ false → refusedBy 8 ≡ outcomeOf sc
+pub beyond-limits : (sc : Scene) → isMercator (sc .frame) (var sc geoFrame) ≡ true → allWithinLimits (controlsOf sc) ≡ false → refusedBy 8 ≡ outcomeOf sc
 unfolding outcomeOf ofRegistration firstOf
-unplaced sc m h = rw (m, h)
+beyond-limits sc m h = rw (m, h)
 
-pub unplaced-anchor : (sc : Scene) → isMercator (sc .frame) (var sc geoFrame) ≡ true → allWithinLimits (controlsOf sc) ≡ true → anchorWithinLimits (anchorOf sc) ≡ false → refusedBy 8 ≡ outcomeOf sc
+pub beyond-limits-anchor : (sc : Scene) → isMercator (sc .frame) (var sc geoFrame) ≡ true → allWithinLimits (controlsOf sc) ≡ true → anchorWithinLimits (anchorOf sc) ≡ false → refusedBy 8 ≡ outcomeOf sc
 unfolding outcomeOf ofRegistration firstOf
-unplaced-anchor sc m all h = rw (m, all, h)
+beyond-limits-anchor sc m all h = rw (m, all, h)
 
 -- past 8
 pub record Passed (sc : Scene) : Type 0 where

@@ -301,11 +301,11 @@ passes sc z =
     let r = registrationBy sc (anchorOf sc) cs in
     let after8 = first-none (ofRegistration sc) (registration-numbered sc) z .1 in
     let after11 = after8 .1 .1 .1 in
-    let within = is-true (allWithinLimits cs && anchorWithinLimits (anchorOf sc)) (after8 .0) in
+    let in-limits = is-true (allWithinLimits cs && anchorWithinLimits (anchorOf sc)) (after8 .0) in
     let fine = is-true (finite (r .scale) && le (r .scale) maxScale) (after11 .1 .1 .1 .0) in
     record {
-      all = and-left _ _ withinLimits;
-      anchor = and-right (allWithinLimits cs) _ withinLimits;
+      all = and-left _ _ in-limits;
+      anchor = and-right (allWithinLimits cs) _ in-limits;
       most = after8 .1 .0;
       fit = after11 .0;
       above = after11 .1 .0;

@@ -6,7 +6,7 @@ use Rattle.register.proofs.controls.gather_batch.Statement.{statement}
 use Rattle.register.proofs.controls.gather_batch.Tie as tie
 use Rattle.register.proofs.controls.gather_batch.Reads as reads
 use Rattle.register.proofs.controls.gather_batch.Lts as lts
-use Rattle.names.proofs.note_labels.Reads as note-labels-reads
+use Rattle.names.proofs.match_labels.Reads as match-labels-reads
 use Rattle.register.proofs.controls.features_before.Reads as features-before-reads
 use Rattle.register.proofs.controls.clear_known.Reads as forget-reads
 use Rattle.register.proofs.controls.more_of.Reads as more-of-reads

@@ -11,7 +11,7 @@ use Rattle.register.specs.declared.declared.Declared.{Declared}
 use Rattle.register.specs.Register.{var, geoFrame, isMercator, allWithinLimits, controlsOf}
 use Rattle.register.specs.Contracts.Survey.{Declares}
 use Rattle.register.specs.Contracts.Gathered.{Gathers}
-use Rattle.register.specs.Laws.Outcomes.{Passed, over, counted, all-kept, none-kept, one-kept, keeps, anchor-in, anchor-out, refused, not-mercator, unplaced, unplaced-anchor, too-many, by-fit, by-one, no-anchor, by-anchor}
+use Rattle.register.specs.Laws.Outcomes.{Passed, over, counted, all-kept, none-kept, one-kept, keeps, anchor-in, anchor-out, refused, not-mercator, beyond-limits, beyond-limits-anchor, too-many, by-fit, by-one, no-anchor, by-anchor}
 use Rattle.register.proofs.outcome.register.Statement.{statement}
 use Rattle.register.proofs.outcome.register.Tie as tie
 
@@ -74,7 +74,7 @@ same-length c = search needs
 returns-2 : tie.Need-returns-2
 returns-2 c =
     let g = c .before .before .before .before .before .before .before in
-    refused 8 (c .refuse2 .ensures) (omega arith) (unplaced (sc g) (mercator g) (sym (holds g .within) ∙ not-true _ (c .before .if2 .taken)))
+    refused 8 (c .refuse2 .ensures) (omega arith) (beyond-limits (sc g) (mercator g) (sym (holds g .within) ∙ not-true _ (c .before .if2 .taken)))
 
 is-within-limits-requires : tie.Need-is-within-limits-requires
 is-within-limits-requires c κs = search needs
@@ -91,7 +91,7 @@ returns-3 c =
     let p = t .before .before in
     let g = gathered p in
     refused 8 (c .refuse3 .ensures) (omega arith)
-    (unplaced-anchor (sc g) (mercator g) (all p) (anchor-out (d g .anchor) _ (declares g .anchor) (t .before .if3 .taken) (sym (t .is-within-limits .ensures) ∙ not-true _ (c .before .if4 .taken))))
+    (beyond-limits-anchor (sc g) (mercator g) (all p) (anchor-out (d g .anchor) _ (declares g .anchor) (t .before .if3 .taken) (sym (t .is-within-limits .ensures) ∙ not-true _ (c .before .if4 .taken))))
 
 refuse-requires-4 : tie.Need-refuse-requires-4
 refuse-requires-4 c κs = search needs

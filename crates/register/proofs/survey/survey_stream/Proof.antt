@@ -5,7 +5,7 @@ use native.Mathlib.Omega.{arith}
 use Rattle.stream.specs.Payload.{payload}
 use Rattle.stream.specs.Contracts.Payload.{room}
 use Rattle.stream.specs.Laws.Payload.{payload-length}
-use Rattle.register.proofs.Surveys.{Surveying, surveying, all-said, surveyed, lon-surveyed, other-surveyed}
+use Rattle.register.proofs.Surveys.{Surveying, surveying, all-agree, surveyed, lon-surveyed, other-surveyed}
 use Rattle.register.proofs.survey.survey_stream.Statement.{statement}
 use Rattle.register.proofs.survey.survey_stream.Tie as tie
 
@@ -27,7 +27,7 @@ next-variable-requires c κs = search needs
 read-declared-requires : tie.Need-read-declared-requires Inv-loop μ-loop
 read-declared-requires c κs =
     let v = c .before .before .next-variable in
-    all-said (c .before .before .before .loop .inv) (v .result) (v .ensures .0) (v .ensures .1 .1 .1) (c .if1 .taken)
+    all-agree (c .before .before .before .loop .inv) (v .result) (v .ensures .0) (v .ensures .1 .1 .1) (c .if1 .taken)
 
 returns : tie.Need-returns Inv-loop μ-loop
 returns c =
