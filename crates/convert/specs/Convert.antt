@@ -1,5 +1,5 @@
 -- The source's convert.rs, function by function: what each item of a scene draws, as one list of events in the source's order, with no regard to space.
-use Prim.Native.Nat.{ℕ, zero, suc, _+_}
+use Prim.Native.Nat.{ℕ, suc, _+_}
 use mathlib.Core.Bool.{Bool, true, false, _&&_, _||_, cond}
 use mathlib.Core.List.{List, [], _∷_, _++_, map}
 use lib.ListN.{length}

@@ -6,7 +6,6 @@ ghost use mathlib.Core.List.{List};
 ghost use Prim.Native.Nat.{ℕ};
 ghost use lib.ListN.{length};
 ghost use Rattle.convert.specs.Convert.{oneEvent, warned};
-ghost use Rattle.convert.specs.Space.{outOfRoom};
 ghost use Rattle.convert.specs.Contracts.Space.{outputBy, Fits, Applied};
 use budget::Budget;
 use similarity::Projection;

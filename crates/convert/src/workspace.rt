@@ -6,7 +6,7 @@ ghost use Prim.Native.Nat.{_+_, _*_, _≤_};
 ghost use lib.ListN.{length};
 ghost use Rattle.stream.specs.Payload.{payload};
 ghost use Rattle.stream.specs.Contracts.Payload.{room};
-ghost use Rattle.scene.specs.Scene.{Maybe, none, some, Point, pointsAt};
+ghost use Rattle.scene.specs.Scene.{none, some, Point, pointsAt};
 ghost use Rattle.scene.specs.Contracts.Answers.{pointsBy};
 ghost use Rattle.budget.specs.declared.Budget.{Budget};
 ghost use Rattle.densify.specs.Densify.{Made};

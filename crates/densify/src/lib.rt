@@ -8,8 +8,6 @@ mod segments;
 mod append;
 
 pub use counts::arc_vertices;
-pub use counts::segment_parts;
-pub use cubic::flatten_cubic;
 pub use paths::copy_points;
 pub use paths::path_points;
 pub use rings::box_ring;

@@ -5,10 +5,10 @@ use Prim.Native.Nat.{ℕ, zero, suc, _+_, _-_, _*_, _/_, _%_, _^_, _≤_, _<_}
 use native.Mathlib.Nat.{le-trans, le-of-eq, lt-of-lt-of-le, lt-of-le-of-lt, lt-of-mul-lt-mul-right, le-of-mul-le-mul-right, eq-of-mul-eq-mul-right, lt-irrefl, lt-of-not-le, mul-assoc, mul-pos, mul-right-comm, mul-le-mul-right, mul-lt-mul-of-pos-right, mul-div-cancel, zero-mul, zero-lt-suc}
 use native.Mathlib.Omega.{arith}
 use lib.IntN.{ℤ, pos}
-use lib.Dec.{T, ltb, eqb, le→leb, ltb→lt, lt→ltb, eqb→eq, lit≤}
+use lib.Dec.{T, eqb, le→leb, ltb→lt, lt→ltb, eqb→eq, lit≤}
 use lib.Arith.{le→nltb}
 use lib.Pow.{pow-add, pow-pos, pow-mono}
-use lib.Ieee.{Float, nan, inf, fin, binary64, up, down, minus, size, round, ofInt, sub, div, neg, lt, le, eq, inFloat, isNan, nanBits, fits, ofBits, toBits}
+use lib.Ieee.{Float, nan, inf, fin, binary64, up, down, minus, size, round, ofInt, sub, div, neg, lt, eq, inFloat, isNan, nanBits, fits, ofBits, toBits}
 use lib.Ieee.Back.{round-whole}
 use lib.Ieee.Bits.{ofBits-toBits, ofBits-fits, nanBits-above}
 use lib.Ieee.Digits.{size-lt, size-le}

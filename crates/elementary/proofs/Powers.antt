@@ -17,10 +17,6 @@ use Rattle.elementary.specs.Functions.{twoTo}
 use Rattle.elementary.specs.Contracts.Powers.{Small}
 use Rattle.elementary.specs.Laws.Powers.{two-to-is}
 
--- the field is 1023 + k
-pub fieldOf : {k : Float} → Small k → ℕ
-fieldOf s = moved (s .minus) (s .size) 1023
-
 field-in : (b : Bool) (n : ℕ) → n ≤ 1010 → (13 ≤ moved b n 1023) × (moved b n 1023 ≤ 2033)
 field-in true n h = (omega arith, omega arith)
 field-in false n h = (omega arith, omega arith)

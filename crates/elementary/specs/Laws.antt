@@ -6,7 +6,6 @@ pub mod Exponential
 pub mod Logarithm
 pub mod Arctangent
 pub mod Stages
-pub mod Arccosine
 pub mod Sine
 pub mod Tangent
 pub mod Mercator

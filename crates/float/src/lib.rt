@@ -1,10 +1,10 @@
 // What Rust's f64 has as methods, and a finite pattern taken apart.
 ghost use mathlib.Core.Path.{_≡_};
 ghost use mathlib.Core.Bool.{true, false};
-ghost use Prim.Native.Nat.{ℕ, _+_, _*_, _<_, _≤_, _%_, _^_, _/_};
+ghost use Prim.Native.Nat.{_+_, _*_, _<_, _%_, _^_, _/_};
 ghost use lib.Ieee.{isNan};
 ghost use lib.Ieee.Scale.{finite};
-ghost use Rattle.float.specs.Functions.{absOf, maxOf, minOf, truncOf, ceilOf, roundOf, remEuclid360Of};
+ghost use Rattle.float.specs.Functions.{absOf, maxOf, minOf, remEuclid360Of};
 ghost use Rattle.float.specs.Contracts.Decomposition.{Decomposition};
 
 mod whole;

@@ -1,6 +1,6 @@
 // f64's trunc, ceil and round, by bit patterns: a cast is defined for whole numbers only.
 ghost use mathlib.Core.Path.{_≡_};
-ghost use Prim.Native.Nat.{ℕ, _+_, _*_, _<_, _≤_, _%_, _^_, _/_};
+ghost use Prim.Native.Nat.{_+_, _*_, _<_, _%_, _/_};
 ghost use Rattle.float.specs.Functions.{wholeAt, truncOf, ceilOf, roundOf};
 ghost use Rattle.float.specs.Contracts.Fraction.{HasFraction, IsUnit, unitOf, signOf, digitsOf};
 

@@ -102,9 +102,6 @@ module _ (t keys : List ℕ) (spots : List Float) (used k : ℕ) (b : code-best.
       }
 
   module _ (here : b .some ≡ true) where
-    abbrev best : Best
-    best = record { key = keyBy (b .key); at = record { x = b .x; y = b .y } }
-
     -- it has a slot
     module _ (low : 33554432 ≤ getD t k 0) (high : getD t k 0 < 2181038080) (keys′ : List ℕ) (spots′ : List Float) (p : SlotSet keys keys′ spots spots′ (mark k - 1) b) where
       pub held-again : BestStored k (bestBy b) z (slotsOf t keys′ spots′ used)

@@ -10,7 +10,6 @@ use lib.ListN.{length, getD, set, length-set}
 use lib.Seq.{getD-set-same, getD-set-other}
 use mir.Val.{boolByte}
 use Rattle.scene.specs.declared.labels.Best as code-best
-use Rattle.scene.specs.Labels.{Best}
 use Rattle.scene.specs.Contracts.Answers.{keyBy}
 use Rattle.names.specs.Contracts.Batch.{slotAt, SlotSet}
 

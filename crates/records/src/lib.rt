@@ -5,16 +5,12 @@ mod records;
 mod refusals;
 mod search;
 
-pub use floats::limits;
-pub use order::layout;
 pub use records::Record;
 pub use records::Step;
-pub use records::next_record;
 pub use records::values_width;
 pub use records::wide;
 pub use records::wide16;
 pub use refusals::refusal;
 pub use search::Hit;
 pub use search::find;
-pub use search::record_at;
 pub use search::seek;

@@ -8,7 +8,7 @@ use lib.ListN.{length, set, length-set}
 use lib.Dec.{leb}
 use borrow.Author.Tests.{le-leb, lt-leb, leb-true, not-true, not-false}
 use Rattle.records.specs.Laws.Tests.{and-right}
-use Rattle.scene.specs.Scene.{some, given, Scene}
+use Rattle.scene.specs.Scene.{given, Scene}
 use Rattle.register.specs.declared.declared.Declared.{Declared}
 use Rattle.register.specs.declared.warnings.WarningCursor.{WarningCursor}
 use Rattle.register.specs.Register.{Warning, Event, control, warn, warningsIn, isSome, ignored, ignoredWith, anyDeclared, anchorOf}

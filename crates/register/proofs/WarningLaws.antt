@@ -20,7 +20,7 @@ use Rattle.register.specs.declared.mentions.Cursor.{Cursor}
 use Rattle.register.specs.declared.mentions.Mention as code-mention
 use Rattle.register.specs.Register.{Event, control, warn, isSome, resolved, mentioned, featureEvent, featureEvents, variableEvents, events, warningsIn, controlsOf, viewWarnings, halfWarnings, ignoredWith, registerWarnings}
 use Rattle.register.specs.Contracts.Gathered.{numbersIn, Kept}
-use Rattle.register.specs.Contracts.Mentions.{Mention, lonMentions, mentionsAt, mentionBy, Follows, Asked}
+use Rattle.register.specs.Contracts.Mentions.{lonMentions, mentionsAt, mentionBy, Follows, Asked}
 use Rattle.register.specs.Contracts.Warnings.{WarningSlice, pushed, allPushed, firstIs, anyNameIs, ResolvedNames, AfterFeatures, kindBy}
 use Rattle.register.proofs.Declarations.{along}
 use Rattle.register.proofs.Parting.{eventAt, eventsAt, mention-events}

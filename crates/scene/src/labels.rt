@@ -5,7 +5,7 @@ ghost use Prim.Native.Nat.{_+_, _*_, _≤_};
 ghost use Rattle.stream.specs.Payload.{payload};
 ghost use Rattle.stream.specs.Contracts.Payload.{room};
 ghost use Rattle.records.specs.Records.{bytesAt};
-ghost use Rattle.scene.specs.Scene.{some, none, pointsAt};
+ghost use Rattle.scene.specs.Scene.{none, pointsAt};
 ghost use Rattle.scene.specs.Labels.{meanPoint, firstStart, meanOrStart, referencePoint, greater, consider, considerAt, itemKey, bestPlace, bestItem, pointOfLabel};
 ghost use Rattle.scene.specs.Contracts.Answers.{considerPlace, considerItem, pointBy, maybePoint, keyBy, bestBy, pointsFrom, pathsFrom, placesAt, itemsAt, itemBy};
 use crate::names::label_at_equals;

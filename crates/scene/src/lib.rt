@@ -18,7 +18,6 @@ pub use labels::Key;
 pub use labels::consider_item;
 pub use labels::consider_place;
 pub use labels::point_of_label;
-pub use labels::reference_point;
 pub use names::name_at_equals;
 pub use names::name_is;
 pub use names::names_equal;

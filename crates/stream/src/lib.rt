@@ -1,6 +1,6 @@
 // The blocks of a stream, and what stands at a place of their payload.
 ghost use mathlib.Core.Path.{_≡_};
-ghost use mathlib.Core.Bool.{Bool, true, false};
+ghost use mathlib.Core.Bool.{true};
 ghost use Prim.Native.Nat.{_+_, _*_, _<_, _≤_};
 ghost use lib.ListN.{length, getD};
 ghost use Rattle.stream.specs.Numbers.{u16At, u32At, u64At, floatAt};

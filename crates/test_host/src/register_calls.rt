@@ -2,7 +2,6 @@
 ghost use mathlib.Core.Path.{_≡_};
 ghost use Rattle.similarity.specs.Projection.{toLonLatOf};
 ghost use Rattle.test_host.specs.Contracts.Answer.{answerOf, warnedOf};
-ghost use Rattle.register.specs.Contracts.Warnings.{WarningSlice};
 use geodesy::LonLat;
 use register::Outcome;
 use register::WarningCursor;

@@ -11,10 +11,9 @@ use lib.Ieee.{Float, nan}
 use borrow.Author.Tests.{leb-false}
 use Rattle.scene.specs.Scene.{Point}
 use Rattle.geodesy.specs.declared.LonLat.{LonLat}
-use Rattle.elementary.specs.Contracts.Stages.{atanFirst, atanSecond, atanThird}
 use Rattle.similarity.specs.declared.projection.Projection.{Projection}
 use Rattle.similarity.specs.Projection.{geoBy}
-use Rattle.similarity.specs.Contracts.Stages.{expStageOf, roundedLatitudeOf}
+use Rattle.similarity.specs.Contracts.Stages.{expStageOf}
 use Rattle.similarity.specs.Laws.Project.{geo-staged}
 use Rattle.densify.specs.declared.append.PointCursor.{PointCursor}
 use Rattle.densify.specs.Densify.{Made}

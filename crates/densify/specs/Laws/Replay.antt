@@ -1,7 +1,6 @@
 -- Every producer's draws, replayed through `take` from the budget that it was handed, give the budget that it hands back.
-use Prim.Native.Nat.{ℕ, zero, suc, _+_, _-_, _≤_}
-use native.Mathlib.Omega.{arith}
-use mathlib.Core.Path.{_≡_, refl, ap, ap₂, subst, _∙_}
+use Prim.Native.Nat.{ℕ, zero, suc, _+_}
+use mathlib.Core.Path.{_≡_, refl, ap, subst, _∙_}
 use mathlib.Core.Bool.{Bool, true, false, _||_, or-false, or-assoc}
 use mathlib.Core.List.{List, [], _∷_, _++_}
 use lib.Dec.{ltb}
@@ -9,9 +8,8 @@ use lib.Ieee.{Float, binary64, div, le}
 use Rattle.float.specs.Functions.{maxOf, minOf}
 use Rattle.elementary.specs.Constants as K
 use Rattle.budget.specs.declared.Budget.{Budget}
-use Rattle.budget.specs.Budget.{grantOf, takeOf}
-use Rattle.budget.specs.Draws.{Draw, leftAfter, granted, overrun, shortFloors}
-use Rattle.budget.specs.Laws.Draws.{claim}
+use Rattle.budget.specs.Budget.{takeOf}
+use Rattle.budget.specs.Draws.{leftAfter}
 use Rattle.scene.specs.Scene.{Point, Cubic, Form, curve, polyline, DrawnPath}
 use Rattle.densify.specs.Densify.{GrantedDraw, Made, withoutDraws, withDraw, andThen, tiny, Block, flatOf, firstHalf, secondHalf, leafOf, pickMade, splitOf, flattenCubicOf, cubicsOf}
 use Rattle.densify.specs.Densify.{formPoints, closedIf, pathPointsOf, segmentOf, segmentsOf, densifyPolylineOf, ellipseRingOf, boxRingOf}
@@ -32,11 +30,6 @@ unfolding replayed
 replayed-append b [] es = refl
 replayed-append b (d ∷ ds) es = replayed-append (afterDraw b d) ds es
 
-pub leftAfter-append : (left : ℕ) (ds es : List Draw) → leftAfter left (ds ++ es) ≡ leftAfter (leftAfter left ds) es
-unfolding leftAfter
-leftAfter-append left [] es = refl
-leftAfter-append left (d ∷ ds) es = leftAfter-append (left - grantOf left (d .want) (d .floor)) ds es
-
 pub granted-append : (b : Budget) (ds es : List GrantedDraw) → Granted b ds → Granted (replayed b ds) es → Granted b (ds ++ es)
 unfolding replayed
 granted-append b [] es g h = h
@@ -52,16 +45,6 @@ unfoldable pub grantsOf : List GrantedDraw → ℕ
 grantsOf [] = 0
 grantsOf (d ∷ ds) = d .granted + grantsOf ds
 
-pub grantsOf-append : (ds es : List GrantedDraw) → grantsOf (ds ++ es) ≡ grantsOf ds + grantsOf es
-unfolding grantsOf
-grantsOf-append [] es = omega arith
-grantsOf-append (d ∷ ds) es = omega (arith, grantsOf-append ds es)
-
-pub grantsOf-is : (b : Budget) (ds : List GrantedDraw) → Granted b ds → grantsOf ds ≡ granted (b .left) (drawsOf ds)
-unfolding grantsOf granted takeOf
-grantsOf-is b [] g = refl
-grantsOf-is b (d ∷ ds) g = ap₂ _+_ (g .0) (grantsOf-is (afterDraw b d) ds (g .1))
-
 pub replayed-hit : (b : Budget) (ds : List GrantedDraw) → Granted b ds → replayed b ds .hit ≡ b .hit || fellShort ds
 unfolding replayed fellShort takeOf
 replayed-hit b [] g = rw or-false
@@ -74,14 +57,6 @@ replays b m e g = record { after-is = e; grants = g; left-is = ap (λ r. r .left
 pub hit-is : {b : Budget} {m : Made} → Replays b m → m .after .hit ≡ b .hit || fellShort (m .draws)
 hit-is {b} {m} r = ap (λ x. x .hit) (r .after-is) ∙ replayed-hit b (m .draws) (r .grants)
 
--- the budget's claim, of what a producer was granted
-module _ {b : Budget} {m : Made} (r : Replays b m) where
-  pub replays-exact : grantsOf (m .draws) + m .after .left ≡ b .left + overrun (b .left) (drawsOf (m .draws))
-  replays-exact = rw (grantsOf-is b (m .draws) (r .grants), r .left-is) (claim (b .left) (drawsOf (m .draws)) .exact)
-
-  pub replays-bounded : grantsOf (m .draws) ≤ b .left + shortFloors (b .left) (drawsOf (m .draws))
-  replays-bounded = rw (grantsOf-is b (m .draws) (r .grants)) (claim (b .left) (drawsOf (m .draws)) .bounded)
-
 pub plain-replays : (ps : List Point) (b : Budget) → Replays b (withoutDraws ps b)
 unfolding replayed
 plain-replays ps b = replays b (withoutDraws ps b) refl tt
@@ -90,9 +65,6 @@ plain-replays ps b = replays b (withoutDraws ps b) refl tt
 one-replays : (b : Budget) (want floor : ℕ) (ps : List Point) → Replays b (withDraw b want floor (λ n. ps))
 unfolding replayed takeOf
 one-replays b want floor ps = replays b (withDraw b want floor (λ n. ps)) (rw or-false) (refl, tt)
-
-pub drawing-replays : (b : Budget) (want floor : ℕ) (f : ℕ → List Point) → Replays b (withDraw b want floor f)
-drawing-replays b want floor f = one-replays b want floor _
 
 pub leaf-replays : (flat : Bool) (p : Point) (b : Budget) → Replays b (leafOf flat p b)
 unfolding leafOf replayed takeOf

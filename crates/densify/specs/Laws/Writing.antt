@@ -166,6 +166,3 @@ leads-end {w} {w₁} {at} {at₁} {m} {b} l h = l w₁ _ (written-none w₁ at�
 -- ---- andThen
 pub andThen-none : (a : Made) → andThen a (withoutDraws []) ≡ a
 andThen-none a = simp append-nil
-
-pub andThen-assoc : (a : Made) (f g : Budget → Made) → andThen (andThen a f) g ≡ andThen a (λ r. andThen (f r) g)
-andThen-assoc a f g = simp append-assoc

@@ -6,8 +6,7 @@ use lib.IntN.{negsuc}
 use lib.Ieee.{Float, fin, binary64, add, sub, mul, div, le, ofBits}
 use lib.Ieee.Fits.{div-fits}
 use lib.Ieee.Positive.{between}
-use lib.Ieee.Scale.{finite}
-use Rattle.float.specs.Laws.Intervals.{iv, Between, in-finite}
+use Rattle.float.specs.Laws.Intervals.{iv, Between}
 use Rattle.float.specs.Laws.Expressions.{Expr, var, lit, plus, less, times, over}
 use Rattle.elementary.specs.Constants as K
 use Rattle.elementary.specs.Functions.{toRadiansOf, toDegreesOf, sinOf, cosOf, tanOf, lnOf, expOf, atanOf}
@@ -22,9 +21,6 @@ pub ln-tan-in : (a : Float) → Slanted a → Between ln-least ln-most (lnOf (ta
 ln-tan-in a i =
     let j = tan-in a i in
     ln-in (tanOf a) (between tan-least (tanOf a) tan-most tt tt (j .low) (j .high)) (unfold tanOf in div-fits binary64 (sinOf a) (cosOf a))
-
-pub ln-tan-finite : (a : Float) → Slanted a → T (finite (lnOf (tanOf a)))
-ln-tan-finite a i = in-finite ln-least ln-most (lnOf (tanOf a)) (ln-tan-in a i)
 
 -- ---- forward: a latitude in degrees
 -- std::f64::consts::FRAC_PI_4, 0.7853981633974483
@@ -66,16 +62,3 @@ latitude-test = tt
 pub anchor-in : (w : Float) → Between m3·25 c3·25 w → Between m89·5 c89·5 (latitudeOf w)
 unfolding toDegreesOf
 anchor-in w i = enclosed latitude (iv atan-least atan-most ∷ []) (atanOf (expOf w) ∷ []) m89·5 c89·5 latitude-test (atan-mid (expOf w) (exp-mid w i), tt)
-
--- The latitude that a fitted anchor's ordinate gives is finite, and so are the tangent and the ordinate of that latitude.
-pub record Anchored (w : Float) : Type 0 where
-  pub latitude : T (finite (latitudeOf w))
-  pub tangent : T (finite (tanOf (slantOf (latitudeOf w))))
-  pub ordinate : T (finite (lnOf (tanOf (slantOf (latitudeOf w)))))
-
-pub anchor-finite : (w : Float) → Between m3·25 c3·25 w → Anchored w
-anchor-finite w i =
-    let lat = latitudeOf w in
-    let j = anchor-in w i in
-    let k = latitude-in lat j in
-    record { latitude = in-finite m89·5 c89·5 lat j; tangent = in-finite tan-least tan-most (tanOf (slantOf lat)) (tan-in (slantOf lat) k); ordinate = ln-tan-finite (slantOf lat) k }

@@ -11,10 +11,9 @@ use lib.Pow.{pow-pos, pow-mono}
 use lib.Ieee.{Float, nan, inf, fin, binary64, up, down, minus, size, round, ofInt, fits, neg, add, sub, mul, div, le, ofBits}
 use lib.Ieee.Fits.{down-pos, add-fits, div-fits}
 use lib.Ieee.Positive.{positive, between}
-use lib.Ieee.Scale.{finite}
 use Rattle.float.specs.Laws.Signed.{le→}
 use Rattle.float.specs.Laws.Order.{le-trans, le-refl}
-use Rattle.float.specs.Laws.Intervals.{iv, Between, in-finite}
+use Rattle.float.specs.Laws.Intervals.{iv, Between}
 use Rattle.float.specs.Laws.Expressions.{var, over, fits-in}
 use Rattle.float.specs.Laws.Remainder.{fits-digits}
 use Rattle.float.specs.Laws.Exact.{fits-top, own-round}
@@ -247,6 +246,3 @@ ordinate-in lat i =
     let v = tanOf a in
     let j = tan-in a (add-fits binary64 fracPi4 (div binary64 (toRadiansOf lat) K.two)) (slant-in lat i) in
     ln-mid v (between c43/1024 v c24 tt tt (j .low) (j .high)) (unfold tanOf in div-fits binary64 (sinOf a) (cosOf a)) j
-
-pub ordinate-finite : (lat : Float) → Between m85·06 c85·06 lat → T (finite (lnOf (tanOf (slantOf lat))))
-ordinate-finite lat i = in-finite m3·1875 c3·1875 (lnOf (tanOf (slantOf lat))) (ordinate-in lat i)

@@ -92,9 +92,6 @@ sign-of (fin false m e) = inl refl
 pub nonneg-of : (lo x : Float) → T (finite lo) → T (finite x) → N lo ≡ 0 → T (le lo x) → N x ≡ 0
 nonneg-of lo x p q z h = elim (sign-of x) [ inl a ↦ a | inr a ↦ zero-of (N x) (D lo) (D-pos lo) (omega (arith, le→ lo x p q h, ap (λ (k : ℕ). k * D x) z, ap (λ (k : ℕ). k * D lo) a)) ]
 
-pub nonpos-of : (x hi : Float) → T (finite x) → T (finite hi) → P hi ≡ 0 → T (le x hi) → P x ≡ 0
-nonpos-of x hi p q z h = elim (sign-of x) [ inr a ↦ a | inl a ↦ zero-of (P x) (D hi) (D-pos hi) (omega (arith, le→ x hi p q h, ap (λ (k : ℕ). k * D x) z, ap (λ (k : ℕ). k * D hi) a)) ]
-
 -- ---- the difference
 pub sub-mono : (f : Format) (x x' y y' : Float) → T (finite x) → T (finite x') → T (finite y) → T (finite y') → T (le x x') → T (le y' y) → T (le (sub f x y) (sub f x' y'))
 unfolding sub

@@ -1,4 +1,4 @@
--- `%`: it lies between -y and y, and is not negative where x is not. And whole numbers: what is its own rounding, and a whole number as a float, a literal and an integer.
+-- `%`: it lies between -y and y, and is not negative where x is not. And whole numbers: what is its own rounding, and a whole number as a float and an integer.
 use mathlib.Core.Path.{_≡_, refl, sym, ap, _∙_, subst}
 use mathlib.Core.Bool.{Bool, true, false, _&&_, cond}
 use Prim.Native.Nat.{ℕ, zero, suc, _+_, _-_, _*_, _/_, _%_, _^_, _≤_, _<_}
@@ -137,10 +137,7 @@ fits-digits s (suc m) e t =
     let t1 : T (A && B && C) = and-l (A && B && C) E t in
     (ltb→lt (suc m) (2 ^ 53) (and-r A B (and-l (A && B) C t1)), leb→le (down e) (2 ^ 1074) (and-r (A && B) C t1))
 
--- ---- a whole number, as a literal and as an integer
-pub whole-same : (z : Float) (w : ℕ) → Whole z w → T (le (fin false w (pos 0)) z) × T (le z (fin false w (pos 0)))
-whole-same z w h = (→le (fin false w (pos 0)) z tt (h .is-finite) (omega (arith, h .up-is, h .no-minus)), →le z (fin false w (pos 0)) (h .is-finite) tt (omega (arith, h .up-is, h .no-minus)))
-
+-- ---- a whole number as an integer
 -- x lies from its whole part up to one more
 pub floor-low : (m : ℕ) (e : ℤ) → T (le (fin false (m * up e / down e) (pos 0)) (fin false m e))
 floor-low m e = →le (fin false (m * up e / down e) (pos 0)) (fin false m e) tt tt (omega (arith, div-add-mod' (m * up e) (down e)))

@@ -3,7 +3,7 @@
 use mathlib.Core.Path.{_≡_, refl, sym, ap, _∙_, subst}
 use mathlib.Core.Bool.{Bool, true, false}
 use Prim.Native.Nat.{ℕ, suc, _+_, _-_, _*_, _/_, _^_, _≤_, _<_}
-use native.Mathlib.Nat.{le-trans, le-of-eq, le-antisymm, le-of-suc-le-suc, zero-mul, mul-pos, mul-one, mul-le-mul-right, div-one, div-mul-le-self, div-lt-iff-lt-mul, le-of-mul-le-mul-right, lt-div-mul-add}
+use native.Mathlib.Nat.{le-trans, le-of-eq, le-antisymm, le-of-suc-le-suc, zero-mul, mul-pos, mul-one, mul-le-mul-right, div-one, div-lt-iff-lt-mul, le-of-mul-le-mul-right, lt-div-mul-add}
 use native.Mathlib.Omega.{arith}
 use lib.IntN.{ℤ, pos, negsuc}
 use lib.Dec.{T}
@@ -14,7 +14,7 @@ use lib.Ieee.Exact.{HasValue}
 use lib.Ieee.Nearest.{div-mono}
 use lib.Ieee.Back.{round-whole, whole-unique}
 use lib.Ieee.Scale.{finite}
-use Rattle.float.specs.Laws.Signed.{sp, sn, P, N, D, Le, le→, round-le, zero-of, →le}
+use Rattle.float.specs.Laws.Signed.{sp, sn, P, N, D, Le, le→, round-le, zero-of}
 use Rattle.float.specs.Laws.Magnitude.{has-finite}
 use Rattle.float.specs.Laws.Remainder.{Whole, exact-at, fits-digits}
 use Rattle.float.specs.Laws.Exact.{fits-top}
@@ -158,14 +158,7 @@ module _ {g : Float → Float} {r : Rule} (R : Cuts g r) where
       go false true h =
           omega (arith, none false (m * up e) (down e) (down-pos e) (zero-of (m * up e) (down d) (down-pos d) (omega arith)), none true (n * up d) (down d) (down-pos d) (zero-of (n * up d) (down e) (down-pos e) (omega arith)))
 
-  -- between whole numbers
-  pub whole-above : (lo x : Float) (s : Bool) (w : ℕ) → T (fits binary64 lo) → HasValue lo s w 1 → T (finite x) → T (le lo x) → T (le lo (g x))
-  whole-above lo x s w t v f h = subst (λ (z : Float). T (le z (g x))) (whole-own lo s w t v) (whole-mono lo x (has-finite lo s w 1 v) f h)
-
-  pub whole-below : (x hi : Float) (s : Bool) (w : ℕ) → T (fits binary64 hi) → HasValue hi s w 1 → T (finite x) → T (le x hi) → T (le (g x) hi)
-  whole-below x hi s w t v f h = subst (λ (z : Float). T (le (g x) z)) (whole-own hi s w t v) (whole-mono x hi f (has-finite hi s w 1 v) h)
-
--- ---- beside the argument
+-- ---- a value that is a whole number
 has-parts : (z : Float) (s : Bool) (w : ℕ) → HasValue z s w 1 → (P z ≡ sp s w * D z) × (N z ≡ sn s w * D z)
 has-parts nan s w h = absurd h
 has-parts (inf t) s w h = absurd h
@@ -180,34 +173,3 @@ has-parts (fin t m e) s w h = subst (λ (u : Bool). (sp u (m * up e) ≡ sp s w 
 
 pub has-whole : (z : Float) (w : ℕ) → HasValue z false w 1 → Whole z w
 has-whole z w h = let p = has-parts z false w h in record { is-finite = has-finite z false w 1 h; up-is = p .0; no-minus = p .1 ∙ zero-mul (D z) }
-
--- w / 1 and a / d, one of them the smaller, over the denominator D of the float that is w
-less-at : (w a d c : ℕ) → w * d ≤ a → w * c * d ≤ a * c
-less-at w a d c h = omega (arith, mul-le-mul-right c h)
-
-more-at : (w a d c : ℕ) → a ≤ w * d → a * c ≤ w * c * d
-more-at w a d c h = omega (arith, mul-le-mul-right c h)
-
-pub trunc-below : (x : Float) → T (fits binary64 x) → T (finite x) → N x ≡ 0 → T (le (truncOf x) x)
-trunc-below nan t f n = absurd f
-trunc-below (inf s) t f n = absurd f
-trunc-below (fin s m e) t f n =
-    let z = truncOf (fin s m e) in
-    let v = whole-value trunc-cuts s m e t in
-    →le z (fin s m e) (has-finite z s (m * up e / down e) 1 v) tt (go s n (P z) (N z) (D z) (has-parts z s (m * up e / down e) v))
-  where
-    go : (s : Bool) → sn s (m * up e) ≡ 0 → (p n c : ℕ) → (p ≡ sp s (m * up e / down e) * c) × (n ≡ sn s (m * up e / down e) * c) → p * down e + sn s (m * up e) * c ≤ sp s (m * up e) * c + n * down e
-    go true h p n c v = omega (arith, ap (λ (k : ℕ). k * c) h, ap (λ (k : ℕ). k * down e) (v .0))
-    go false h p n c v = omega (arith, ap (λ (k : ℕ). k * down e) (v .0), less-at (m * up e / down e) (m * up e) (down e) c (div-mul-le-self (m * up e) (down e)))
-
-pub ceil-above : (x : Float) → T (fits binary64 x) → T (finite x) → T (le x (ceilOf x))
-ceil-above nan t f = absurd f
-ceil-above (inf s) t f = absurd f
-ceil-above (fin s m e) t f =
-    let z = ceilOf (fin s m e) in
-    let v = whole-value ceil-cuts s m e t in
-    →le (fin s m e) z tt (has-finite z s (upward s (m * up e) (down e)) 1 v) (go s (P z) (N z) (D z) (has-parts z s (upward s (m * up e) (down e)) v))
-  where
-    go : (s : Bool) (p n c : ℕ) → (p ≡ sp s (upward s (m * up e) (down e)) * c) × (n ≡ sn s (upward s (m * up e) (down e)) * c) → sp s (m * up e) * c + n * down e ≤ p * down e + sn s (m * up e) * c
-    go true p n c v = omega (arith, ap (λ (k : ℕ). k * down e) (v .1), less-at (m * up e / down e) (m * up e) (down e) c (div-mul-le-self (m * up e) (down e)))
-    go false p n c v = omega (arith, ap (λ (k : ℕ). k * down e) (v .0), ap (λ (k : ℕ). k * down e) (v .1), more-at ((m * up e + (down e - 1)) / down e) (m * up e) (down e) c (up-reach (m * up e) (down e) (down-pos e)))

@@ -7,7 +7,7 @@ use native.Mathlib.Omega.{arith}
 use lib.ListN.{length}
 use lib.Dec.{eqb, leb}
 use borrow.Author.Tests.{eqb-true}
-use Rattle.stream.specs.Conditions.{Condition, firstOf, NoneHolds}
+use Rattle.stream.specs.Conditions.{firstOf, NoneHolds}
 use Rattle.stream.specs.Payload.{payload}
 use Rattle.stream.specs.Laws.Conditions.{Numbered, none-first, first-none, first-ahead, first-behind, append-none, numbered-append}
 use Rattle.records.specs.Conditions.{ofStream}

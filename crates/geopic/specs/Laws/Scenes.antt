@@ -1,6 +1,6 @@
 -- What an accepted stream's events are, and what the host then holds. Assumes nothing.
 use Prim.Native.Nat.{ℕ, zero, suc, _*_, _/_}
-use mathlib.Core.Path.{_≡_, refl, sym, ap, subst, _∙_}
+use mathlib.Core.Path.{_≡_, refl, sym, ap, _∙_}
 use mathlib.Core.Bool.{Bool, true, false, not, _&&_, cond}
 use mathlib.Core.List.{List, [], _∷_, _++_, map}
 use native.Mathlib.Omega.{arith}
@@ -10,13 +10,11 @@ use lib.Ieee.{Float}
 use borrow.Author.Tests.{eq-eqb}
 use Rattle.stream.specs.Conditions.{firstOf}
 use Rattle.stream.specs.Payload.{payload}
-use Rattle.records.specs.Contracts.Refusals.{refusalOf}
 use Rattle.scene.specs.Scene.{Maybe, none, some, Point, NamedFeature, NamedValue, Scene, sceneOf}
 use Rattle.similarity.specs.Projection.{geoOf}
 use Rattle.similarity.specs.Laws.Projects.{geo-projects}
 use Rattle.register.specs.Register as register
 use Rattle.register.specs.Register.{Warning, f0, isLon, stem, suffixLat, var, resolved, mentioned, eventOf, featureEvent, featureEvents, lonEvent, consIf, variableEvents, events, registrationOf, isSome, anchorOf, pxMode, halfAnchor, controlsOf, only, ignored, anyDeclared, ignoredWith, viewWarnings, halfWarnings, registerWarnings}
-use Rattle.register.specs.Contracts.Outcome.{registerRefusal}
 use Rattle.register.specs.Laws.Sound.{accepted-tame, accepted-sound}
 use Rattle.budget.specs.Draws.{leftAfter, Claim}
 use Rattle.budget.specs.Laws.Draws.{claim}

@@ -97,9 +97,7 @@ pub record ChoiceAt (l : List ℕ) (o : ℕ) : Type 0 where
   pub frame : o ≡ 1 → getD l 2 0 ≤ 1
 
 pub record ItemAt (l : List ℕ) (k f n m : ℕ) : Type 0 where
-  pub kind-is : k ≡ getD l 1 0
   pub kind : k ≤ 10
-  pub flags-are : f ≡ getD l 2 0
   pub flags : f < 32
   pub label-is : n ≡ getD l 3 0
   pub label : (n ≡ 0) ⊎ Name l 3 n
@@ -235,9 +233,7 @@ module _ (l : List ℕ) where
         some = omega arith;
         fits = leb-true (13 + n + valuesWidth m) (length l) (and-right (ltb m 32) _ h₃);
         fields = record {
-          kind-is = refl;
           kind = leb-true (getD l 1 0) 10 (and-left _ _ h₁);
-          flags-are = refl;
           flags = ltb-true (getD l 2 0) 32 (and-left _ _ h₂);
           label-is = refl;
           label = called;

@@ -2,11 +2,11 @@
 use mathlib.Core.Path.{_≡_, refl}
 use mathlib.Core.Bool.{Bool, true, false, not, _&&_, cond, true≢false}
 use mathlib.Core.List.{List, [], _∷_, _++_, map}
-use Prim.Native.Nat.{ℕ, suc, _*_, _/_, _≤_, _<_}
+use Prim.Native.Nat.{ℕ, suc, _*_, _≤_}
 use native.Mathlib.Omega.{arith}
 use lib.ListN.{length, take}
 use lib.IntN.{ℤ}
-use lib.Dec.{T, eqb, ltb, lit<}
+use lib.Dec.{T, eqb, ltb}
 use borrow.Author.Tests.{ltb-false, le-ltb}
 use lib.Ieee.{Float, nan, inf, fin, binary64, up, down, round, fits, neg, mul, div, lt, le, ofBits}
 use lib.Ieee.Bits.{ofBits-fits}
@@ -35,14 +35,14 @@ use Rattle.stream.specs.Laws.Payload.{payload-length}
 use Rattle.records.specs.Walk.{entries}
 use Rattle.records.specs.Search.{recordsOf}
 use Rattle.records.specs.Limits.{limited}
-use Rattle.records.specs.Values.{flattenIn, rescaleIn, notAbove}
+use Rattle.records.specs.Values.{rescaleIn, notAbove}
 use Rattle.records.specs.Contracts.Refusals.{refusalOf}
 use Rattle.records.specs.Laws.Tests.{and-left, and-right}
 use Rattle.records.specs.Laws.Refusals.{is-short, is-limited, is-rescaled}
 use Rattle.stream.specs.Laws.Conditions.{first-none}
 use Rattle.scene.specs.Scene.{Maybe, none, some, first, valueOf, floatValueAt, Point, NamedFeature, NamedValue, variableAt, Scene, sceneOf}
 use Rattle.scene.specs.Labels.{sameBytes, pick, variableOf, orElse}
-use Rattle.register.specs.Register.{geoBearing, geoFrame, suffixLat, f0, f1, maxScale, orValue, isSome, var, isMercator, pxMode, declaredBearing}
+use Rattle.register.specs.Register.{geoBearing, suffixLat, f0, f1, maxScale, orValue, var, pxMode, declaredBearing}
 use Rattle.register.specs.Register.{Warning, Event, control, warn, resolved, mentioned, eventOf, featureEvent, featureEvents, stem, isLon, lonEvent, consIf, variableEvents, events, controlsIn, controlsOf}
 use Rattle.register.specs.Register.{anchorOf, withinLimits, allWithinLimits, anchorWithinLimits, scaleValue, above0, effectiveScale, declaredAt, fitted, registrationBy, registrationOf, ofRegistration}
 use Rattle.register.specs.Contracts.Outcome.{registerRefusal}

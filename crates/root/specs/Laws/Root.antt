@@ -1,9 +1,9 @@
--- Laws of `rootOf` for callers: it is the nearest value to the root, its cases, what the format holds, the order, bounds, and exact squares. Assumes nothing.
-use mathlib.Core.Path.{_≡_, refl, sym, ap, subst}
+-- Laws of `rootOf` for callers: it is the nearest value to the root, its cases, what the format holds, the order, and bounds. Assumes nothing.
+use mathlib.Core.Path.{_≡_, refl, ap, subst}
 use mathlib.Core.Logic.{_⊎_, inl, inr}
 use mathlib.Core.Bool.{Bool, true, false, cond}
 use Prim.Native.Nat.{ℕ, zero, suc, _+_, _*_, _/_, _^_, _≤_, _<_}
-use native.Mathlib.Nat.{lt-irrefl, eq-or-lt-of-le, mul-pos, mul-le-mul-right, mul-lt-mul-of-pos-right, zero-lt-suc}
+use native.Mathlib.Nat.{lt-irrefl, eq-or-lt-of-le, mul-pos, mul-le-mul-right, zero-lt-suc}
 use native.Mathlib.Omega.{arith}
 use lib.IntN.{ℤ, pos, negsuc}
 use lib.Dec.{T, eqb, eqb→eq, eqb-refl, ltb→lt, lt→ltb}
@@ -13,15 +13,15 @@ use lib.Ieee.Fits.{round-fits, nan-fits, down-pos, up-pos}
 use lib.Ieee.Nearest.{div-mono}
 use lib.Ieee.Order.{round-mono}
 use lib.Ieee.Scale.{finite}
-use lib.Ieee.Positive.{num, den, den-pos, positive, positive-finite, positive-of-value}
+use lib.Ieee.Positive.{positive, positive-finite, positive-of-value}
 use Rattle.float.specs.Laws.Signed.{P, N, le→, →le, nonneg, round-nonneg}
 use Rattle.float.specs.Laws.Order.{le-trans, le-total, finite-of, pos-of}
 use Rattle.float.specs.Laws.Intervals.{Iv, iv, In, iadd, imul, inside, add-in, mul-in, point-in, inside-in}
 use Rattle.root.specs.Root.{isqrt, scaled, sticky, rootAt, rootOf}
 use Rattle.root.specs.Laws.Nearest.{plain, Nearest}
-use Rattle.root.specs.Laws.Whole.{isqrt-root, isqrt-mono, sq-lt}
+use Rattle.root.specs.Laws.Whole.{isqrt-root, isqrt-mono}
 use Rattle.root.specs.Laws.Shape.{rooted}
-use Rattle.root.specs.Laws.Middles.{lt→cross, is-nearest, is-only}
+use Rattle.root.specs.Laws.Middles.{is-nearest, is-only}
 
 -- ---- the cases that need no digits
 abbrev pub plusZero : Float
@@ -34,10 +34,6 @@ root-nan = refl
 pub root-infinity : rootOf (inf false) ≡ inf false
 unfolding rootOf
 root-infinity = refl
-
-pub root-zero : (s : Bool) (e : ℤ) → rootOf (fin s 0 e) ≡ fin s 0 e
-unfolding rootOf
-root-zero s e = refl
 
 pub root-below-zero : (x : Float) → T (lt x plusZero) → rootOf x ≡ nan
 unfolding rootOf lt
@@ -209,21 +205,3 @@ unit-root v h k =
     let w = unit-square v h k in
     let r = root-between one two x (unfold le in tt) (w .0) (w .1) in
     (subst (λ (z : Float). T (le z (rootOf x))) root-one (r .0), subst (λ (z : Float). T (le (rootOf x) z)) root-two (r .1))
-
--- ---- the root of an exact square: x is y * y
-module _ (nx dx ny dy nw dw : ℕ) (e : nx * (dy * dy) ≡ ny * ny * dx) (X : 0 < dx) where
-  whole : 4 * nx * (dw * dy * (dw * dy)) ≡ 2 * (ny * dw) * (2 * (ny * dw)) * dx
-  whole = omega (arith, ap (λ (k : ℕ). k * (4 * (dw * dw))) e)
-
-  below-it : nw * dy < ny * dw → (nw * dy + ny * dw) * (nw * dy + ny * dw) * dx < 4 * nx * (dw * dy * (dw * dy))
-  below-it h = rw whole (mul-lt-mul-of-pos-right (sq-lt (nw * dy + ny * dw) (2 * (ny * dw)) (omega arith)) X)
-
-  above-it : ny * dw < nw * dy → 4 * nx * (dw * dy * (dw * dy)) < (nw * dy + ny * dw) * (nw * dy + ny * dw) * dx
-  above-it h = rw whole (mul-lt-mul-of-pos-right (sq-lt (2 * (ny * dw)) (nw * dy + ny * dw) (omega arith)) X)
-
-pub root-square : (x y : Float) → T (positive x) → T (fits binary64 x) → T (plain y) → T (fits binary64 y) → num x * (den y * den y) ≡ num y * num y * den x → rootOf x ≡ y
-root-square x y p f q g e =
-    sym (the-nearest x y p f q g (λ w P F. (
-      λ t. below-it (num x) (den x) (num y) (den y) (num w) (den w) e (den-pos x) (lt→cross w y P q t),
-      λ t. above-it (num x) (den x) (num y) (den y) (num w) (den w) e (den-pos x) (lt→cross y w q P t),
-    )))

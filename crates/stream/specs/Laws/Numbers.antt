@@ -1,17 +1,14 @@
 -- Numbers in what is left of a list, how large they are in a list of bytes, and floats that were read.
 use mathlib.Core.Path.{_≡_, ap, _∙_}
-use mathlib.Core.Bool.{true}
 use mathlib.Core.List.{List}
 use Prim.Native.Nat.{ℕ, _+_, _<_}
 use native.Mathlib.Nat.{add-assoc}
 use native.Mathlib.Omega.{arith}
 use lib.ListN.{getD, drop}
 use lib.Seq.{getD-drop}
-use lib.Ieee.{Float, nan, inf, fin, binary64, ofBits}
-use lib.Ieee.Scale.{finite}
+use lib.Ieee.{binary64, ofBits}
 use Rattle.stream.specs.Numbers.{u16At, u32At, u64At, floatOf, floatAt}
 use Rattle.stream.specs.declared.Float64.{Float64}
-use Rattle.stream.specs.declared.Float64.the-variants.{Finite}
 
 -- ---- behind the first k
 pub u16-drop : (k : ℕ) (l : List ℕ) (i : ℕ) → u16At (drop k l) i ≡ u16At l (k + i)
@@ -34,9 +31,6 @@ float-drop k l i = rw u64-drop
 abbrev pub Bytes : List ℕ → Type 0
 Bytes l = (i : ℕ) → getD l i 0 < 256
 
-pub bytes-drop : (k : ℕ) (l : List ℕ) → Bytes l → Bytes (drop k l)
-bytes-drop k l b i = rw getD-drop (b (k + i))
-
 pub u16-less : (l : List ℕ) → Bytes l → (i : ℕ) → u16At l i < 65536
 unfolding u16At
 u16-less l b i = omega (arith, b i, b (i + 1))
@@ -45,21 +39,7 @@ pub u32-less : (l : List ℕ) → Bytes l → (i : ℕ) → u32At l i < 42949672
 unfolding u32At
 u32-less l b i = omega (arith, u16-less l b i, u16-less l b (i + 2))
 
-pub u64-less : (l : List ℕ) → Bytes l → (i : ℕ) → u64At l i < 18446744073709551616
-unfolding u64At
-u64-less l b i = omega (arith, u32-less l b i, u32-less l b (i + 4))
-
 -- ---- floats
-of-finite : (v : Float) {x : Float} → floatOf v ≡ Finite x → finite x ≡ true
-unfolding floatOf
-of-finite nan e = let z : _≡_ {A = ℕ} 0 1 = cc in absurd (omega arith)
-of-finite (inf s) e = let z : _≡_ {A = ℕ} 0 1 = cc in absurd (omega arith)
-of-finite (fin s m n) {x} e = let k : x ≡ fin s m n = cc in rw k
-
-pub float-finite : (l : List ℕ) (i : ℕ) {x : Float} → floatAt l i ≡ Finite x → finite x ≡ true
-unfolding floatAt
-float-finite l i e = of-finite (ofBits binary64 (u64At l i)) e
-
 -- a float, by its bits
 pub float-read : (l : List ℕ) (p : ℕ) {b : ℕ} {f : Float64} → b ≡ u64At l p → f ≡ floatOf (ofBits binary64 b) → f ≡ floatAt l p
 unfolding floatAt

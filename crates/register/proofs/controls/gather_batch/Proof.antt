@@ -4,13 +4,6 @@ use Rattle.stream.specs.Laws.Payload.{payload-length}
 use Rattle.register.proofs.Gathering.{more-few, surveyed-features, batch-lost, batch-read, ready}
 use Rattle.register.proofs.controls.gather_batch.Statement.{statement}
 use Rattle.register.proofs.controls.gather_batch.Tie as tie
-use Rattle.register.proofs.controls.gather_batch.Reads as reads
-use Rattle.register.proofs.controls.gather_batch.Lts as lts
-use Rattle.names.proofs.match_labels.Reads as match-labels-reads
-use Rattle.register.proofs.controls.features_before.Reads as features-before-reads
-use Rattle.register.proofs.controls.clear_known.Reads as forget-reads
-use Rattle.register.proofs.controls.more_of.Reads as more-of-reads
-use Rattle.register.proofs.controls.read_batch.Reads as read-reads
 
 -- src/controls.rt:303:9
 more-of-requires : tie.Need-more-of-requires

@@ -6,9 +6,6 @@ use Rattle.register.proofs.Gathering.{both-parts, features-alone, featu
 use Rattle.register.proofs.Counting.{only-features}
 use Rattle.register.proofs.controls.gather_names.Statement.{statement}
 use Rattle.register.proofs.controls.gather_names.Tie as tie
-use Rattle.register.proofs.controls.gather_names.Reads as reads
-use Rattle.register.proofs.controls.gather_names.Lts as lts
-use Rattle.register.proofs.controls.gather_part.Reads as gather-part-reads
 
 -- src/controls.rt:350:9
 gather-part-requires : tie.Need-gather-part-requires

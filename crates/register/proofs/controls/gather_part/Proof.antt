@@ -9,12 +9,6 @@ use Rattle.stream.specs.Laws.Payload.{payload-length}
 use Rattle.register.proofs.Gathering.{Parted, left, part-start, part-on, part-end, part-total}
 use Rattle.register.proofs.controls.gather_part.Statement.{statement}
 use Rattle.register.proofs.controls.gather_part.Tie as tie
-use Rattle.register.proofs.controls.gather_part.Reads as reads
-use Rattle.register.proofs.controls.gather_part.Lts as lts
-use Rattle.register.proofs.controls.features_before.Reads as features-before-reads
-use Rattle.register.proofs.controls.fill_batch.Reads as fill-reads
-use Rattle.register.proofs.controls.first_of.Reads as first-of-reads
-use Rattle.register.proofs.controls.gather_batch.Reads as gather-batch-reads
 
 abbrev Inv-loop : tie.InvT-loop
 Inv-loop s v lons t₀ flat₀ kept₀ all₀ runs₀ c₀ base₀ t flat kept all runs c base =
