@@ -6,8 +6,10 @@ use lib.ListN.{length}
 use lib.Dec.{eqb, ltb, leb}
 use lib.Ieee.{Float, binary64, div}
 use Rattle.elementary.specs.Constants as K
-use Rattle.scene.specs.Scene.{Maybe, none, some, Point, DrawnPath, DrawnItem}
-use Rattle.register.specs.Register.{Warning, orValue}
+use Rattle.scene.specs.Scene.{DrawnPath, DrawnItem}
+use Rattle.values.specs.declared.Point.{Point}
+use Rattle.values.specs.Maybe.{Maybe, none, some, orValue}
+use Rattle.values.specs.Warnings.{Warning}
 use Rattle.budget.specs.declared.Budget.{Budget}
 use Rattle.densify.specs.Densify.{GrantedDraw, Made, closeRingOf, pathPointsOf, densifyPolylineOf, ellipseRingOf, boxRingOf}
 use Rattle.densify.specs.Positions.{projectPoint}

@@ -7,10 +7,10 @@ use lib.ListN.{length, getD}
 use lib.Dec.{T, eqb}
 use lib.Ieee.{Float, neg, le}
 use Rattle.elementary.specs.Constants as K
-use Rattle.scene.specs.Scene.{Point}
-use Rattle.register.specs.Register.{Warning}
+use Rattle.values.specs.declared.Point.{Point}
+use Rattle.values.specs.Warnings.{Warning}
 use Rattle.densify.specs.Densify.{c90}
-use Rattle.densify.specs.Positions.{pointsOf}
+use Rattle.values.specs.Points.{pointsOf}
 use Rattle.geojson.specs.declared.Feature.{Feature}
 use Rattle.geojson.specs.Rfc7946.{Geometry}
 use Rattle.convert.specs.Convert.{Event, drew, need, feature, warned}

@@ -6,11 +6,12 @@ use lib.ListN.{length}
 use lib.Dec.{eqb, leb}
 use lib.Ieee.{Float}
 use Rattle.stream.specs.Conditions.{Condition}
-use Rattle.scene.specs.Scene.{Point}
-use Rattle.register.specs.Register.{Warning}
-use Rattle.densify.specs.Positions.{flats, put}
+use Rattle.values.specs.declared.Point.{Point}
+use Rattle.values.specs.Warnings.{Warning}
+use Rattle.values.specs.Slices.{put}
+use Rattle.values.specs.Points.{flats}
 use Rattle.geojson.specs.declared.Feature.{Feature}
-use Rattle.geojson.specs.Features.{putWords, wordsOf}
+use Rattle.geojson.specs.Features.{wordsOf}
 use Rattle.convert.specs.Convert.{Event, drew, need, feature, warned}
 
 -- How many floats work has; the slices, and how much of each is used, in floats and words. `number` is 0 while everything has had room.
@@ -47,7 +48,7 @@ withFeature f ps t =
     record {
       work = t .work;
       positions = put (t .positions) (t .usedPositions) (flats ps);
-      features = putWords (t .features) (t .usedFeatures) (wordsOf f);
+      features = put (t .features) (t .usedFeatures) (wordsOf f);
       warnings = t .warnings;
       usedPositions = t .usedPositions + length (flats ps);
       usedFeatures = t .usedFeatures + 6;
@@ -61,7 +62,7 @@ withWarning w t =
       work = t .work;
       positions = t .positions;
       features = t .features;
-      warnings = putWords (t .warnings) (t .usedWarnings) (w .kind ∷ w .index ∷ []);
+      warnings = put (t .warnings) (t .usedWarnings) (w .kind ∷ w .index ∷ []);
       usedPositions = t .usedPositions;
       usedFeatures = t .usedFeatures;
       usedWarnings = t .usedWarnings + 2;

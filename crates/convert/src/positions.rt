@@ -4,7 +4,7 @@ ghost use mathlib.Core.List.{List};
 ghost use Prim.Native.Nat.{ℕ, _+_, _≤_};
 ghost use lib.Ieee.{Float};
 ghost use lib.ListN.{length};
-ghost use Rattle.densify.specs.Contracts.Written.{pointsIn};
+ghost use Rattle.values.specs.Contracts.Points.{pointsIn};
 ghost use Rattle.convert.specs.Convert.{strokeOf, drawWithoutWriting, pointOf};
 ghost use Rattle.convert.specs.Contracts.Space.{outputBy, most, longest, firstRepeatedIn, Finished, Fits, Applied};
 use crate::state::Ctx;

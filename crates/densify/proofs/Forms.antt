@@ -7,7 +7,8 @@ use native.Mathlib.Numerals.{unary-clauses}
 use lib.Ieee.{Float}
 use Rattle.budget.specs.declared.Budget.{Budget}
 use Rattle.scene.specs.declared.readers.Path.{Path}
-use Rattle.scene.specs.Scene.{Point, pointAt, pointsAt, cubicsAt}
+use Rattle.scene.specs.Scene.{pointAt, pointsAt, cubicsAt}
+use Rattle.values.specs.declared.Point.{Point}
 use Rattle.scene.specs.Contracts.Answers.{formBy}
 use Rattle.densify.specs.declared.append.PointCursor.{PointCursor}
 use Rattle.densify.specs.Densify.{Made, withoutDraws, andThen, cubicsOf, formPoints, closedIf}

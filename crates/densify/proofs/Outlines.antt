@@ -10,7 +10,7 @@ use Rattle.elementary.specs.Constants as K
 use Rattle.budget.specs.declared.Budget.{Budget}
 use Rattle.budget.specs.declared.Taken.{Taken}
 use Rattle.budget.specs.Budget.{grantOf, takeOf}
-use Rattle.scene.specs.Scene.{Point}
+use Rattle.values.specs.declared.Point.{Point}
 use Rattle.densify.specs.declared.append.PointCursor.{PointCursor}
 use Rattle.densify.specs.Densify.{Made, withDraw, closeRingOf, sharpCorners, roundedCorners, quarterOf, boxRingOf}
 use Rattle.densify.specs.Contracts.Written.{Written}

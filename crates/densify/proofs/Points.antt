@@ -7,7 +7,8 @@ use native.Mathlib.Omega.{arith}
 use lib.ListN.{length}
 use lib.Ieee.{Float}
 use Rattle.budget.specs.declared.Budget.{Budget}
-use Rattle.scene.specs.Scene.{Point, pointAt, pointsAt, cubicAt, cubicsAt}
+use Rattle.scene.specs.Scene.{pointAt, pointsAt, cubicAt, cubicsAt}
+use Rattle.values.specs.declared.Point.{Point}
 use Rattle.densify.specs.declared.append.PointCursor.{PointCursor}
 use Rattle.densify.specs.Densify.{Made, withoutDraws, andThen, flattenCubicOf, cubicsOf}
 use Rattle.densify.specs.Contracts.Written.{Written}

@@ -11,7 +11,8 @@ use Rattle.elementary.specs.Constants as K
 use Rattle.elementary.specs.Functions.{toRadiansOf, hypotOf, sinOf, cosOf, acosOf}
 use Rattle.budget.specs.declared.Budget.{Budget}
 use Rattle.budget.specs.Budget.{takeOf}
-use Rattle.scene.specs.Scene.{Point, Cubic, Form, curve, polyline, DrawnPath}
+use Rattle.scene.specs.Scene.{Cubic, Form, curve, polyline, DrawnPath}
+use Rattle.values.specs.declared.Point.{Point}
 
 -- ---- what a producer makes: its points, the budget after them, and its draws in order
 -- a call of `take`; `cut` says that a piece that was not flat met fewer than 2 left just before it

@@ -3,7 +3,8 @@ ghost use Prim.Native.Nat.{_≤_};
 ghost use lib.ListN.{length};
 ghost use mathlib.Core.List.{[], _∷_};
 ghost use Rattle.densify.specs.Densify.{withoutDraws, leafOf};
-ghost use Rattle.densify.specs.Contracts.Written.{pointIn, closingIn, Written};
+ghost use Rattle.densify.specs.Contracts.Written.{closingIn, Written};
+ghost use Rattle.values.specs.Contracts.Points.{pointIn};
 use budget::Budget;
 use budget::take;
 

@@ -5,7 +5,7 @@ use mathlib.Core.List.{List, [], _∷_}
 use lib.Dec.{T}
 use lib.ListN.{length}
 use lib.Ieee.Scale.{finite}
-use Rattle.scene.specs.Scene.{Point}
+use Rattle.values.specs.declared.Point.{Point}
 
 -- 3.1.1, and section 6 of RFC 8259, which knows no other numbers: longitude, then latitude, both finite
 pub record Position (p : Point) : Type 0 where

@@ -6,7 +6,8 @@ use mathlib.Core.List.{List}
 use lib.ListN.{length, drop}
 use Rattle.stream.specs.Conditions.{firstOf, NoneHolds}
 use Rattle.stream.specs.Payload.{payload}
-use Rattle.scene.specs.Scene.{Point, Scene, sceneOf}
+use Rattle.scene.specs.Scene.{Scene, sceneOf}
+use Rattle.values.specs.declared.Point.{Point}
 use Rattle.similarity.specs.Projection.{geoOf}
 use Rattle.register.specs.Register.{f0, registrationOf}
 use Rattle.budget.specs.Draws.{Draw, leftAfter, Claim}

@@ -14,11 +14,13 @@ use Rattle.stream.specs.Payload.{payload}
 use Rattle.stream.specs.Contracts.Payload.{rest}
 use Rattle.records.specs.Records.{bytesAt}
 use Rattle.scene.specs.declared.labels.Best as code-best
-use Rattle.scene.specs.Scene.{Maybe, none, some, given, Point, NamedPlace, DrawnItem}
+use Rattle.scene.specs.Scene.{NamedPlace, DrawnItem}
+use Rattle.values.specs.declared.Point.{Point}
+use Rattle.values.specs.Maybe.{Maybe, none, some, given, isSome}
 use Rattle.scene.specs.Labels.{sameBytes, pick, Key, Best, greater, consider, considerAt, labelIs, itemKey, placeKey, referencePoint}
 use Rattle.scene.specs.Contracts.Answers.{bestBy, considerPlace, considerItem, placesAt, itemsAt}
 use Rattle.names.specs.Contracts.Table.{nameOf, markOf, Table, Gap}
-use Rattle.names.specs.Contracts.Batch.{isSome, Slots, slotAt, BestIs, SlotsHold, SameNames, BestStored, Matched, placeStep, itemStep}
+use Rattle.names.specs.Contracts.Batch.{Slots, slotAt, BestIs, SlotsHold, SameNames, BestStored, Matched, placeStep, itemStep}
 use Rattle.names.specs.Laws.Order.{same-itself, key-not-same}
 
 -- ---- a label's length

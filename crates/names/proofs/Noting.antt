@@ -11,11 +11,11 @@ use lib.ListN.{length, getD, set, length-set}
 use lib.Seq.{getD-set-same, getD-set-other}
 use borrow.Author.Tests.{eq-eqb, ne-eqb}
 use Rattle.scene.specs.declared.labels.Best as code-best
-use Rattle.scene.specs.Scene.{Maybe, none, some}
+use Rattle.values.specs.Maybe.{Maybe, none, some, isSome}
 use Rattle.scene.specs.Labels.{Best}
 use Rattle.scene.specs.Contracts.Answers.{keyBy, bestBy}
 use Rattle.names.specs.Contracts.Table.{markOf, marked}
-use Rattle.names.specs.Contracts.Batch.{isSome, Slots, slotsOf, slotAt, SlotSet, SlotsHold, SameNames, BestStored}
+use Rattle.names.specs.Contracts.Batch.{Slots, slotsOf, slotAt, SlotSet, SlotsHold, SameNames, BestStored}
 
 pub same-or : (i k : ℕ) → (i ≡ k) ⊎ (i ≡ k → ⊥)
 same-or i k =

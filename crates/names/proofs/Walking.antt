@@ -10,13 +10,13 @@ use lib.Ieee.{Float}
 use lib.ListN.{getD}
 use Rattle.stream.specs.Payload.{payload}
 use Rattle.records.specs.declared.search.Hit.{Hit}
-use Rattle.scene.specs.Scene.{Maybe, none, some}
+use Rattle.values.specs.Maybe.{Maybe, none, some, isSome}
 use Rattle.scene.specs.Labels.{sameBytes, pick, Best, bestPlace, bestItem, pointOf, pointOfLabel}
 use Rattle.scene.specs.Contracts.Answers.{placesAt, itemsAt}
 use Rattle.scene.specs.Laws.Found.{Answer, One}
 use Rattle.scene.specs.Laws.Folds.{Chosen, no-place, next-place, no-item, next-item}
 use Rattle.names.specs.Contracts.Table.{nameAt, nameOf, markOf, Table, Unmarked}
-use Rattle.names.specs.Contracts.Batch.{isSome, slotPoint, Slots, slotsOf, slotAt, SlotsHold, SameNames, Matched, placeStep, placesStep, itemStep, itemsStep, LabelsMatched}
+use Rattle.names.specs.Contracts.Batch.{slotPoint, Slots, slotsOf, slotAt, SlotsHold, SameNames, Matched, placeStep, placesStep, itemStep, itemsStep, LabelsMatched}
 use Rattle.names.proofs.Meeting.{kept-same, met-none}
 
 -- ---- one step after another

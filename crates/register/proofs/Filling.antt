@@ -13,7 +13,7 @@ use Rattle.stream.specs.Contracts.Payload.{room}
 use Rattle.stream.specs.Laws.Payload.{payload-length}
 use Rattle.records.specs.Records.{bytesAt}
 use Rattle.records.specs.Laws.Tests.{or-cases}
-use Rattle.scene.specs.Scene.{none, some}
+use Rattle.values.specs.Maybe.{none, some}
 use Rattle.scene.specs.Laws.Answers.{not-given, is-given}
 use Rattle.scene.specs.Laws.Rising.{same-eq}
 use Rattle.names.specs.Contracts.Table.{Table, NameFits, Unmarked, Contains, Inserted}

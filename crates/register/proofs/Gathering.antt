@@ -24,7 +24,8 @@ use Rattle.similarity.specs.Contracts.Fours.{foursIn}
 use Rattle.register.specs.declared.controls.Tally.{Tally}
 use Rattle.register.specs.declared.controls.FilledBatch as code-filled
 use Rattle.register.specs.declared.mentions.Cursor.{Cursor}
-use Rattle.register.specs.Register.{isSome, Event, resolved, allWithinLimits, featureEvents, variableEvents, events, controlsIn, controlsOf}
+use Rattle.register.specs.Register.{Event, resolved, allWithinLimits, featureEvents, variableEvents, events, controlsIn, controlsOf}
+use Rattle.values.specs.Maybe.{isSome}
 use Rattle.register.specs.declared.survey.Survey.{Survey}
 use Rattle.register.specs.Contracts.Survey.{lonsIn, Surveyed}
 use Rattle.register.specs.Contracts.Mentions.{Mention, featureMentions, eventsOf, mentionsAt, moreOf, Follows}

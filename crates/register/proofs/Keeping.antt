@@ -16,11 +16,14 @@ use Rattle.stream.specs.Contracts.Payload.{room}
 use Rattle.records.specs.Records.{bytesAt}
 use Rattle.records.specs.Laws.Tests.{and-left}
 use Rattle.scene.specs.declared.fields.OptionalFloat.{OptionalFloat}
-use Rattle.scene.specs.Scene.{Maybe, none, some, Point, Scene, NamedFeature, sceneOf}
+use Rattle.scene.specs.Scene.{Scene, NamedFeature, sceneOf}
+use Rattle.values.specs.declared.Point.{Point}
+use Rattle.values.specs.Maybe.{Maybe, none, some, isSome}
 use Rattle.scene.specs.Labels.{sameBytes}
 use Rattle.scene.specs.Contracts.Answers.{LengthPrefixed, maybeFloat}
 use Rattle.scene.specs.Laws.Rising.{same-eq}
-use Rattle.register.specs.Register.{Warning, Event, control, warn, isSome, resolved, mentioned, eventOf, featureEvent, lonEvent}
+use Rattle.register.specs.Register.{Event, control, warn, resolved, mentioned, eventOf, featureEvent, lonEvent}
+use Rattle.values.specs.Warnings.{Warning}
 use Rattle.register.specs.Contracts.Gathered.{numbersIn}
 use Rattle.register.specs.Contracts.Warnings.{firstIs, anyNameIs, ResolvedNames, kindBy}
 

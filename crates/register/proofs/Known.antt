@@ -16,12 +16,14 @@ use Rattle.stream.specs.Contracts.Payload.{room}
 use Rattle.stream.specs.Laws.Payload.{payload-length}
 use Rattle.records.specs.Records.{bytesAt}
 use Rattle.scene.specs.declared.readers.FeatureName.{FeatureName}
-use Rattle.scene.specs.Scene.{Maybe, none, some, Point, NamedFeature, Scene, floatValueAt, sceneOf}
+use Rattle.scene.specs.Scene.{NamedFeature, Scene, floatValueAt, sceneOf}
+use Rattle.values.specs.declared.Point.{Point}
+use Rattle.values.specs.Maybe.{Maybe, none, some, isSome}
 use Rattle.scene.specs.Labels.{sameBytes}
 use Rattle.scene.specs.Contracts.Answers.{featuresAt, featuresBy, featureBy, LengthPrefixed}
 use Rattle.scene.specs.Laws.Answers.{scene-lists}
 use Rattle.names.specs.Contracts.Table.{nameOf, markOf, marked, Table, Gap}
-use Rattle.register.specs.Register.{isSome, Event, resolved, eventOf, mentioned, controlsIn}
+use Rattle.register.specs.Register.{Event, resolved, eventOf, mentioned, controlsIn}
 use Rattle.register.specs.Contracts.Mentions.{Mention, featureMentions, eventsOf}
 use Rattle.register.specs.Contracts.Gathered.{Taken, MarksTell, noName, amongFeatures, KnownCleared, grownAll}
 use Rattle.register.proofs.Filling.{next-take, next-drop}

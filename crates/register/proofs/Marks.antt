@@ -12,7 +12,8 @@ use Rattle.scene.specs.Scene.{Scene}
 use Rattle.scene.specs.Labels.{sameBytes}
 use Rattle.scene.specs.Laws.Rising.{same-eq}
 use Rattle.names.specs.Contracts.Table.{nameOf, markOf, Contains}
-use Rattle.register.specs.Register.{isSome, resolved}
+use Rattle.register.specs.Register.{resolved}
+use Rattle.values.specs.Maybe.{isSome}
 use Rattle.register.specs.Contracts.Gathered.{Taken, MarksTell, Fewer}
 
 pub same-self : (x : List ℕ) → sameBytes x x ≡ true

@@ -6,11 +6,13 @@ use mathlib.Core.Bool.{Bool, true, false, not, _&&_, Bool·beq}
 use Prim.Native.Nat.{ℕ}
 use native.Mathlib.Omega.{arith}
 use lib.Ieee.{Float, binary64, mul, div, lt}
-use Rattle.scene.specs.Scene.{Maybe, some, given, Point, Scene, sceneOf}
+use Rattle.scene.specs.Scene.{Scene, sceneOf}
+use Rattle.values.specs.declared.Point.{Point}
+use Rattle.values.specs.Maybe.{Maybe, some, given, orValue, isSome}
 use Rattle.scene.specs.declared.fields.OptionalFloat.{OptionalFloat}
 use Rattle.scene.specs.Contracts.Answers.{maybeFloat, variablesAt}
 use Rattle.register.specs.declared.declared.Geo.{Geo}
-use Rattle.register.specs.Register.{f0, orValue, isSome, var, bothOf, onlyOne, pxMode, declaredBearing, scaleValue, above0, effectiveScale}
+use Rattle.register.specs.Register.{f0, var, bothOf, onlyOne, pxMode, declaredBearing, scaleValue, above0, effectiveScale}
 use Rattle.register.specs.Contracts.Survey.{Each, Agrees}
 use Rattle.register.specs.Contracts.Outcome.{checkedOf, declaredOutcome}
 

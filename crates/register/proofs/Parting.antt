@@ -9,11 +9,13 @@ use lib.Seq.{take-add, take-length, take-nil, take-append-seam}
 use lib.Ieee.{Float}
 use Rattle.stream.specs.Payload.{payload}
 use Rattle.records.specs.Layout.{before}
-use Rattle.scene.specs.Scene.{Maybe, none, some, Point, Scene, NamedFeature, NamedValue, sceneOf}
+use Rattle.scene.specs.Scene.{Scene, NamedFeature, NamedValue, sceneOf}
+use Rattle.values.specs.declared.Point.{Point}
+use Rattle.values.specs.Maybe.{Maybe, none, some, isSome}
 use Rattle.scene.specs.Labels.{sameBytes}
 use Rattle.scene.specs.Contracts.Answers.{featuresAt, variablesAt}
 use Rattle.scene.specs.Laws.Rising.{Rising, before-trans, before-itself, same-eq}
-use Rattle.register.specs.Register.{isSome, Event, resolved, mentioned, eventOf, suffixLon, suffixLat, var, stem, isLon, featureEvent, featureEvents, lonEvent, consIf, variableEvents, controlsIn}
+use Rattle.register.specs.Register.{Event, resolved, mentioned, eventOf, suffixLon, suffixLat, var, stem, isLon, featureEvent, featureEvents, lonEvent, consIf, variableEvents, controlsIn}
 use Rattle.register.specs.Contracts.Mentions.{Mention, featureMentions, lonMention, lonMentions, eventWith, grownBy, eventsOf, mentionsAt, Follows}
 use Rattle.register.specs.declared.mentions.Cursor.{Cursor}
 use Rattle.similarity.specs.declared.fit.Control.{Control}

@@ -8,60 +8,15 @@ use lib.ListN.{length, set, length-set}
 use lib.Dec.{leb}
 use borrow.Author.Tests.{le-leb, lt-leb, leb-true, not-true, not-false}
 use Rattle.records.specs.Laws.Tests.{and-right}
-use Rattle.scene.specs.Scene.{given, Scene}
+use Rattle.scene.specs.Scene.{Scene}
+use Rattle.values.specs.Maybe.{given, isSome}
 use Rattle.register.specs.declared.declared.Declared.{Declared}
-use Rattle.register.specs.declared.warnings.WarningCursor.{WarningCursor}
-use Rattle.register.specs.Register.{Warning, Event, control, warn, warningsIn, isSome, ignored, ignoredWith, anyDeclared, anchorOf}
+use Rattle.values.specs.declared.WarningCursor.{WarningCursor}
+use Rattle.register.specs.Register.{Event, control, warn, warningsIn, ignored, ignoredWith, anyDeclared, anchorOf}
+use Rattle.values.specs.Warnings.{Warning}
 use Rattle.register.specs.Contracts.Survey.{Declares}
-use Rattle.register.specs.Contracts.Warnings.{WarningSlice, pushed, allPushed}
-
-abbrev pub sheet : List ℕ → WarningCursor → WarningSlice
-sheet out w = record { out = out; cursor = w }
-
-pub sheets : {out out′ : List ℕ} {w w′ : WarningCursor} → out ≡ out′ → w ≡ w′ → sheet out w ≡ sheet out′ w′
-sheets e f = cc
-
--- ---- one more
-module _ (out : List ℕ) (w : WarningCursor) (v : Warning) where
-  pub push-shut : not (w .ok) ≡ true → sheet out w ≡ pushed v (sheet out w)
-  unfolding pushed
-  push-shut e = rw (not-true (w .ok) e) refl
-
-  module _ (e : not (w .ok) ≡ false) (h : w .used ≤ length out) where
-    pub push-full : length out - w .used < 2 → sheet out (record { ok = false; used = w .used }) ≡ pushed v (sheet out w)
-    unfolding pushed
-    push-full f = rw (not-false (w .ok) e, lt-leb (w .used + 2) (length out) (omega arith)) refl
-
-    pub push-more : 2 ≤ length out - w .used → sheet (set (set out (w .used) (v .kind)) (w .used + 1) (v .index)) (record { ok = true; used = w .used + 2 }) ≡ pushed v (sheet out w)
-    unfolding pushed
-    push-more f = rw (not-false (w .ok) e, le-leb (w .used + 2) (length out) (omega arith)) refl
-
--- ---- a sheet that is used no further than it goes
-abbrev pub Fits : WarningSlice → Type 0
-Fits t = t .cursor .used ≤ length (t .out)
-
-pub one-kept : (v : Warning) (t : WarningSlice) (b : Bool) → (t .cursor .ok && leb (t .cursor .used + 2) (length (t .out))) ≡ b → length (pushed v t .out) ≡ length (t .out)
-unfolding pushed
-one-kept v t true e = rw (e, length-set, length-set) refl
-one-kept v t false e = rw e refl
-
-one-fits : (v : Warning) (t : WarningSlice) (b : Bool) → (t .cursor .ok && leb (t .cursor .used + 2) (length (t .out))) ≡ b → Fits t → Fits (pushed v t)
-unfolding pushed
-one-fits v t true e h = rw (e, length-set, length-set) (leb-true _ _ (and-right (t .cursor .ok) _ e))
-one-fits v t false e h = rw e h
-
-pub push-fits : (v : Warning) (t : WarningSlice) {t′ : WarningSlice} → t′ ≡ pushed v t → Fits t → Fits t′
-push-fits v t e h = rw e (one-fits v t _ refl h)
-
-all-kept : (ws : List Warning) (t : WarningSlice) → length (allPushed ws t .out) ≡ length (t .out)
-unfolding allPushed
-all-kept [] t = refl
-all-kept (w ∷ ws) t = all-kept ws (pushed w t) ∙ one-kept w t _ refl
-
-pub pushed-append : (vs ws : List Warning) (t : WarningSlice) → allPushed (vs ++ ws) t ≡ allPushed ws (allPushed vs t)
-unfolding allPushed
-pushed-append [] ws t = refl
-pushed-append (v ∷ vs) ws t = pushed-append vs ws (pushed v t)
+use Rattle.values.specs.Laws.Warnings.{sliceOf, same-slice, Fits, push-fits, all-kept, pushed-append}
+use Rattle.values.specs.Contracts.Warnings.{WarningSlice, pushed, allPushed}
 
 -- ---- these warnings are written
 abbrev pub Written : List Warning → WarningSlice → WarningSlice → Type 0

@@ -14,7 +14,9 @@ use borrow.Author.Tests.{eq-eqb, ne-eqb, leb-true, leb-false, not-true, not-fals
 use Rattle.stream.specs.Payload.{payload}
 use Rattle.records.specs.Records.{bytesAt}
 use Rattle.scene.specs.declared.fields.OptionalFloat.{OptionalFloat}
-use Rattle.scene.specs.Scene.{Maybe, none, some, Point, Scene, sceneOf}
+use Rattle.scene.specs.Scene.{Scene, sceneOf}
+use Rattle.values.specs.declared.Point.{Point}
+use Rattle.values.specs.Maybe.{Maybe, none, some, isSome}
 use Rattle.scene.specs.Contracts.Answers.{maybeFloat}
 use Rattle.similarity.specs.declared.fit.Control.{Control}
 use Rattle.names.specs.Contracts.Table.{markOf, Table, Contains}
@@ -22,7 +24,8 @@ use Rattle.names.specs.Contracts.Batch.{slotPoint}
 use Rattle.register.specs.declared.controls.Tally.{Tally}
 use Rattle.register.specs.declared.mentions.Cursor.{Cursor}
 use Rattle.register.specs.declared.mentions.Mention as code-mention
-use Rattle.register.specs.Register.{isSome, Warning, Event, control, warn, resolved, eventOf, controlsIn}
+use Rattle.register.specs.Register.{Event, control, warn, resolved, eventOf, controlsIn}
+use Rattle.values.specs.Warnings.{Warning}
 use Rattle.register.specs.Contracts.Mentions.{Mention, eventWith, grownBy, eventsOf, mentionsAt, moreOf, mentionBy, Follows, Asked}
 use Rattle.register.specs.Contracts.Gathered.{numbersIn, Holds, among, named, Taken, MarksTell, BeforeRead, againOf, grownAll, AfterRead, pointIn}
 use Rattle.register.proofs.Marks.{same-self, fewer-trans, in-stays, waits-by, taken-fewer, taken-waits}

@@ -11,7 +11,8 @@ use borrow.Author.Tests.{not-true, not-false, le-ltb}
 use Rattle.records.specs.Records.{bytesAt}
 use Rattle.records.specs.Layout.{before}
 use Rattle.scene.specs.declared.readers.Variable.{Variable}
-use Rattle.scene.specs.Scene.{none, some, NamedValue}
+use Rattle.scene.specs.Scene.{NamedValue}
+use Rattle.values.specs.Maybe.{none, some}
 use Rattle.scene.specs.Labels.{sameBytes, variableOf}
 use Rattle.scene.specs.Contracts.Answers.{variablesAt, variablesBy}
 use Rattle.records.specs.Laws.Names.{part-length}

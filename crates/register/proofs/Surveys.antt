@@ -12,8 +12,9 @@ use Rattle.records.specs.Contracts.Hits.{SkipsTo}
 use Rattle.scene.specs.declared.fields.OptionalFloat.{OptionalFloat}
 use Rattle.scene.specs.declared.readers.Feature.{Feature}
 use Rattle.scene.specs.declared.readers.Variable.{Variable}
-use Rattle.scene.specs.Scene.{Maybe, none, some, given, NamedValue, sceneOf, variableAt, placeAt, itemAt}
-use Rattle.scene.specs.Labels.{sameBytes, pick, variableOf, orElse}
+use Rattle.scene.specs.Scene.{NamedValue, sceneOf, variableAt, placeAt, itemAt}
+use Rattle.values.specs.Maybe.{Maybe, none, some, given, orElse}
+use Rattle.scene.specs.Labels.{sameBytes, pick, variableOf}
 use Rattle.scene.specs.Contracts.Answers.{maybeFloat, featuresAt, featuresBy, variablesAt, variablesBy, LabelsFrom, VariablesFrom}
 use Rattle.register.specs.declared.declared.Declared.{Declared}
 use Rattle.register.specs.declared.declared.Geo.{Geo}

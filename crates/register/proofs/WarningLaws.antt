@@ -18,14 +18,17 @@ use Rattle.scene.specs.Laws.Answers.{scene-lists}
 use Rattle.scene.specs.Laws.Rising.{Rising}
 use Rattle.register.specs.declared.mentions.Cursor.{Cursor}
 use Rattle.register.specs.declared.mentions.Mention as code-mention
-use Rattle.register.specs.Register.{Event, control, warn, isSome, resolved, mentioned, featureEvent, featureEvents, variableEvents, events, warningsIn, controlsOf, viewWarnings, halfWarnings, ignoredWith, registerWarnings}
+use Rattle.register.specs.Register.{Event, control, warn, resolved, mentioned, featureEvent, featureEvents, variableEvents, events, warningsIn, controlsOf, viewWarnings, halfWarnings, ignoredWith, registerWarnings}
+use Rattle.values.specs.Maybe.{isSome}
 use Rattle.register.specs.Contracts.Gathered.{numbersIn, Kept}
 use Rattle.register.specs.Contracts.Mentions.{lonMentions, mentionsAt, mentionBy, Follows, Asked}
-use Rattle.register.specs.Contracts.Warnings.{WarningSlice, pushed, allPushed, firstIs, anyNameIs, ResolvedNames, AfterFeatures, kindBy}
+use Rattle.register.specs.Contracts.Warnings.{firstIs, anyNameIs, ResolvedNames, AfterFeatures, kindBy}
+use Rattle.values.specs.Contracts.Warnings.{WarningSlice, pushed, allPushed}
 use Rattle.register.proofs.Declarations.{along}
 use Rattle.register.proofs.Parting.{eventAt, eventsAt, mention-events}
 use Rattle.register.proofs.Keeping.{isControl, kept-is, kept-fits, kept-control, kept-warn, taken-more, feature-warns, heading-same, heading-more, lon-warns}
-use Rattle.register.proofs.Pushing.{Fits, push-fits, one-kept, pushed-append, warnings-append}
+use Rattle.values.specs.Laws.Warnings.{Fits, push-fits, one-kept, pushed-append}
+use Rattle.register.proofs.Pushing.{warnings-append}
 
 -- ---- one event more
 control-next : (e : Event) (es : List Event) (t : WarningSlice) → isControl e ≡ true → allPushed (warningsIn (e ∷ es)) t ≡ allPushed (warningsIn es) t

@@ -2,7 +2,6 @@
 pub mod Names
 pub mod Outcomes
 pub mod Kept
-pub mod Near
 pub mod Sound
 pub mod Everything
 pub mod Samples

@@ -6,10 +6,13 @@ use lib.ListN.{length, take, drop}
 use lib.Dec.{eqb, ltb}
 use lib.Ieee.{Float, binary64, ofBits, mul, div, eq, ne, lt, le}
 use lib.Ieee.Scale.{finite}
+use Rattle.values.specs.Warnings.{Warning}
+use Rattle.values.specs.Maybe.{orValue, isSome, Maybe, none, some, orElse}
 use Rattle.float.specs.Functions.{absOf}
 use Rattle.stream.specs.Conditions.{Condition}
-use Rattle.scene.specs.Scene.{Maybe, none, some, Point, NamedFeature, NamedValue, Scene}
-use Rattle.scene.specs.Labels.{sameBytes, variableOf, orElse, pointOfLabel}
+use Rattle.scene.specs.Scene.{NamedFeature, NamedValue, Scene}
+use Rattle.values.specs.declared.Point.{Point}
+use Rattle.scene.specs.Labels.{sameBytes, variableOf, pointOfLabel}
 use Rattle.similarity.specs.declared.fit.Control.{Control}
 use Rattle.similarity.specs.declared.fit.Fit.{Fit}
 use Rattle.similarity.specs.declared.projection.Registration.{Registration}
@@ -66,14 +69,6 @@ abbrev pub maxScale : Float
 maxScale = ofBits binary64 0x41cdcd6500000000
 
 -- ---- options and variables of the scene
-abbrev pub orValue : {A : Type 0} → Maybe A → A → A
-orValue (some x) d = x
-orValue none d = d
-
-abbrev pub isSome : {A : Type 0} → Maybe A → Bool
-isSome (some x) = true
-isSome none = false
-
 -- `var`
 abbrev pub var : Scene → List ℕ → Maybe Float
 var sc name = variableOf name (sc .variables)
@@ -98,10 +93,6 @@ abbrev pub declaredBearing : Scene → Maybe Float
 declaredBearing sc = orElse (sc .bearing) (var sc geoBearing)
 
 -- ---- control points: what each host feature and each `_lon` variable comes to, in order
-pub record Warning : Type 0 where
-  pub kind : ℕ
-  pub index : ℕ
-
 pub data Event : Type 0 where
   control : Control → Event
   warn : Warning → Event

@@ -9,7 +9,7 @@ ghost use lib.ListN.{length};
 ghost use Rattle.stream.specs.Payload.{payload};
 ghost use Rattle.stream.specs.Contracts.Payload.{room};
 ghost use Rattle.records.specs.Records.{bytesAt};
-ghost use Rattle.scene.specs.Scene.{Maybe};
+ghost use Rattle.values.specs.Maybe.{Maybe};
 ghost use Rattle.scene.specs.Labels.{sameBytes, variableOf};
 ghost use Rattle.scene.specs.Contracts.Answers.{maybeFloat, variablesAt};
 ghost use Rattle.scene.specs.Laws.Rising.{Rising};

@@ -12,5 +12,4 @@ pub use outcome::refuse;
 pub use outcome::register;
 pub use survey::Survey;
 pub use survey::survey_stream;
-pub use warnings::WarningCursor;
 pub use warnings::write_warnings;

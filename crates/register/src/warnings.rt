@@ -12,7 +12,8 @@ ghost use Rattle.scene.specs.Contracts.Answers.{maybeFloat};
 ghost use Rattle.register.specs.Register.{featureEvents, variableEvents, events, warningsIn, controlsOf, viewWarnings, halfWarnings, anyDeclared, ignoredWith, registerWarnings};
 ghost use Rattle.register.specs.Contracts.Survey.{Declares, Surveyed};
 ghost use Rattle.register.specs.Contracts.Gathered.{numbersIn, Kept};
-ghost use Rattle.register.specs.Contracts.Warnings.{pushed, allPushed, firstIs, anyNameIs, NamesFit, AfterFeatures, kindBy};
+ghost use Rattle.register.specs.Contracts.Warnings.{firstIs, anyNameIs, NamesFit, AfterFeatures, kindBy};
+ghost use Rattle.values.specs.Contracts.Warnings.{pushed, allPushed};
 use crate::declared::Declared;
 use crate::mentions::Cursor;
 use crate::mentions::Mention;
@@ -20,34 +21,8 @@ use crate::mentions::next_mention;
 use crate::survey::Survey;
 use scene::name_at_equals;
 use scene::next_name;
-
-// How far the slice is used, in numbers, and whether everything fitted.
-#[repr(C)]
-pub struct WarningCursor {
-    pub ok: bool,
-    pub used: usize,
-}
-
-// One more warning.
-fn push(out: &mut [u32], w: WarningCursor, kind: u32, index: u32) -> WarningCursor
-    requires { ⌜ w .used ≤ length (now out) ⌝ }
-    ensures { λ r. ⌜ record { out = now (out .exit); cursor = r }
-        ≡ pushed (record { kind = kind; index = index }) (record { out = now (out .entry); cursor = w }) ⌝ }
-{
-    let n = w.used;
-    if !w.ok {
-        return w;
-    }
-    if out.len() - n < 2 {
-        return WarningCursor { ok: false, used: n };
-    }
-    out[n] = kind;
-    out[n + 1] = index;
-    WarningCursor {
-        ok: true,
-        used: n + 2,
-    }
-}
+use values::WarningCursor;
+use values::push_warning;
 
 // What the walk over the host features comes to: how many there are, and how many of them are control points.
 pub struct FeatureWarnings {
@@ -103,7 +78,7 @@ fn warn_features(
             heads[h] = (f.at - 1) as u32;
             h += 1;
         } else {
-            warned = push(out, warned, 2, i as u32);
+            warned = push_warning(out, warned, 2, i as u32);
         }
         i += 1;
     }
@@ -181,7 +156,7 @@ fn warn_lons(
         if is_kept(kept, n, k, j) {
             k += 1;
         } else {
-            warned = push(out, warned, kind_of(s, heads, h, m), m.index as u32);
+            warned = push_warning(out, warned, kind_of(s, heads, h, m), m.index as u32);
         }
         j += 1;
     }
@@ -224,7 +199,7 @@ fn warn_view(d: Declared, out: &mut [u32], w: WarningCursor) -> WarningCursor
     if d.px {
         return w;
     }
-    push(out, w, 1, 0)
+    push_warning(out, w, 1, 0)
 }
 
 // 2: half an anchor.
@@ -237,7 +212,7 @@ fn warn_half(d: Declared, out: &mut [u32], w: WarningCursor) -> WarningCursor
     if !d.half {
         return w;
     }
-    push(out, w, 2, 0)
+    push_warning(out, w, 2, 0)
 }
 
 // Whether a scale, a bearing or geo_px is declared.
@@ -268,12 +243,12 @@ fn warn_ignored(d: Declared, out: &mut [u32], w: WarningCursor, n: u32) -> Warni
     let mut warned = w;
     if n >= 2 {
         if declares(d) {
-            warned = push(out, warned, 4, 0);
+            warned = push_warning(out, warned, 4, 0);
         }
     }
     let anchor = d.anchor;
     if anchor.some {
-        warned = push(out, warned, 4, 0);
+        warned = push_warning(out, warned, 4, 0);
     }
     warned
 }

@@ -4,7 +4,8 @@ use mathlib.Core.Bool.{Bool, true, false, not, _&&_, _||_, Bool·beq, or-false}
 use native.Mathlib.Omega.{arith}
 use lib.Dec.{eqb, ltb}
 use borrow.Author.Tests.{le-ltb, eq-eqb, ne-eqb, not-true, not-false}
-use Rattle.scene.specs.Scene.{some, given, Point}
+use Rattle.values.specs.declared.Point.{Point}
+use Rattle.values.specs.Maybe.{some, given}
 use Rattle.scene.specs.Labels.{Key, Best, greater, consider}
 
 -- ---- the code's test of two flags

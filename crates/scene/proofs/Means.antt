@@ -5,7 +5,8 @@ use Prim.Native.Nat.{ℕ, _+_, _-_, _*_, _≤_, _<_}
 use native.Mathlib.Nat.{add-zero, sub-zero}
 use lib.IntN.{pos}
 use lib.Ieee.{Float, binary64, ofBits, ofInt, add, div}
-use Rattle.scene.specs.Scene.{Point, pointAt, pointsAt}
+use Rattle.scene.specs.Scene.{pointAt, pointsAt}
+use Rattle.values.specs.declared.Point.{Point}
 use Rattle.scene.specs.Labels.{sumOf, meanOf, meanPoint}
 use Rattle.scene.specs.Laws.Points.{points-length, sum-step, sum-ends}
 

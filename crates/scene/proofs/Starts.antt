@@ -8,7 +8,9 @@ use borrow.Author.Tests.{not-true, not-false}
 use Rattle.scene.specs.declared.readers.Item.{Item}
 use Rattle.scene.specs.declared.readers.Path.{Path}
 use Rattle.scene.specs.declared.readers.Points.{Points}
-use Rattle.scene.specs.Scene.{Maybe, none, some, Point, pointAt, pointsAt, DrawnPath}
+use Rattle.scene.specs.Scene.{pointAt, pointsAt, DrawnPath}
+use Rattle.values.specs.declared.Point.{Point}
+use Rattle.values.specs.Maybe.{Maybe, none, some}
 use Rattle.scene.specs.Labels.{startOf, firstStart, meanPoint, meanOrStart, referencePoint}
 use Rattle.scene.specs.Contracts.Answers.{maybePoint, pointsFrom, pointsBy, pathsFrom, pathsBy, itemBy}
 

@@ -12,7 +12,9 @@ use Rattle.stream.specs.Contracts.Payload.{rest}
 use Rattle.stream.specs.Numbers.{floatAt}
 use Rattle.stream.specs.declared.Float64.{Float64}
 use Rattle.stream.specs.declared.Float64.the-variants.{Finite, NotFinite}
-use Rattle.scene.specs.Scene.{none, some, given, valueOf, floatValueAt, bit, Point, pointAt}
+use Rattle.scene.specs.Scene.{valueOf, floatValueAt, bit, pointAt}
+use Rattle.values.specs.declared.Point.{Point}
+use Rattle.values.specs.Maybe.{none, some, given}
 
 module _ (s : List ℕ) (p : ℕ) {f : Float64} (e : f ≡ floatAt (rest s 0) p) where
   pub number-finite : {v : Float} → f ≡ Finite v → v ≡ floatValueAt (payload s) p

@@ -6,7 +6,9 @@ use lib.ListN.{length}
 use lib.Dec.{eqb, ltb}
 use lib.IntN.{pos}
 use lib.Ieee.{Float, binary64, ofBits, ofInt, add, div}
-use Rattle.scene.specs.Scene.{Maybe, none, some, Point, Form, curve, polyline, DrawnPath, NamedValue, NamedPlace, DrawnItem}
+use Rattle.values.specs.Maybe.{orElse, Maybe, none, some}
+use Rattle.scene.specs.Scene.{Form, curve, polyline, DrawnPath, NamedValue, NamedPlace, DrawnItem}
+use Rattle.values.specs.declared.Point.{Point}
 
 -- ---- a variable by its name
 unfoldable pub sameBytes : List ℕ → List ℕ → Bool
@@ -50,10 +52,6 @@ unfoldable pub meanOrStart : Maybe (List Point) → List DrawnPath → Maybe Poi
 meanOrStart none paths = firstStart paths
 meanOrStart (some []) paths = firstStart paths
 meanOrStart (some (p ∷ ps)) paths = some (meanPoint (p ∷ ps))
-
-abbrev pub orElse : {A : Type 0} → Maybe A → Maybe A → Maybe A
-orElse (some x) y = some x
-orElse none y = y
 
 unfoldable pub referencePoint : DrawnItem → Maybe Point
 referencePoint it = orElse (it .at) (meanOrStart (it .points) (it .paths))

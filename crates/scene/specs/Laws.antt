@@ -9,3 +9,4 @@ pub mod Samples
 pub mod Found
 pub mod Folds
 pub mod Items
+pub mod Near

@@ -5,6 +5,8 @@ use mathlib.Core.List.{List, [], _∷_, map}
 use lib.ListN.{getD}
 use lib.Dec.{eqb, ltb}
 use lib.Ieee.{Float, binary64, ofBits}
+use Rattle.values.specs.declared.Point.{Point}
+use Rattle.values.specs.Maybe.{Maybe, none, some, given}
 use Rattle.stream.specs.Numbers.{u16At, u32At, floatAt}
 use Rattle.stream.specs.declared.Float64.{Float64}
 use Rattle.stream.specs.declared.Float64.the-variants.{Finite, NotFinite}
@@ -12,15 +14,6 @@ use Rattle.records.specs.Records.{valuesWidth, bytesAt}
 use Rattle.records.specs.Walk.{Entry, entries}
 use Rattle.records.specs.Search.{recordsOf}
 use Rattle.records.specs.Values.{flattenIn}
-
-pub data Maybe (A : Type 0) : Type 0 where
-  none : Maybe A
-  some : A → Maybe A
-
--- what may be absent, by its mark
-abbrev pub given : {A : Type 0} → Bool → A → Maybe A
-given true x = some x
-given false x = none
 
 -- what the first of some records holds, if there is one: an option stands at most once, and so does an item's role of points
 abbrev pub first : {A : Type 0} → (List ℕ → A) → List (List ℕ) → Maybe A
@@ -42,10 +35,6 @@ bit x zero = false
 bit x (suc k) = eqb (x / suc k % 2) 1
 
 -- ---- points
-pub record Point : Type 0 where
-  pub x : Float
-  pub y : Float
-
 unfoldable pub pointAt : List ℕ → ℕ → Point
 pointAt l p = record { x = floatValueAt l p; y = floatValueAt l (p + 8) }
 

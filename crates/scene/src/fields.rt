@@ -4,15 +4,11 @@ ghost use mathlib.Core.Bool.{true, false};
 ghost use Prim.Native.Nat.{_+_, _*_, _≤_};
 ghost use Rattle.stream.specs.Payload.{payload};
 ghost use Rattle.stream.specs.Contracts.Payload.{room};
-ghost use Rattle.scene.specs.Scene.{given, bit, floatValueAt, pointAt};
-ghost use Rattle.scene.specs.Contracts.Answers.{maybeFloat, maybePoint, pointBy};
+ghost use Rattle.scene.specs.Scene.{bit, floatValueAt, pointAt};
+ghost use Rattle.values.specs.Maybe.{given};
+ghost use Rattle.scene.specs.Contracts.Answers.{maybeFloat, maybePoint};
 use stream::Float64;
-
-#[repr(C)]
-pub struct Point {
-    pub x: f64,
-    pub y: f64,
-}
+use values::Point;
 
 // A number, or a point, that may be absent: `some` says whether it is there. Where it is false the other fields are
 // free.
@@ -79,7 +75,7 @@ pub fn point_if(s: &[u8], some: bool, p: usize) -> OptionalPoint
 // The i-th point of those from `at` on.
 pub fn point_at(s: &[u8], at: usize, i: usize) -> Point
     requires { ⌜ at + 16 * i + 16 ≤ room (now s) ⌝ }
-    ensures { λ r. ⌜ pointBy r ≡ pointAt (payload (now (s .entry))) (at + 16 * i) ⌝ }
+    ensures { λ r. ⌜ r ≡ pointAt (payload (now (s .entry))) (at + 16 * i) ⌝ }
 {
     let p = at + 16 * i;
     Point {

@@ -5,12 +5,12 @@ ghost use Prim.Native.Nat.{_+_, _*_, _≤_};
 ghost use Rattle.stream.specs.Payload.{payload};
 ghost use Rattle.stream.specs.Contracts.Payload.{room};
 ghost use Rattle.records.specs.Records.{bytesAt};
-ghost use Rattle.scene.specs.Scene.{none, pointsAt};
+ghost use Rattle.scene.specs.Scene.{pointsAt};
+ghost use Rattle.values.specs.Maybe.{none};
 ghost use Rattle.scene.specs.Labels.{meanPoint, firstStart, meanOrStart, referencePoint, greater, consider, considerAt, itemKey, bestPlace, bestItem, pointOfLabel};
-ghost use Rattle.scene.specs.Contracts.Answers.{considerPlace, considerItem, pointBy, maybePoint, keyBy, bestBy, pointsFrom, pathsFrom, placesAt, itemsAt, itemBy};
+ghost use Rattle.scene.specs.Contracts.Answers.{considerPlace, considerItem, maybePoint, keyBy, bestBy, pointsFrom, pathsFrom, placesAt, itemsAt, itemBy};
 use crate::names::label_at_equals;
 use crate::names::name_at_equals;
-use crate::fields::Point;
 use crate::fields::OptionalPoint;
 use crate::fields::point_at;
 use crate::fields::point_if;
@@ -22,6 +22,7 @@ use crate::readers::points_of;
 use records::find;
 use records::seek;
 use records::wide16;
+use values::Point;
 
 // Where in the source a label is defined. Of equal ones the first stays.
 pub struct Key {
@@ -48,7 +49,7 @@ pub struct BestPlace {
 // The mean of points, each sum from 0 in their order.
 fn mean(s: &[u8], at: usize, count: u16) -> Point
     requires { ⌜ at + 16 * count ≤ room (now s) ⌝ }
-    ensures { λ r. ⌜ pointBy r ≡ meanPoint (pointsAt (payload (now (s .entry))) at count) ⌝ }
+    ensures { λ r. ⌜ r ≡ meanPoint (pointsAt (payload (now (s .entry))) at count) ⌝ }
 {
     let mut x = 0.0f64;
     let mut y = 0.0f64;

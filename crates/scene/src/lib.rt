@@ -21,7 +21,6 @@ pub use labels::point_of_label;
 pub use names::name_at_equals;
 pub use names::name_is;
 pub use names::names_equal;
-pub use fields::Point;
 pub use fields::OptionalPoint;
 pub use fields::OptionalFloat;
 pub use fields::point_at;

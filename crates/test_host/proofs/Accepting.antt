@@ -8,13 +8,15 @@ use lib.Dec.{eqb}
 use borrow.Author.Tests.{eq-eqb, ne-eqb, eqb-true, eqb-false}
 use Rattle.stream.specs.Payload.{payload}
 use Rattle.records.specs.Contracts.Refusals.{refusalOf}
-use Rattle.scene.specs.Scene.{Maybe, Point, Scene, sceneOf}
+use Rattle.scene.specs.Scene.{Scene, sceneOf}
+use Rattle.values.specs.declared.Point.{Point}
+use Rattle.values.specs.Maybe.{Maybe}
 use Rattle.similarity.specs.declared.fit.Control.{Control}
 use Rattle.similarity.specs.declared.projection.Registration.{Registration}
 use Rattle.register.specs.declared.outcome.Outcome.{Outcome}
 use Rattle.register.specs.Register.{controlsOf, anchorOf, registrationBy, registrationOf, registerWarnings}
 use Rattle.register.specs.Contracts.Outcome.{registerRefusal, accepted, refusedBy, pickOutcome, outcomeOf}
-use Rattle.register.specs.Contracts.Warnings.{WarningSlice, allPushed}
+use Rattle.values.specs.Contracts.Warnings.{WarningSlice, allPushed}
 use Rattle.test_host.specs.Contracts.Answer.{answerOf, warnedOf, nothing}
 
 counted : (sc : Scene) (a : Maybe Point) (cs : List Control) → registrationBy sc a cs .controls ≡ length cs

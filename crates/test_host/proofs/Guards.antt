@@ -9,7 +9,9 @@ use Rattle.stream.specs.Payload.{payload}
 use Rattle.stream.specs.Contracts.Payload.{room}
 use Rattle.stream.specs.Laws.Payload.{payload-length}
 use Rattle.records.specs.Records.{bytesAt}
-use Rattle.scene.specs.Scene.{Maybe, none, some, Point, pointAt, sceneOf}
+use Rattle.scene.specs.Scene.{pointAt, sceneOf}
+use Rattle.values.specs.declared.Point.{Point}
+use Rattle.values.specs.Maybe.{Maybe, none, some}
 use Rattle.scene.specs.Labels.{pointOfLabel}
 use Rattle.scene.specs.Contracts.Answers.{placesAt, itemsAt}
 use Rattle.test_host.specs.Contracts.Guarded.{spotIn, labelIn}

@@ -6,7 +6,7 @@ use Rattle.similarity.specs.declared.projection.Registration.{Registration}
 use Rattle.similarity.specs.declared.projection.Projection.{Projection}
 use Rattle.similarity.specs.Projection.{projectionOf}
 use Rattle.budget.specs.declared.Budget.{Budget}
-use Rattle.scene.specs.Scene.{Point}
+use Rattle.values.specs.declared.Point.{Point}
 use Rattle.densify.specs.declared.append.PointCursor.{PointCursor}
 use Rattle.densify.specs.Densify.{Made, densifyPolylineOf}
 use Rattle.densify.specs.Contracts.Written.{Written, projected}

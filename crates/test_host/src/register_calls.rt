@@ -4,10 +4,10 @@ ghost use Rattle.similarity.specs.Projection.{toLonLatOf};
 ghost use Rattle.test_host.specs.Contracts.Answer.{answerOf, warnedOf};
 use geodesy::LonLat;
 use register::Outcome;
-use register::WarningCursor;
 use similarity::Registration;
 use similarity::to_lonlat;
 use similarity::projection_of;
+use values::WarningCursor;
 
 // Refusals 1 to 14, or 0 and the registration.
 #[no_mangle]

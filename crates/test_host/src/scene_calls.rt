@@ -2,7 +2,8 @@
 ghost use mathlib.Core.Path.{_≡_};
 ghost use Rattle.stream.specs.Payload.{payload};
 ghost use Rattle.records.specs.Contracts.Refusals.{refusalOf};
-ghost use Rattle.scene.specs.Scene.{Maybe, sceneOf};
+ghost use Rattle.scene.specs.Scene.{sceneOf};
+ghost use Rattle.values.specs.Maybe.{Maybe};
 ghost use Rattle.scene.specs.Contracts.Answers.{maybeFloat, maybePoint, frameBy, featuresAt, featuresBy, variablesAt, variablesBy, placesAt, placesBy, itemsAt, itemsBy, pointsFrom, pointsBy, pathsFrom, pathsBy};
 ghost use Rattle.test_host.specs.Contracts.Guarded.{spotIn, labelIn};
 use scene::Feature;

@@ -7,14 +7,18 @@ use lib.ListN.{length, set, getD}
 use lib.Dec.{leb}
 use lib.Ieee.{Float, nan}
 use Rattle.scene.specs.declared.readers.Path.{Path}
-use Rattle.scene.specs.Scene.{Maybe, none, some, given, Point, DrawnPath}
+use Rattle.scene.specs.Scene.{DrawnPath}
+use Rattle.values.specs.declared.Point.{Point}
+use Rattle.values.specs.Maybe.{Maybe, none, some, given}
 use Rattle.budget.specs.declared.Budget.{Budget}
 use Rattle.densify.specs.declared.append.PointCursor.{PointCursor}
 use Rattle.densify.specs.Densify.{Made, closeRingOf, pathPointsOf, ellipseRingOf, boxRingOf}
-use Rattle.densify.specs.Contracts.Written.{pointsIn, drawnBy}
-use Rattle.densify.specs.Positions.{flats}
+use Rattle.densify.specs.Contracts.Written.{drawnBy}
+use Rattle.values.specs.Contracts.Points.{pointsIn}
+use Rattle.values.specs.Points.{flats}
 use Rattle.geojson.specs.declared.Feature.{Feature}
-use Rattle.geojson.specs.Features.{putWords, wordsOf}
+use Rattle.geojson.specs.Features.{wordsOf}
+use Rattle.values.specs.Slices.{put}
 use Rattle.convert.specs.declared.workspace.Workspace.{Workspace}
 use Rattle.convert.specs.declared.state.Ctx.{Ctx}
 use Rattle.convert.specs.declared.state.Props.{Props}
@@ -74,7 +78,7 @@ abbrev pub lineBy : Props → ℕ → ℕ → ℕ → Feature
 lineBy p geometry role count = record { item = p .item; geometry = geometry; role = role; placement = p .placement; part = p .part; count = count }
 
 pub record Finished (p : Props) (geometry role to count : ℕ) (b : Budget) (f f′ : List ℕ) (st r : State) : Type 0 where
-  pub fits : leb (st .features + 6) (length f) ≡ true → f′ ≡ putWords f (st .features) (wordsOf (lineBy p geometry role count))
+  pub fits : leb (st .features + 6) (length f) ≡ true → f′ ≡ put f (st .features) (wordsOf (lineBy p geometry role count))
   pub then : leb (st .features + 6) (length f) ≡ true
       → r ≡ record { number = 0; positions = to; features = st .features + 6; warnings = st .warnings; budget = b }
   pub short : leb (st .features + 6) (length f) ≡ false → f′ ≡ f

@@ -9,8 +9,10 @@ use lib.Dec.{eqb, ltb, leb}
 use Rattle.float.specs.Laws.Spans.{Each}
 use Rattle.budget.specs.declared.Budget.{Budget}
 use Rattle.budget.specs.Draws.{leftAfter}
-use Rattle.scene.specs.Scene.{Maybe, none, some, Point, DrawnPath, DrawnItem}
-use Rattle.register.specs.Register.{Warning, orValue}
+use Rattle.scene.specs.Scene.{DrawnPath, DrawnItem}
+use Rattle.values.specs.declared.Point.{Point}
+use Rattle.values.specs.Maybe.{Maybe, none, some, orValue}
+use Rattle.values.specs.Warnings.{Warning}
 use Rattle.densify.specs.Densify.{GrantedDraw, Made, closeRingOf, densifyPolylineOf}
 use Rattle.densify.specs.Laws.Bounds.{each-append}
 use Rattle.densify.specs.Laws.Replay.{replayed, Replays, replayed-append, granted-append, replayed-left, replayed-hit, path-replays, densify-replays, ellipse-replays, box-replays}
@@ -19,8 +21,7 @@ use Rattle.convert.specs.declared.shapes.Shape.{Shape}
 use Rattle.convert.specs.declared.shapes.Shape.the-variants.{Box, Ellipse, Circle, Dot, Points, Paths, Missing, Nothing}
 use Rattle.convert.specs.declared.state.Ctx.{Ctx}
 use Rattle.convert.specs.declared.state.Props.{Props}
-use Rattle.convert.specs.Convert.{Event, drew, need, feature, warned, Trace, noEvents, oneEvent, andThenTrace, pickTrace, drawsTrace, missing, featureOf, strokeOf, drawWithoutWriting, pointOf, fillOf, shapeTrace, closedOutline, polylineOrPolygonOf}
-use Rattle.convert.specs.Convert.{ringTrace, firstPath, laterPaths, outlineOf, pathOf, withPart, pathsOf, shapeOf, propsOf, at, half, pointsTrace, pathsTrace, drawnOf, itemOf, itemsOf, spentOf, convertOf, drawsIn}
+use Rattle.convert.specs.Convert.{Event, drew, need, feature, warned, Trace, noEvents, oneEvent, andThenTrace, pickTrace, drawsTrace, missing, featureOf, strokeOf, drawWithoutWriting, pointOf, fillOf, shapeTrace, closedOutline, polylineOrPolygonOf, ringTrace, firstPath, laterPaths, outlineOf, pathOf, withPart, pathsOf, shapeOf, propsOf, at, half, pointsTrace, pathsTrace, drawnOf, itemOf, itemsOf, spentOf, convertOf, drawsIn}
 use Rattle.convert.specs.Features.{warningsIn, anyOfKind}
 
 pub record TraceReplays (b : Budget) (t : Trace) : Type 0 where

@@ -7,14 +7,14 @@ use lib.ListN.{length}
 use lib.Dec.{eqb, leb}
 use lib.Ieee.{Float}
 use borrow.Author.Tests.{le-leb, lt-leb, leb-true, leb-false, eqb-false}
-use Rattle.scene.specs.Scene.{Point}
-use Rattle.register.specs.Register.{Warning}
+use Rattle.values.specs.declared.Point.{Point}
+use Rattle.values.specs.Warnings.{Warning}
 use Rattle.budget.specs.declared.Budget.{Budget}
-use Rattle.densify.specs.Positions.{flats, put}
-use Rattle.densify.specs.Laws.Writing.{put-length}
+use Rattle.values.specs.Slices.{put}
+use Rattle.values.specs.Points.{flats}
+use Rattle.values.specs.Laws.Put.{put-length}
 use Rattle.geojson.specs.declared.Feature.{Feature}
 use Rattle.geojson.specs.Features.{wordsOf}
-use Rattle.geojson.specs.Laws.Words.{putWords-length}
 use Rattle.convert.specs.declared.state.Props.{Props}
 use Rattle.convert.specs.declared.state.State.{State}
 use Rattle.convert.specs.Convert.{Event, need, feature, warned, oneEvent, featureOf}
@@ -94,7 +94,7 @@ module _ (w : Warning) (t : Output) (b : Budget) (start : t .number ≡ 0) (h : 
   pub warned-fits : t .usedWarnings + 2 ≤ length (t .warnings) → Applied (oneEvent (warned w) b) t (outOfRoom 0 (withWarning w t)) b
   unfolding apply
   warned-fits room =
-      let same = putWords-length (t .warnings) (t .usedWarnings) (w .kind ∷ w .index ∷ []) room in
+      let same = put-length (t .warnings) (t .usedWarnings) (w .kind ∷ w .index ∷ []) room in
       event-fits (warned w) t b start (outOfRoom 0 (withWarning w t)) (rw (le-leb (t .usedWarnings + 2) (length (t .warnings)) room, start)) refl refl refl same
       (record { positions = h .positions; features = h .features; warnings = rw same room; left = h .left })
 
@@ -128,7 +128,7 @@ module _ (f : Feature) (ps : List Point) (t : Output) (b : Budget) (start : t .n
         → Applied (oneEvent (feature f ps) b) t (outOfRoom 0 (withFeature f ps t)) b
     unfolding apply
     feature-fits line warnings left =
-        let lined = putWords-length (t .features) (t .usedFeatures) (wordsOf f) line in
+        let lined = put-length (t .features) (t .usedFeatures) (wordsOf f) line in
         event-fits (feature f ps) t b start (outOfRoom 0 (withFeature f ps t)) (rw (enough, le-leb (t .usedFeatures + 6) (length (t .features)) line, start)) refl
         placed lined refl
         (record { positions = rw placed room; features = rw lined line; warnings = warnings; left = left })

@@ -10,7 +10,7 @@ use borrow.Author.Tests.{leb-true, ltb-false}
 use lib.Ieee.{Float}
 use Rattle.float.specs.Laws.Magnitude.{wider}
 use Rattle.float.specs.Laws.Intervals.{in-finite}
-use Rattle.float.specs.Laws.Spans.{Each}
+use Rattle.float.specs.Laws.Spans.{Each, each-map}
 use Rattle.elementary.specs.Constants as K
 use Rattle.geodesy.specs.declared.LonLat.{LonLat}
 use Rattle.geodesy.specs.Laws.Finite.{m180, m90, c90, OnEarth}
@@ -18,12 +18,12 @@ use Rattle.similarity.specs.declared.projection.Registration.{Registration}
 use Rattle.similarity.specs.Projection.{projectionOf}
 use Rattle.similarity.specs.Laws.Projects.{geo-projects}
 use Rattle.similarity.specs.Laws.Project.{Sound, geo-in}
-use Rattle.similarity.specs.Laws.Fitted.{each-map}
 use Rattle.records.specs.Laws.Tests.{and-right}
-use Rattle.scene.specs.Scene.{Maybe, none, some, Point, Cubic, Form, curve, polyline, DrawnPath, DrawnItem}
-use Rattle.register.specs.Register.{orValue}
-use Rattle.register.specs.Laws.Near as R
-use Rattle.register.specs.Laws.Near.{Holds, NearItem}
+use Rattle.scene.specs.Scene.{Cubic, Form, curve, polyline, DrawnPath, DrawnItem}
+use Rattle.values.specs.declared.Point.{Point}
+use Rattle.values.specs.Maybe.{Maybe, none, some, orValue}
+use Rattle.scene.specs.Laws.Near as R
+use Rattle.scene.specs.Laws.Near.{Holds, NearItem}
 use Rattle.budget.specs.declared.Budget.{Budget}
 use Rattle.densify.specs.Densify.{GrantedDraw, Made, closeRingOf, pathPointsOf, densifyPolylineOf, ellipseRingOf, boxRingOf}
 use Rattle.densify.specs.Positions.{projectPoint}
@@ -34,8 +34,7 @@ use Rattle.convert.specs.declared.shapes.Shape.{Shape}
 use Rattle.convert.specs.declared.shapes.Shape.the-variants.{Box, Ellipse, Circle, Dot, Points, Paths, Missing, Nothing}
 use Rattle.convert.specs.declared.state.Ctx.{Ctx}
 use Rattle.convert.specs.declared.state.Props.{Props}
-use Rattle.convert.specs.Convert.{Event, drew, need, feature, warned, Trace, noEvents, oneEvent, andThenTrace, pickTrace, drawsTrace, missing, endWith, firstRepeated, featureOf, strokeOf, drawWithoutWriting, pointOf, fillOf, shapeTrace, closedOutline, polylineOrPolygonOf}
-use Rattle.convert.specs.Convert.{ringTrace, firstPath, laterPaths, outlineOf, pathOf, withPart, pathsOf, boxShape, ellipseShape, circleShape, dotShape, pickShape, boxOf, ellipseOf, circleOf, dotOf, shapeOf, propsOf, at, half, pointsTrace, pathsTrace, drawnOf, itemOf, itemsOf, spentOf, convertOf}
+use Rattle.convert.specs.Convert.{Event, drew, need, feature, warned, Trace, noEvents, oneEvent, andThenTrace, pickTrace, drawsTrace, missing, endWith, firstRepeated, featureOf, strokeOf, drawWithoutWriting, pointOf, fillOf, shapeTrace, closedOutline, polylineOrPolygonOf, ringTrace, firstPath, laterPaths, outlineOf, pathOf, withPart, pathsOf, boxShape, ellipseShape, circleShape, dotShape, pickShape, boxOf, ellipseOf, circleOf, dotOf, shapeOf, propsOf, at, half, pointsTrace, pathsTrace, drawnOf, itemOf, itemsOf, spentOf, convertOf}
 use Rattle.convert.specs.Features.{AllOnGlobe, AllWellFormed, featuresIn}
 
 abbrev pub Earthly : Point → Type 0

@@ -10,12 +10,15 @@ use lib.Dec.{ltb}
 use lib.Ieee.{Float}
 use borrow.Author.Tests.{lt-ltb}
 use Rattle.budget.specs.declared.Budget.{Budget}
-use Rattle.scene.specs.Scene.{Maybe, none, some, Point, DrawnPath, DrawnItem}
+use Rattle.scene.specs.Scene.{DrawnPath, DrawnItem}
+use Rattle.values.specs.declared.Point.{Point}
+use Rattle.values.specs.Maybe.{Maybe, none, some}
 use Rattle.densify.specs.declared.append.PointCursor.{PointCursor}
 use Rattle.densify.specs.Densify.{Made, ellipseRingOf, boxRingOf}
 use Rattle.densify.specs.Contracts.Written.{Written}
-use Rattle.densify.specs.Positions.{flats}
-use Rattle.densify.specs.Laws.Writing.{flats-length, next-in}
+use Rattle.values.specs.Points.{flats}
+use Rattle.densify.specs.Laws.Writing.{next-in}
+use Rattle.values.specs.Laws.Points.{flats-length}
 use Rattle.densify.specs.Laws.Replay.{ellipse-replays, box-replays}
 use Rattle.densify.specs.Laws.Counts.{ring-least, ellipse-ring, box-ring}
 use Rattle.densify.specs.Laws.Sizes.{left-falls, ellipse-most, box-most}

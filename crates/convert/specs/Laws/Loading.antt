@@ -10,15 +10,18 @@ use lib.Ieee.{Float, nan}
 use borrow.Author.Tests.{le-leb, lt-leb, leb-true, leb-false}
 use Rattle.budget.specs.declared.Budget.{Budget}
 use Rattle.scene.specs.declared.readers.Path.{Path}
-use Rattle.scene.specs.Scene.{Maybe, none, some, Point, pointAt, pointsAt, cubicsAt, curve, polyline, DrawnPath}
+use Rattle.scene.specs.Scene.{pointAt, pointsAt, cubicsAt, curve, polyline, DrawnPath}
+use Rattle.values.specs.declared.Point.{Point}
+use Rattle.values.specs.Maybe.{Maybe, none, some, orValue}
 use Rattle.scene.specs.Contracts.Answers.{formBy}
 use Rattle.scene.specs.Laws.Points.{points-length}
-use Rattle.register.specs.Register.{orValue}
 use Rattle.densify.specs.declared.append.PointCursor.{PointCursor}
 use Rattle.densify.specs.Densify.{Made, withoutDraws, closeRingOf, closedIf, pathPointsOf}
-use Rattle.densify.specs.Contracts.Written.{pointsIn, closingIn, Written, drawnBy}
-use Rattle.densify.specs.Positions.{flats, pointsOf}
-use Rattle.densify.specs.Laws.Writing.{flats-length, written-room, next-in, written-all, written-none, join-done, andThen-none}
+use Rattle.densify.specs.Contracts.Written.{closingIn, Written, drawnBy}
+use Rattle.values.specs.Contracts.Points.{pointsIn}
+use Rattle.values.specs.Points.{flats, pointsOf}
+use Rattle.densify.specs.Laws.Writing.{written-room, next-in, written-all, written-none, join-done, andThen-none}
+use Rattle.values.specs.Laws.Points.{flats-length}
 use Rattle.densify.specs.Laws.Placing.{written-points}
 use Rattle.densify.specs.Laws.Closing.{closed-done}
 use Rattle.densify.specs.Laws.Counts.{Within, close-within}

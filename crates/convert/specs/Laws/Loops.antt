@@ -10,7 +10,9 @@ use lib.Ieee.{Float}
 use borrow.Author.Tests.{not-true, not-false}
 use Rattle.scene.specs.declared.readers.Item.{Item}
 use Rattle.scene.specs.declared.readers.Path.{Path}
-use Rattle.scene.specs.Scene.{Maybe, none, some, given, Point, DrawnPath, DrawnItem}
+use Rattle.scene.specs.Scene.{DrawnPath, DrawnItem}
+use Rattle.values.specs.declared.Point.{Point}
+use Rattle.values.specs.Maybe.{Maybe, none, some, given}
 use Rattle.scene.specs.Contracts.Answers.{pathsFrom, pathsBy, itemBy, itemsAt, itemsBy, PathWithin}
 use Rattle.budget.specs.declared.Budget.{Budget}
 use Rattle.densify.specs.Densify.{pathPointsOf}

@@ -11,13 +11,16 @@ use lib.Dec.{ltb, leb}
 use lib.Ieee.{Float, nan}
 use borrow.Author.Tests.{le-leb, lt-leb, leb-true, leb-false, lt-ltb, le-ltb}
 use Rattle.budget.specs.declared.Budget.{Budget}
-use Rattle.scene.specs.Scene.{Maybe, none, some, Point}
-use Rattle.register.specs.Register.{orValue}
+use Rattle.values.specs.declared.Point.{Point}
+use Rattle.values.specs.Maybe.{Maybe, none, some, orValue}
 use Rattle.densify.specs.declared.append.PointCursor.{PointCursor}
 use Rattle.densify.specs.Densify.{Made, withoutDraws, samePoint, closeRingOf}
-use Rattle.densify.specs.Contracts.Written.{pointsIn, closing, closingIn, Written}
-use Rattle.densify.specs.Positions.{flats, put, pointOf, pointsOf}
-use Rattle.densify.specs.Laws.Writing.{flats-length, written-all, next-in}
+use Rattle.densify.specs.Contracts.Written.{closing, closingIn, Written}
+use Rattle.values.specs.Contracts.Points.{pointsIn}
+use Rattle.values.specs.Slices.{put}
+use Rattle.values.specs.Points.{flats, pointOf, pointsOf}
+use Rattle.densify.specs.Laws.Writing.{written-all, next-in}
+use Rattle.values.specs.Laws.Points.{flats-length}
 use Rattle.densify.specs.Laws.Closing.{closed-done}
 use Rattle.densify.specs.Laws.Placing.{written-points}
 use Rattle.convert.specs.declared.workspace.Workspace.{Workspace}

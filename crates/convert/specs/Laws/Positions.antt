@@ -11,13 +11,17 @@ use lib.Dec.{eqb, leb}
 use lib.Ieee.{Float, nan}
 use borrow.Author.Tests.{le-leb, lt-leb, leb-true, leb-false, eq-eqb, ne-eqb}
 use borrow.Rule.Slice.PartMut.{midOf, postOf, putMid, same-len-mid, post-is, take-put}
-use Rattle.scene.specs.Scene.{Point}
+use Rattle.values.specs.declared.Point.{Point}
 use Rattle.budget.specs.declared.Budget.{Budget}
 use Rattle.densify.specs.declared.append.PointCursor.{PointCursor}
 use Rattle.densify.specs.Densify.{Made, lastOf, densifyPolylineOf}
-use Rattle.densify.specs.Contracts.Written.{pointsIn, projected, Written}
-use Rattle.densify.specs.Positions.{flats, put}
-use Rattle.densify.specs.Laws.Writing.{flats-append, flats-length, put-length, put-next, written-room}
+use Rattle.densify.specs.Contracts.Written.{projected, Written}
+use Rattle.values.specs.Contracts.Points.{pointsIn}
+use Rattle.values.specs.Slices.{put}
+use Rattle.values.specs.Points.{flats}
+use Rattle.densify.specs.Laws.Writing.{written-room}
+use Rattle.values.specs.Laws.Put.{put-length}
+use Rattle.values.specs.Laws.Points.{flats-append, flats-length, put-next}
 use Rattle.densify.specs.Laws.Placing.{points-between, placed-count}
 use Rattle.densify.specs.Laws.Counts.{densify-least}
 use Rattle.densify.specs.Laws.Replay.{densify-replays}

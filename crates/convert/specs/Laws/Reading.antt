@@ -10,13 +10,14 @@ use lib.Seq.{sets, length-sets, drop-append-seam, getD-append-seam, getD-append-
 use lib.Dec.{eqb, leb}
 use lib.Ieee.{Float}
 use borrow.Author.Tests.{eqb-true, eqb-false, leb-true}
-use Rattle.scene.specs.Scene.{Point}
-use Rattle.register.specs.Register.{Warning}
-use Rattle.densify.specs.Positions.{flats, pointsOf, put}
-use Rattle.densify.specs.Laws.Writing.{flats-append, flats-length, put-none, put-length, put-more}
+use Rattle.values.specs.declared.Point.{Point}
+use Rattle.values.specs.Warnings.{Warning}
+use Rattle.values.specs.Slices.{put}
+use Rattle.values.specs.Points.{flats, pointsOf}
+use Rattle.values.specs.Laws.Put.{put-none, put-length, put-more, sets-put}
+use Rattle.values.specs.Laws.Points.{flats-append, flats-length}
 use Rattle.geojson.specs.declared.Feature.{Feature}
-use Rattle.geojson.specs.Features.{putWords, wordsOf}
-use Rattle.geojson.specs.Laws.Words.{putWords-length, sets-put}
+use Rattle.geojson.specs.Features.{wordsOf}
 use Rattle.convert.specs.Convert.{Event, drew, need, feature, warned}
 use Rattle.convert.specs.Space.{Output, pickOutput, outOfRoom, withFeature, withWarning, apply, applyAll}
 use Rattle.convert.specs.Features.{ReadFeature, AllWellFormed, positionsIn, featuresIn, warningsIn, lineAt, featuresAt, warningsAt}
@@ -42,7 +43,7 @@ pairs-length [] = refl
 pairs-length (w ∷ ws) = omega (arith, pairs-length ws)
 
 -- ---- words in a slice
-words-none : (w : List ℕ) (at : ℕ) → at ≤ length w → putWords w at [] ≡ w
+words-none : (w : List ℕ) (at : ℕ) → at ≤ length w → put w at [] ≡ w
 words-none w at h = sym (sets-put [] w at (omega arith))
 
 sets-more : (a b w : List ℕ) (at : ℕ) → sets (sets w at a) (at + length a) b ≡ sets w at (a ++ b)
@@ -53,7 +54,7 @@ sets-more (v ∷ a) b w at =
 
 -- one run after another is one run
 words-more : (w : List ℕ) (at : ℕ) (a b : List ℕ) → at + length a + length b ≤ length w
-    → putWords (putWords w at a) (at + length a) b ≡ putWords w at (a ++ b)
+    → put (put w at a) (at + length a) b ≡ put w at (a ++ b)
 words-more w at a b h =
     let one = sets-put a w at (omega arith) in
     rw (← one, ← sets-put b (sets w at a) (at + length a) (rw length-sets h), ← sets-put (a ++ b) w at (rw (length-append, ← add-assoc) h))
@@ -68,8 +69,8 @@ pub record Room (t : Output) : Type 0 where
 -- u is t with these features and warnings behind what was used
 pub record Added (ls : List ReadFeature) (ws : List Warning) (t u : Output) : Type 0 where
   pub positions : u .positions ≡ put (t .positions) (t .usedPositions) (flats (positionsIn ls))
-  pub features : u .features ≡ putWords (t .features) (t .usedFeatures) (wordsIn ls)
-  pub warnings : u .warnings ≡ putWords (t .warnings) (t .usedWarnings) (pairsIn ws)
+  pub features : u .features ≡ put (t .features) (t .usedFeatures) (wordsIn ls)
+  pub warnings : u .warnings ≡ put (t .warnings) (t .usedWarnings) (pairsIn ws)
   pub usedPositions : u .usedPositions ≡ t .usedPositions + length (flats (positionsIn ls))
   pub usedFeatures : u .usedFeatures ≡ t .usedFeatures + length (wordsIn ls)
   pub usedWarnings : u .usedWarnings ≡ t .usedWarnings + length (pairsIn ws)
@@ -97,8 +98,8 @@ module _ (f : Feature) (ps : List Point) (t : Output) (here : t .usedPositions +
   placed-length : length (put (t .positions) (t .usedPositions) (flats ps)) ≡ length (t .positions)
   placed-length = put-length (t .positions) (t .usedPositions) (flats ps) here
 
-  lined-length : length (putWords (t .features) (t .usedFeatures) (wordsOf f)) ≡ length (t .features)
-  lined-length = putWords-length (t .features) (t .usedFeatures) (wordsOf f) line
+  lined-length : length (put (t .features) (t .usedFeatures) (wordsOf f)) ≡ length (t .features)
+  lined-length = put-length (t .features) (t .usedFeatures) (wordsOf f) line
 
   feature-room : Room t → Room (withFeature f ps t)
   feature-room r = record { positions = rw placed-length here; features = rw lined-length line; warnings = r .warnings }
@@ -120,8 +121,8 @@ module _ (f : Feature) (ps : List Point) (t : Output) (here : t .usedPositions +
       }
 
 module _ (w : Warning) (t : Output) (here : t .usedWarnings + 2 ≤ length (t .warnings)) where
-  paired-length : length (putWords (t .warnings) (t .usedWarnings) (w .kind ∷ w .index ∷ [])) ≡ length (t .warnings)
-  paired-length = putWords-length (t .warnings) (t .usedWarnings) (w .kind ∷ w .index ∷ []) here
+  paired-length : length (put (t .warnings) (t .usedWarnings) (w .kind ∷ w .index ∷ [])) ≡ length (t .warnings)
+  paired-length = put-length (t .warnings) (t .usedWarnings) (w .kind ∷ w .index ∷ []) here
 
   warning-room : Room t → Room (withWarning w t)
   warning-room r = record { positions = r .positions; features = r .features; warnings = rw paired-length here }
@@ -256,8 +257,8 @@ put-start : (w vs : List Float) → put w 0 vs ≡ vs ++ drop (length vs) w
 unfolding put
 put-start w vs = rw zero-add
 
-words-start : (w vs : List ℕ) → putWords w 0 vs ≡ vs ++ drop (length vs) w
-unfolding putWords
+words-start : (w vs : List ℕ) → put w 0 vs ≡ vs ++ drop (length vs) w
+unfolding put
 words-start w vs = rw zero-add
 
 -- of a sheet of which nothing was used

@@ -6,31 +6,25 @@ use mathlib.Core.List.{List, [], _∷_, map}
 use lib.ListN.{length, take, getD}
 use lib.Dec.{leb}
 use lib.Ieee.{Float, nan}
+use Rattle.values.specs.Contracts.Points.{pointIn}
 use Rattle.similarity.specs.declared.projection.Projection.{Projection}
 use Rattle.elementary.specs.Contracts.Stages.{atanFirst, atanSecond, atanThird}
 use Rattle.similarity.specs.Contracts.Stages.{expStageOf, roundedLatitudeOf}
 use Rattle.scene.specs.declared.readers.Path.{Path}
-use Rattle.scene.specs.Scene.{Point, DrawnPath}
+use Rattle.scene.specs.Scene.{DrawnPath}
+use Rattle.values.specs.declared.Point.{Point}
 use Rattle.scene.specs.Contracts.Answers.{formBy}
 use Rattle.densify.specs.declared.append.PointCursor.{PointCursor}
 use Rattle.densify.specs.declared.placing.Stage.{Stage}
 use Rattle.densify.specs.declared.placing.Stage.the-variants.{First, Second, Last}
 use Rattle.densify.specs.Densify.{Made, Block, samePoint}
-use Rattle.densify.specs.Positions.{flats, pointOf, pointsOf, put, projectPoint}
+use Rattle.densify.specs.Positions.{projectPoint}
+use Rattle.values.specs.Slices.{put}
+use Rattle.values.specs.Points.{flats, pointOf, pointsOf}
 
 -- ---- arrays of the code as points
-abbrev pub pointIn : List Float → Point
-pointIn p = record { x = getD p 0 nan; y = getD p 1 nan }
-
 abbrev pub blockIn : List (List Float) → Block
 blockIn b = record { p0 = pointIn (getD b 0 []); c1 = pointIn (getD b 1 []); c2 = pointIn (getD b 2 []); p3 = pointIn (getD b 3 []) }
-
-abbrev pub pointWith : Float → Float → Point
-pointWith x y = record { x = x; y = y }
-
--- all that stand from `from` to `to`
-unfoldable pub pointsIn : List Float → ℕ → ℕ → List Point
-pointsIn w from to = pointsOf w from ((to - from) / 2)
 
 -- what close_ring adds to points that begin with p and end with q
 unfoldable pub closing : Point → Point → List Point

@@ -16,17 +16,16 @@ use Rattle.float.specs.Laws.Magnitude.{Within, wider, add-within, sub-within, m
 use Rattle.float.specs.Laws.Remainder.{rounds-whole}
 use Rattle.float.specs.Laws.Intervals.{Iv, iv, Between, in-finite}
 use Rattle.float.specs.Laws.Expressions.{Expr, var, lit, plus, less, times, over, eval, AllIn}
-use Rattle.float.specs.Laws.Spans.{Each, plus2^, minus2^, looser, rounds-spans, spans-between, div-spans, spans-within, between-within}
+use Rattle.float.specs.Laws.Spans.{Each, plus2^, minus2^, looser, rounds-spans, spans-between, div-spans, spans-within, between-within, million, mMillion}
 use Rattle.elementary.specs.Constants as K
 use Rattle.elementary.specs.Functions.{toRadiansOf, sinOf, cosOf}
 use Rattle.elementary.specs.Laws.Codes.{encloses, enclosed}
 use Rattle.elementary.specs.Laws.Sine.{bound, low-bound, sin-unit, cos-unit}
-use Rattle.similarity.specs.Laws.Project.{million, mMillion}
 use Rattle.budget.specs.declared.Budget.{Budget}
 use Rattle.budget.specs.Budget.{grantOf, takeOf}
-use Rattle.scene.specs.Scene.{Point, Cubic, Form, curve, polyline, DrawnPath}
-use Rattle.densify.specs.Densify.{Made, c90, c270, whole, tiny, Block, flatOf, midOf, firstHalf, secondHalf, leafOf, splitOf, flattenCubicOf, cubicsOf, formPoints, samePoint, lastOf, closeRingOf, closedIf, pathPointsOf}
-use Rattle.densify.specs.Densify.{alongOf, samplesTo, segmentWant, segmentOf, segmentsOf, densifyPolylineOf, roundTo, ellipsePoint, ellipseRingOf, sharpCorners, cornerPoint, roundedCorners, boxRingOf}
+use Rattle.scene.specs.Scene.{Cubic, Form, curve, polyline, DrawnPath}
+use Rattle.values.specs.declared.Point.{Point}
+use Rattle.densify.specs.Densify.{Made, c90, c270, whole, tiny, Block, flatOf, midOf, firstHalf, secondHalf, leafOf, splitOf, flattenCubicOf, cubicsOf, formPoints, samePoint, lastOf, closeRingOf, closedIf, pathPointsOf, alongOf, samplesTo, segmentWant, segmentOf, segmentsOf, densifyPolylineOf, roundTo, ellipsePoint, ellipseRingOf, sharpCorners, cornerPoint, roundedCorners, boxRingOf}
 use Rattle.densify.specs.Laws.Replay.{blockOf, radiusOf}
 use Rattle.densify.specs.Laws.Counts.{parts-within, arc-within}
 use Rattle.densify.specs.Laws.Sizes.{pick-made, quarter-within}

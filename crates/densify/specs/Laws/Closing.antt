@@ -10,11 +10,12 @@ use lib.ListN.{length, take, drop, getD, List·getD-append}
 use lib.Seq.{length-take-le, getD-append-add}
 use lib.Ieee.{Float, nan, eq}
 use borrow.Author.Tests.{le-leb, lt-leb}
-use Rattle.scene.specs.Scene.{Point}
+use Rattle.values.specs.declared.Point.{Point}
 use Rattle.densify.specs.declared.append.PointCursor.{PointCursor}
 use Rattle.densify.specs.Densify.{GrantedDraw, Made, withoutDraws, samePoint, lastOf, closeRingOf}
 use Rattle.densify.specs.Contracts.Written.{closing, closingIn, Written}
-use Rattle.densify.specs.Positions.{flats, pointOf, put}
+use Rattle.values.specs.Slices.{put}
+use Rattle.values.specs.Points.{flats, pointOf}
 use Rattle.densify.specs.Laws.Writing.{written-room, join-short, join-done, written-as}
 
 -- ---- closingIn, by the code's tests

@@ -11,9 +11,8 @@ use Rattle.float.specs.Functions.{maxOf}
 use Rattle.elementary.specs.Constants as K
 use Rattle.budget.specs.declared.Budget.{Budget}
 use Rattle.budget.specs.Budget.{grantOf, takeOf}
-use Rattle.scene.specs.Scene.{Point}
-use Rattle.densify.specs.Densify.{Made, withDraw, clamped}
-use Rattle.densify.specs.Densify.{samePoint, lastOf, closeRingOf, segmentParts, samplesTo, segmentOf, segmentsOf, densifyPolylineOf, arcVerticesOf, roundTo, ellipseRingOf, sharpCorners, roundedCorners, quarterOf, boxRingOf}
+use Rattle.values.specs.declared.Point.{Point}
+use Rattle.densify.specs.Densify.{Made, withDraw, clamped, samePoint, lastOf, closeRingOf, segmentParts, samplesTo, segmentOf, segmentsOf, densifyPolylineOf, arcVerticesOf, roundTo, ellipseRingOf, sharpCorners, roundedCorners, quarterOf, boxRingOf}
 use Rattle.densify.specs.Laws.Replay.{grantsOf, radiusOf}
 
 -- ---- numbers

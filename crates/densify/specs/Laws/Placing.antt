@@ -9,7 +9,7 @@ use lib.ListN.{length, take, drop, set, getD, length-append, length-map, length-
 use lib.Seq.{length-take-le, drop-at, getD-drop, getD-append-seam, getD-append-add, set-getD}
 use lib.Ieee.{Float, nan}
 use borrow.Author.Tests.{leb-false}
-use Rattle.scene.specs.Scene.{Point}
+use Rattle.values.specs.declared.Point.{Point}
 use Rattle.geodesy.specs.declared.LonLat.{LonLat}
 use Rattle.similarity.specs.declared.projection.Projection.{Projection}
 use Rattle.similarity.specs.Projection.{geoBy}
@@ -17,10 +17,15 @@ use Rattle.similarity.specs.Contracts.Stages.{expStageOf}
 use Rattle.similarity.specs.Laws.Project.{geo-staged}
 use Rattle.densify.specs.declared.append.PointCursor.{PointCursor}
 use Rattle.densify.specs.Densify.{Made}
-use Rattle.densify.specs.Contracts.Written.{pointsIn, Written, projected, expStageBy, stageOf, onY, inPlace}
-use Rattle.densify.specs.Positions.{flats, pointOf, pointsOf, put, projectPoint}
+use Rattle.densify.specs.Contracts.Written.{Written, projected, expStageBy, stageOf, onY, inPlace}
+use Rattle.values.specs.Contracts.Points.{pointsIn}
+use Rattle.densify.specs.Positions.{projectPoint}
+use Rattle.values.specs.Slices.{put}
+use Rattle.values.specs.Points.{flats, pointOf, pointsOf}
 use Rattle.densify.specs.declared.placing.Stage.the-variants.{First, Second, Last}
-use Rattle.densify.specs.Laws.Writing.{flats-length, put-before, put-none, put-next, written-short, written-all, written-room}
+use Rattle.densify.specs.Laws.Writing.{written-short, written-all, written-room}
+use Rattle.values.specs.Laws.Put.{put-before, put-none}
+use Rattle.values.specs.Laws.Points.{flats-length, put-next}
 
 -- ---- points that stand in a slice
 points-count : (w : List Float) (i n : ℕ) → length (pointsOf w i n) ≡ n

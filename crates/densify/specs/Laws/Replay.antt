@@ -10,9 +10,9 @@ use Rattle.elementary.specs.Constants as K
 use Rattle.budget.specs.declared.Budget.{Budget}
 use Rattle.budget.specs.Budget.{takeOf}
 use Rattle.budget.specs.Draws.{leftAfter}
-use Rattle.scene.specs.Scene.{Point, Cubic, Form, curve, polyline, DrawnPath}
-use Rattle.densify.specs.Densify.{GrantedDraw, Made, withoutDraws, withDraw, andThen, tiny, Block, flatOf, firstHalf, secondHalf, leafOf, pickMade, splitOf, flattenCubicOf, cubicsOf}
-use Rattle.densify.specs.Densify.{formPoints, closedIf, pathPointsOf, segmentOf, segmentsOf, densifyPolylineOf, ellipseRingOf, boxRingOf}
+use Rattle.scene.specs.Scene.{Cubic, Form, curve, polyline, DrawnPath}
+use Rattle.values.specs.declared.Point.{Point}
+use Rattle.densify.specs.Densify.{GrantedDraw, Made, withoutDraws, withDraw, andThen, tiny, Block, flatOf, firstHalf, secondHalf, leafOf, pickMade, splitOf, flattenCubicOf, cubicsOf, formPoints, closedIf, pathPointsOf, segmentOf, segmentsOf, densifyPolylineOf, ellipseRingOf, boxRingOf}
 use Rattle.densify.specs.Draws.{drawsOf, afterDraw, Granted, fellShort}
 
 unfoldable pub replayed : Budget → List GrantedDraw → Budget

@@ -9,12 +9,13 @@ use lib.ListN.{length}
 use lib.Ieee.{Float}
 use borrow.Author.Tests.{leb-false}
 use Rattle.budget.specs.declared.Budget.{Budget}
-use Rattle.scene.specs.Scene.{Point}
+use Rattle.values.specs.declared.Point.{Point}
 use Rattle.densify.specs.declared.append.PointCursor.{PointCursor}
 use Rattle.densify.specs.Densify.{withoutDraws, roundTo}
 use Rattle.densify.specs.Contracts.Written.{Written}
-use Rattle.densify.specs.Positions.{flats}
-use Rattle.densify.specs.Laws.Writing.{flats-length, written-short, written-none, join-short, join-done}
+use Rattle.values.specs.Points.{flats}
+use Rattle.densify.specs.Laws.Writing.{written-short, written-none, join-short, join-done}
+use Rattle.values.specs.Laws.Points.{flats-length}
 use Rattle.densify.specs.Laws.Counts.{round-length}
 
 module _ (f : ℕ → Point) where

@@ -8,7 +8,7 @@ use Rattle.float.specs.Functions.{ceilOf}
 use Rattle.elementary.specs.Constants as K
 use Rattle.budget.specs.declared.Budget.{Budget}
 use Rattle.budget.specs.Budget.{grantOf, takeOf}
-use Rattle.scene.specs.Scene.{Point}
+use Rattle.values.specs.declared.Point.{Point}
 use Rattle.densify.specs.Densify.{clamped, segmentParts, samePoint, closeRingOf, sharpCorners, leafOf}
 
 -- 100 and 101

@@ -10,12 +10,14 @@ use borrow.Author.Tests.{leb-false}
 use Rattle.budget.specs.declared.Budget.{Budget}
 use Rattle.budget.specs.declared.Taken.{Taken}
 use Rattle.budget.specs.Budget.{grantOf, takeOf}
-use Rattle.scene.specs.Scene.{Point}
+use Rattle.values.specs.declared.Point.{Point}
 use Rattle.densify.specs.declared.append.PointCursor.{PointCursor}
 use Rattle.densify.specs.Densify.{Made, withoutDraws, andThen, alongOf, samplesTo, segmentWant, segmentOf, segmentsOf, densifyPolylineOf}
-use Rattle.densify.specs.Contracts.Written.{pointsIn, Written}
-use Rattle.densify.specs.Positions.{flats, pointOf, pointsOf}
-use Rattle.densify.specs.Laws.Writing.{flats-length, written-short, join-short, join-done, written-as, Leads, leads-next, leads-short, leads-end}
+use Rattle.densify.specs.Contracts.Written.{Written}
+use Rattle.values.specs.Contracts.Points.{pointsIn}
+use Rattle.values.specs.Points.{flats, pointOf, pointsOf}
+use Rattle.densify.specs.Laws.Writing.{written-short, join-short, join-done, written-as, Leads, leads-next, leads-short, leads-end}
+use Rattle.values.specs.Laws.Points.{flats-length}
 use Rattle.densify.specs.Laws.Counts.{parts-within, samples-length}
 
 -- ---- points that stand in a slice

@@ -15,9 +15,9 @@ use Rattle.elementary.specs.Constants as K
 use Rattle.budget.specs.declared.Budget.{Budget}
 use Rattle.budget.specs.Budget.{grantOf, takeOf}
 use Rattle.budget.specs.Draws.{Draw, leftAfter}
-use Rattle.scene.specs.Scene.{Point, Cubic, Form, curve, polyline, DrawnPath}
-use Rattle.densify.specs.Densify.{Made, withDraw, andThen, tiny, Block, flatOf, firstHalf, secondHalf, leafOf, pickMade, splitOf, flattenCubicOf, cubicsOf, formPoints, closedIf, pathPointsOf}
-use Rattle.densify.specs.Densify.{segmentOf, segmentsOf, densifyPolylineOf, arcVerticesOf, ellipseRingOf, quarterOf, boxRingOf}
+use Rattle.scene.specs.Scene.{Cubic, Form, curve, polyline, DrawnPath}
+use Rattle.values.specs.declared.Point.{Point}
+use Rattle.densify.specs.Densify.{Made, withDraw, andThen, tiny, Block, flatOf, firstHalf, secondHalf, leafOf, pickMade, splitOf, flattenCubicOf, cubicsOf, formPoints, closedIf, pathPointsOf, segmentOf, segmentsOf, densifyPolylineOf, arcVerticesOf, ellipseRingOf, quarterOf, boxRingOf}
 use Rattle.densify.specs.Laws.Replay.{Replays, grantsOf, blockOf, radiusOf}
 use Rattle.densify.specs.Draws.{drawsOf}
 use Rattle.densify.specs.Laws.Counts.{Within, samples-length, close-within, arc-within, ellipse-ring, box-ring}

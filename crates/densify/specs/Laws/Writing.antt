@@ -10,63 +10,15 @@ use lib.ListN.{length, take, drop, set, length-append, length-drop, take-append-
 use lib.Seq.{length-take-le, take-at, drop-append-add, drop-drop, take-take, sets-eq}
 use lib.Ieee.{Float}
 use borrow.Author.Tests.{le-leb, lt-leb, leb-true, leb-false}
+use Rattle.values.specs.Laws.Put.{put-before, put-none, put-length, put-more}
+use Rattle.values.specs.Laws.Points.{flats-append}
 use Rattle.budget.specs.declared.Budget.{Budget}
-use Rattle.scene.specs.Scene.{Point}
+use Rattle.values.specs.declared.Point.{Point}
 use Rattle.densify.specs.declared.append.PointCursor.{PointCursor}
 use Rattle.densify.specs.Densify.{Made, withoutDraws, andThen}
 use Rattle.densify.specs.Contracts.Written.{Written}
-use Rattle.densify.specs.Positions.{flats, put}
-
--- ---- flats
-pub flats-append : (a b : List Point) → flats (a ++ b) ≡ flats a ++ flats b
-unfolding flats
-flats-append [] b = refl
-flats-append (p ∷ a) b = ap (λ (l : List Float). p .x ∷ p .y ∷ l) (flats-append a b)
-
-pub flats-length : (ps : List Point) → length (flats ps) ≡ 2 * length ps
-unfolding flats
-flats-length [] = refl
-flats-length (p ∷ ps) = omega (arith, flats-length ps)
-
--- ---- put
-module _ (w : List Float) (at : ℕ) where
-  -- what stands before `at` is as it was
-  pub put-before : (vs : List Float) → at ≤ length w → take at (put w at vs) ≡ take at w
-  unfolding put
-  put-before vs h = take-at (take at w) (vs ++ drop (at + length vs) w) at (length-take-le at w h)
-
-  pub put-none : put w at [] ≡ w
-  unfolding put
-  put-none = simp (add-zero, take-append-drop)
-
-  pub put-length : (vs : List Float) → at + length vs ≤ length w → length (put w at vs) ≡ length w
-  unfolding put
-  put-length vs h = simp (length-append, length-drop) (omega (arith, length-take-le at w (omega arith)))
-
-  -- the two stores of a point
-  pub put-point : (p : Point) → at + 2 ≤ length w → set (set w at (p .x)) (at + 1) (p .y) ≡ put w at (flats (p ∷ []))
-  unfolding put flats
-  put-point p h = rw add-one (sets-eq (p .x ∷ p .y ∷ []) w at h ∙ append-assoc (take at w) (p .x ∷ p .y ∷ []) (drop (at + 2) w))
-
-  -- one run after another is one run
-  pub put-more : (a b : List Float) → at + length a ≤ length w → put (put w at a) (at + length a) b ≡ put w at (a ++ b)
-  unfolding put
-  put-more a b h =
-      let t = take at w ++ a in
-      let rest = drop (at + length a) w in
-      let n : length t ≡ at + length a =
-      length-append (take at w) a ∙ ap (λ (k : ℕ). k + length a) (length-take-le at w (omega arith)) in
-      let d : drop (at + length a + length b) (t ++ rest) ≡ drop (at + length a + length b) w =
-      subst (λ (k : ℕ). drop (k + length b) (t ++ rest) ≡ drop (length b) rest) n (drop-append-add t rest (length b))
-      ∙ drop-drop (length b) (at + length a) w in
-      rw (← append-assoc (take at w) a rest, take-at t rest (at + length a) n, d, length-append, ← add-assoc) (simp append-assoc)
-
--- a run and the two stores of one point more
-pub put-next : (w : List Float) (at : ℕ) (ps : List Point) (p : Point) → at + length (flats ps) + 2 ≤ length w
-    → set (set (put w at (flats ps)) (at + length (flats ps)) (p .x)) (at + length (flats ps) + 1) (p .y) ≡ put w at (flats (ps ++ (p ∷ [])))
-put-next w at ps p h =
-    put-point (put w at (flats ps)) (at + length (flats ps)) p (rw (put-length w at (flats ps) (omega arith)) h)
-    ∙ rw flats-append (put-more w at (flats ps) (flats (p ∷ [])) (omega arith))
+use Rattle.values.specs.Slices.{put}
+use Rattle.values.specs.Points.{flats}
 
 -- ---- Written
 module _ (w : List Float) (at : ℕ) (m : Made) where

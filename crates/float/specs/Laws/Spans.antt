@@ -2,7 +2,7 @@
 -- a + b + c + d is at most 2 ^ 53: rounding is monotone, and such a number is its own rounding. Assumes nothing.
 use mathlib.Core.Path.{_≡_, refl, sym, ap, subst}
 use mathlib.Core.Logic.{inl, inr}
-use mathlib.Core.List.{List, [], _∷_}
+use mathlib.Core.List.{List, [], _∷_, map}
 use mathlib.Core.Bool.{Bool, true, false, not}
 use Prim.Native.Nat.{ℕ, suc, _+_, _-_, _*_, _/_, _^_, _≤_, _<_}
 use native.Mathlib.Nat.{le-trans, mul-pos, mul-le-mul-right, le-of-mul-le-mul-right, div-add-mod', div-mul-le-self, mod-lt}
@@ -285,3 +285,19 @@ floor k (fin s m e) w = go s (w .size)
     go : (s : Bool) → P (fin s m e) + N (fin s m e) ≤ 2 ^ k * down e → Floor k (fin s m e)
     go true h = record { plus = 0; minus = suc q; spans = record { is-finite = tt; low = omega (arith, high); high = omega (arith, low) }; most = let f = few (omega arith) in omega arith }
     go false h = record { plus = q; minus = 0; spans = record { is-finite = tt; low = omega (arith, low); high = omega (arith, high) }; most = let f = few (omega arith) in omega arith }
+
+pub each-map : {A B : Type 0} (f : A → B) (Q : A → Type 0) (R : B → Type 0) → ((a : A) → Q a → R (f a)) → (l : List A) → Each Q l → Each R (map f l)
+each-map f Q R g [] h = tt
+each-map f Q R g (a ∷ l) h = (g a (h .0), each-map f Q R g l (h .1))
+
+-- ---- 1,000,000, condition 4's limit
+-- its f64
+abbrev pub million : Float
+million = ofBits binary64 0x412e848000000000
+
+abbrev pub mMillion : Float
+mMillion = neg million
+
+pub whole-million : Whole million 1000000
+unfolding ofBits
+whole-million = record { is-finite = tt; up-is = refl; no-minus = refl }

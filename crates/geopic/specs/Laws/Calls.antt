@@ -11,25 +11,28 @@ use borrow.Author.Tests.{leb-true, leb-false, eq-eqb, ne-eqb, eqb-true, eqb-fals
 use Rattle.stream.specs.Conditions.{firstOf}
 use Rattle.stream.specs.Payload.{payload}
 use Rattle.records.specs.Contracts.Refusals.{refusalOf}
-use Rattle.scene.specs.Scene.{Maybe, Point, Scene, sceneOf}
+use Rattle.scene.specs.Scene.{Scene, sceneOf}
+use Rattle.values.specs.declared.Point.{Point}
+use Rattle.values.specs.Maybe.{Maybe}
 use Rattle.scene.specs.Contracts.Answers.{itemsAt}
 use Rattle.scene.specs.Laws.Answers.{scene-lists}
 use Rattle.similarity.specs.declared.fit.Control.{Control}
 use Rattle.similarity.specs.declared.projection.Projection.{Projection}
 use Rattle.similarity.specs.declared.projection.Registration.{Registration}
 use Rattle.similarity.specs.Projection.{projectionOf}
-use Rattle.register.specs.declared.warnings.WarningCursor.{WarningCursor}
+use Rattle.values.specs.declared.WarningCursor.{WarningCursor}
 use Rattle.register.specs.declared.outcome.Outcome.{Outcome}
 use Rattle.register.specs.declared.survey.Survey.{Survey}
 use Rattle.register.specs.Contracts.Survey.{Surveyed}
 use Rattle.register.specs.Contracts.Gathered.{Kept}
-use Rattle.register.specs.Register.{Warning, f0, controlsOf, anchorOf, registrationBy, registrationOf, registerWarnings}
+use Rattle.register.specs.Register.{f0, controlsOf, anchorOf, registrationBy, registrationOf, registerWarnings}
+use Rattle.values.specs.Warnings.{Warning}
 use Rattle.register.specs.Contracts.Outcome.{registerRefusal, accepted, refusedBy, pickOutcome, outcomeOf}
-use Rattle.register.specs.Contracts.Warnings.{pushed, allPushed}
+use Rattle.values.specs.Contracts.Warnings.{pushed, allPushed}
 use Rattle.register.specs.Contracts.Warnings as register
 use Rattle.budget.specs.declared.Budget.{Budget}
-use Rattle.geojson.specs.Features.{putWords}
-use Rattle.geojson.specs.Laws.Words.{pair-put}
+use Rattle.values.specs.Slices.{put}
+use Rattle.values.specs.Laws.Put.{pair-put}
 use Rattle.geopic.specs.declared.Answer.{Answer}
 use Rattle.convert.specs.Convert.{warned, Trace, onScreen, convertOf}
 use Rattle.convert.specs.Space.{Output, outOfRoom, withWarning}
@@ -67,7 +70,7 @@ toldBy t r =
     }
 
 module _ (w : Warning) (out : List ℕ) (n : ℕ) where
-  push-fits : leb (n + 2) (length out) ≡ true → pushed w (pushing out true n) ≡ pushing (putWords out n (w .kind ∷ w .index ∷ [])) true (n + 2)
+  push-fits : leb (n + 2) (length out) ≡ true → pushed w (pushing out true n) ≡ pushing (put out n (w .kind ∷ w .index ∷ [])) true (n + 2)
   unfolding pushed
   push-fits e = rw (e, pair-put out n (w .kind) (w .index) (leb-true _ _ e))
 

@@ -17,7 +17,7 @@ use Rattle.scene.specs.Scene.{Scene, sceneOf}
 use Rattle.register.specs.Register.{ofRegistration}
 use Rattle.register.specs.Contracts.Outcome.{registerRefusal}
 use Rattle.register.specs.Laws.Outcomes.{registration-numbered}
-use Rattle.densify.specs.Positions.{flats}
+use Rattle.values.specs.Points.{flats}
 use Rattle.convert.specs.Convert.{Event, drew, need, feature, warned}
 use Rattle.convert.specs.Space.{Output, pickOutput, outOfRoom, withFeature, withWarning, apply, applyAll, ofSpace}
 use Rattle.geopic.specs.declared.Answer.{Answer}

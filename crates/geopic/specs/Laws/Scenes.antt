@@ -10,11 +10,14 @@ use lib.Ieee.{Float}
 use borrow.Author.Tests.{eq-eqb}
 use Rattle.stream.specs.Conditions.{firstOf}
 use Rattle.stream.specs.Payload.{payload}
-use Rattle.scene.specs.Scene.{Maybe, none, some, Point, NamedFeature, NamedValue, Scene, sceneOf}
+use Rattle.scene.specs.Scene.{NamedFeature, NamedValue, Scene, sceneOf}
+use Rattle.values.specs.declared.Point.{Point}
+use Rattle.values.specs.Maybe.{Maybe, none, some, isSome}
 use Rattle.similarity.specs.Projection.{geoOf}
 use Rattle.similarity.specs.Laws.Projects.{geo-projects}
 use Rattle.register.specs.Register as register
-use Rattle.register.specs.Register.{Warning, f0, isLon, stem, suffixLat, var, resolved, mentioned, eventOf, featureEvent, featureEvents, lonEvent, consIf, variableEvents, events, registrationOf, isSome, anchorOf, pxMode, halfAnchor, controlsOf, only, ignored, anyDeclared, ignoredWith, viewWarnings, halfWarnings, registerWarnings}
+use Rattle.register.specs.Register.{f0, isLon, stem, suffixLat, var, resolved, mentioned, eventOf, featureEvent, featureEvents, lonEvent, consIf, variableEvents, events, registrationOf, anchorOf, pxMode, halfAnchor, controlsOf, only, ignored, anyDeclared, ignoredWith, viewWarnings, halfWarnings, registerWarnings}
+use Rattle.values.specs.Warnings.{Warning}
 use Rattle.register.specs.Laws.Sound.{accepted-tame, accepted-sound}
 use Rattle.budget.specs.Draws.{leftAfter, Claim}
 use Rattle.budget.specs.Laws.Draws.{claim}

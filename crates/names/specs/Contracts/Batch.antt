@@ -7,16 +7,13 @@ use Prim.Native.Nat.{ℕ, _+_, _-_, _*_, _%_, _≤_, _<_}
 use lib.ListN.{length, getD}
 use lib.Dec.{eqb}
 use lib.Ieee.{Float}
+use Rattle.values.specs.Maybe.{isSome, Maybe, none, some}
 use Rattle.records.specs.Records.{bytesAt}
 use Rattle.scene.specs.declared.labels.Best as code-best
-use Rattle.scene.specs.Scene.{Maybe, none, some, Point}
+use Rattle.values.specs.declared.Point.{Point}
 use Rattle.scene.specs.Labels.{sameBytes, pick, Best, bestPlace, labelIs, bestItem, pointOfLabel}
 use Rattle.scene.specs.Contracts.Answers.{keyBy, considerPlace, considerItem, labelBy, placesAt, itemsAt}
 use Rattle.names.specs.Contracts.Table.{nameOf, markOf, marked, Table}
-
-abbrev pub isSome : {A : Type 0} → Maybe A → Bool
-isSome (some x) = true
-isSome none = false
 
 -- the point of slot m, for m from 1 to 64
 abbrev pub slotPoint : List Float → ℕ → Float → Point

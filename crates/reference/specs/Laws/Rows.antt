@@ -9,7 +9,9 @@ use lib.Ieee.{Float, binary64, ofBits, toBits}
 use Rattle.float.specs.Functions.{roundOf}
 use Rattle.elementary.specs.Constants as K
 use Rattle.geodesy.specs.Geodesy.{normalizeLonOf}
-use Rattle.scene.specs.Scene.{Maybe, none, some, Point, sceneOf}
+use Rattle.scene.specs.Scene.{sceneOf}
+use Rattle.values.specs.declared.Point.{Point}
+use Rattle.values.specs.Maybe.{Maybe, none, some}
 use Rattle.scene.specs.Labels.{pointOfLabel}
 use Rattle.register.specs.Contracts.Outcome.{registerRefusal}
 use Rattle.budget.specs.declared.Budget.{Budget}

@@ -9,7 +9,9 @@ use lib.Dec.{eqb, ltb}
 use lib.Ieee.{Float}
 use Rattle.stream.specs.Payload.{payload}
 use Rattle.stream.specs.Contracts.Payload.{room}
-use Rattle.scene.specs.Scene.{Maybe, none, some, Point, Scene, sceneOf}
+use Rattle.scene.specs.Scene.{Scene, sceneOf}
+use Rattle.values.specs.declared.Point.{Point}
+use Rattle.values.specs.Maybe.{Maybe, none, some, isSome}
 use Rattle.scene.specs.Labels.{sameBytes}
 use Rattle.similarity.specs.declared.fit.Control.{Control}
 use Rattle.similarity.specs.Contracts.Fours.{fourIn, foursIn}
@@ -18,7 +20,7 @@ use Rattle.names.specs.Contracts.Batch.{slotPoint}
 use Rattle.register.specs.declared.controls.Tally.{Tally}
 use Rattle.register.specs.declared.controls.FilledBatch as code-filled
 use Rattle.register.specs.declared.mentions.Cursor.{Cursor}
-use Rattle.register.specs.Register.{isSome, Event, control, warn, allWithinLimits, resolved, mentioned, featureEvents, variableEvents, controlsIn, controlsOf, events}
+use Rattle.register.specs.Register.{Event, control, warn, allWithinLimits, resolved, mentioned, featureEvents, variableEvents, controlsIn, controlsOf, events}
 use Rattle.register.specs.Contracts.Mentions.{Mention, featureMentions, grownBy, eventsOf, mentionsAt, moreOf, Follows}
 
 -- which events are control points, the first event being the j-th

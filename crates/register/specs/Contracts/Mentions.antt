@@ -8,7 +8,8 @@ use lib.Ieee.{Float}
 use Rattle.stream.specs.Payload.{payload}
 use Rattle.stream.specs.Contracts.Payload.{room}
 use Rattle.records.specs.Records.{bytesAt}
-use Rattle.scene.specs.Scene.{Maybe, none, some, Scene, NamedFeature, NamedValue, sceneOf}
+use Rattle.scene.specs.Scene.{Scene, NamedFeature, NamedValue, sceneOf}
+use Rattle.values.specs.Maybe.{Maybe, none, some}
 use Rattle.scene.specs.Labels.{sameBytes}
 use Rattle.scene.specs.Contracts.Answers.{maybeFloat, featuresAt, variablesAt}
 use Rattle.register.specs.declared.mentions.Cursor.{Cursor}

@@ -7,7 +7,8 @@ use lib.Dec.{eqb}
 use lib.Ieee.{le, lt}
 use lib.Ieee.Scale.{finite}
 use Rattle.stream.specs.Conditions.{firstOf}
-use Rattle.scene.specs.Scene.{Point, Scene}
+use Rattle.scene.specs.Scene.{Scene}
+use Rattle.values.specs.declared.Point.{Point}
 use Rattle.similarity.specs.declared.fit.Control.{Control}
 use Rattle.similarity.specs.declared.projection.Registration.{Registration}
 use Rattle.similarity.specs.Fit.{fitOf}

@@ -9,32 +9,13 @@ use lib.Ieee.{Float}
 use Rattle.stream.specs.Payload.{payload}
 use Rattle.stream.specs.Contracts.Payload.{room}
 use Rattle.records.specs.Records.{bytesAt}
-use Rattle.scene.specs.Scene.{Maybe, none, some, NamedFeature, sceneOf}
+use Rattle.scene.specs.Scene.{NamedFeature, sceneOf}
+use Rattle.values.specs.Maybe.{Maybe, none, some, isSome}
 use Rattle.scene.specs.Labels.{sameBytes}
-use Rattle.register.specs.declared.warnings.WarningCursor.{WarningCursor}
-use Rattle.register.specs.Register.{Warning, isSome, resolved, mentioned, variableEvents}
+use Rattle.values.specs.declared.WarningCursor.{WarningCursor}
+use Rattle.register.specs.Register.{resolved, mentioned, variableEvents}
+use Rattle.values.specs.Warnings.{Warning}
 use Rattle.register.specs.Contracts.Gathered.{numbersIn}
-
--- the slice, and what was said of it
-pub record WarningSlice : Type 0 where
-  pub out : List ℕ
-  pub cursor : WarningCursor
-
-abbrev pub pickSlice : Bool → WarningSlice → WarningSlice → WarningSlice
-pickSlice true a b = a
-pickSlice false a b = b
-
-unfoldable pub pushed : Warning → WarningSlice → WarningSlice
-pushed w t =
-    let n = t .cursor .used in
-    pickSlice (t .cursor .ok && leb (n + 2) (length (t .out)))
-    (record { out = set (set (t .out) n (w .kind)) (n + 1) (w .index); cursor = record { ok = true; used = n + 2 } })
-    (record { out = t .out; cursor = record { ok = false; used = n } })
-
--- one after the other
-unfoldable pub allPushed : List Warning → WarningSlice → WarningSlice
-allPushed [] t = t
-allPushed (w ∷ ws) t = allPushed ws (pushed w t)
 
 -- ---- numbers of names that are control points
 -- the first of these is j

@@ -12,7 +12,9 @@ use lib.Ieee.{Float, lt, le}
 use lib.Ieee.Scale.{finite}
 use Rattle.stream.specs.Conditions.{firstOf}
 use Rattle.stream.specs.Laws.Conditions.{Numbered}
-use Rattle.scene.specs.Scene.{Maybe, none, some, Point, Scene}
+use Rattle.scene.specs.Scene.{Scene}
+use Rattle.values.specs.declared.Point.{Point}
+use Rattle.values.specs.Maybe.{Maybe, none, some}
 use Rattle.scene.specs.declared.fields.OptionalPoint.{OptionalPoint}
 use Rattle.scene.specs.Contracts.Answers.{maybePoint}
 use Rattle.similarity.specs.declared.fit.Control.{Control}

@@ -7,7 +7,8 @@ use lib.Ieee.{binary64, toBits}
 use Rattle.stream.specs.Conditions.{firstOf}
 use Rattle.scene.specs.Scene.{Scene, sceneOf}
 use Rattle.similarity.specs.declared.projection.Registration.{Registration}
-use Rattle.register.specs.Register.{Warning, controlsOf, registrationOf, ofRegistration, registerWarnings}
+use Rattle.register.specs.Register.{controlsOf, registrationOf, ofRegistration, registerWarnings}
+use Rattle.values.specs.Warnings.{Warning}
 use Rattle.register.specs.Contracts.Outcome.{registerRefusal}
 use Rattle.register.specs.Laws.Everything.{everything}
 

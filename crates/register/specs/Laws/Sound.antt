@@ -40,14 +40,15 @@ use Rattle.records.specs.Contracts.Refusals.{refusalOf}
 use Rattle.records.specs.Laws.Tests.{and-left, and-right}
 use Rattle.records.specs.Laws.Refusals.{is-short, is-limited, is-rescaled}
 use Rattle.stream.specs.Laws.Conditions.{first-none}
-use Rattle.scene.specs.Scene.{Maybe, none, some, first, valueOf, floatValueAt, Point, NamedFeature, NamedValue, variableAt, Scene, sceneOf}
-use Rattle.scene.specs.Labels.{sameBytes, pick, variableOf, orElse}
-use Rattle.register.specs.Register.{geoBearing, suffixLat, f0, f1, maxScale, orValue, var, pxMode, declaredBearing}
-use Rattle.register.specs.Register.{Warning, Event, control, warn, resolved, mentioned, eventOf, featureEvent, featureEvents, stem, isLon, lonEvent, consIf, variableEvents, events, controlsIn, controlsOf}
-use Rattle.register.specs.Register.{anchorOf, withinLimits, allWithinLimits, anchorWithinLimits, scaleValue, above0, effectiveScale, declaredAt, fitted, registrationBy, registrationOf, ofRegistration}
+use Rattle.scene.specs.Scene.{first, valueOf, floatValueAt, NamedFeature, NamedValue, variableAt, Scene, sceneOf}
+use Rattle.values.specs.declared.Point.{Point}
+use Rattle.values.specs.Maybe.{Maybe, none, some, orElse, orValue}
+use Rattle.scene.specs.Labels.{sameBytes, pick, variableOf}
+use Rattle.register.specs.Register.{geoBearing, suffixLat, f0, f1, maxScale, var, pxMode, declaredBearing, Event, control, warn, resolved, mentioned, eventOf, featureEvent, featureEvents, stem, isLon, lonEvent, consIf, variableEvents, events, controlsIn, controlsOf, anchorOf, withinLimits, allWithinLimits, anchorWithinLimits, scaleValue, above0, effectiveScale, declaredAt, fitted, registrationBy, registrationOf, ofRegistration}
+use Rattle.values.specs.Warnings.{Warning}
 use Rattle.register.specs.Contracts.Outcome.{registerRefusal}
 use Rattle.register.specs.Laws.Outcomes.{registration-numbered}
-use Rattle.register.specs.Laws.Near.{Holds, Near, NearPoint, NearScene, longest, label-near, limited-near}
+use Rattle.scene.specs.Laws.Near.{Holds, Near, NearPoint, NearScene, longest, label-near, limited-near}
 
 -- ---- numbers of a stream
 pub record Number (v : Float) : Type 0 where

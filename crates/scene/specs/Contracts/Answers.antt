@@ -12,7 +12,6 @@ use Rattle.records.specs.Contracts.Hits.{recordsAt, RecordAt}
 use Rattle.scene.specs.declared.options.FrameOption.{FrameOption}
 use Rattle.scene.specs.declared.labels.Key as code-key
 use Rattle.scene.specs.declared.labels.Best as code-best
-use Rattle.scene.specs.declared.fields.Point as code-point
 use Rattle.scene.specs.declared.fields.OptionalPoint.{OptionalPoint}
 use Rattle.scene.specs.declared.fields.OptionalFloat.{OptionalFloat}
 use Rattle.scene.specs.declared.readers.Feature.{Feature}
@@ -22,15 +21,14 @@ use Rattle.scene.specs.declared.readers.Path.{Path}
 use Rattle.scene.specs.declared.readers.Place.{Place}
 use Rattle.scene.specs.declared.readers.Points.{Points}
 use Rattle.scene.specs.declared.readers.Variable.{Variable}
-use Rattle.scene.specs.Scene.{Maybe, given, first, floatValueAt, Point, pointAt, pointsAt, cubicsAt, NamedFeature, featureAt, NamedValue, variableAt, NamedPlace, placeAt, Form, curve, polyline, DrawnPath, pathAt, DrawnItem, itemAt}
+use Rattle.scene.specs.Scene.{first, floatValueAt, pointAt, pointsAt, cubicsAt, NamedFeature, featureAt, NamedValue, variableAt, NamedPlace, placeAt, Form, curve, polyline, DrawnPath, pathAt, DrawnItem, itemAt}
+use Rattle.values.specs.declared.Point.{Point}
+use Rattle.values.specs.Maybe.{Maybe, given}
 use Rattle.scene.specs.Labels.{Key, Best, consider, considerAt, placeKey, itemKey, referencePoint}
 
 -- ---- numbers and points
 abbrev pub maybeFloat : OptionalFloat → Maybe Float
 maybeFloat v = given (v .some) (v .value)
-
-abbrev pub pointBy : code-point.Point → Point
-pointBy p = record { x = p .x; y = p .y }
 
 abbrev pub maybePoint : OptionalPoint → Maybe Point
 maybePoint p = given (p .some) (record { x = p .x; y = p .y })

@@ -3,7 +3,9 @@ use mathlib.Core.Path.{_≡_, refl}
 use mathlib.Core.Bool.{Bool, true, false, cond}
 use mathlib.Core.List.{List, []}
 use Prim.Native.Nat.{ℕ}
-use Rattle.scene.specs.Scene.{Maybe, none, some, given, Point, sceneOf}
+use Rattle.scene.specs.Scene.{sceneOf}
+use Rattle.values.specs.declared.Point.{Point}
+use Rattle.values.specs.Maybe.{Maybe, none, some, given}
 use Rattle.scene.specs.Labels.{pointOfLabel}
 use Rattle.scene.specs.Contracts.Answers.{LabelsFrom, featuresAt, variablesAt, placesAt, itemsAt}
 

@@ -16,7 +16,9 @@ use Rattle.scene.specs.declared.labels.Best as code-best
 use Rattle.scene.specs.declared.fields.OptionalPoint.{OptionalPoint}
 use Rattle.scene.specs.declared.readers.Item.{Item}
 use Rattle.scene.specs.declared.readers.Place.{Place}
-use Rattle.scene.specs.Scene.{Maybe, none, given, Point, NamedPlace, placeAt, DrawnItem, itemWith, itemAt}
+use Rattle.scene.specs.Scene.{NamedPlace, placeAt, DrawnItem, itemWith, itemAt}
+use Rattle.values.specs.declared.Point.{Point}
+use Rattle.values.specs.Maybe.{Maybe, none, given}
 use Rattle.scene.specs.Labels.{sameBytes, pick, Key, Best, consider, considerAt, itemKey, bestPlace, labelIs, referencePoint, bestItem, pointOf, pointOfLabel}
 use Rattle.scene.specs.Contracts.Answers.{considerPlace, considerItem, maybePoint, placesAt, placesBy, labelBy, itemBy, itemsAt, itemsBy, bestBy}
 use Rattle.scene.specs.Laws.Shift.{part-drop}

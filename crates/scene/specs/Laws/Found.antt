@@ -21,7 +21,8 @@ use Rattle.records.specs.Search.{keyOf, searchStepOf}
 use Rattle.records.specs.Contracts.Hits.{recordsAt, RecordAt, hitsOf, SkipsTo}
 use Rattle.records.specs.Walk.{tagOf}
 use Rattle.records.specs.Laws.Search.{search-got, passed-over, standing-less, standing-fits, choice-within, NameFound, PointsFound, PathFound}
-use Rattle.scene.specs.Scene.{none, some, first}
+use Rattle.scene.specs.Scene.{first}
+use Rattle.values.specs.Maybe.{none, some}
 use Rattle.scene.specs.Contracts.Answers.{LengthPrefixed}
 
 -- an answer that says of itself that there is none

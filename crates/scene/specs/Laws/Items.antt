@@ -19,7 +19,8 @@ use Rattle.records.specs.Walk.{entries}
 use Rattle.records.specs.Laws.Walk.{entries-on}
 use Rattle.records.specs.Laws.Search.{standing-fits, standing-tells}
 use Rattle.scene.specs.declared.readers.Item.{Item}
-use Rattle.scene.specs.Scene.{Maybe, given, floatValueAt, bit, pointAt, tail, itemWith, itemAt}
+use Rattle.scene.specs.Scene.{floatValueAt, bit, pointAt, tail, itemWith, itemAt}
+use Rattle.values.specs.Maybe.{Maybe, given}
 use Rattle.scene.specs.Contracts.Answers.{Within, maybeFloat, maybePoint, ItemRecordAt, itemBy, itemsAt, itemsBy}
 use Rattle.scene.specs.Laws.Shift.{part-drop, number-drop, point-drop}
 use Rattle.scene.specs.Laws.Found.{nothing, One, one-listed}

@@ -5,7 +5,8 @@ use Prim.Native.Nat.{ℕ, zero, suc, _+_, _-_, _*_, _≤_, _<_}
 use native.Mathlib.Omega.{arith}
 use lib.ListN.{length}
 use lib.Ieee.{Float, binary64, add}
-use Rattle.scene.specs.Scene.{Point, pointAt, pointsAt}
+use Rattle.scene.specs.Scene.{pointAt, pointsAt}
+use Rattle.values.specs.declared.Point.{Point}
 use Rattle.scene.specs.Labels.{sumOf}
 
 pub points-length : (l : List ℕ) (p n : ℕ) → length (pointsAt l p n) ≡ n

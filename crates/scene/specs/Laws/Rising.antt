@@ -17,7 +17,8 @@ use Rattle.records.specs.Layout.{before, nameOf, Pass, start, orderedIf, follow
 use Rattle.records.specs.Search.{endsSearch, searchStepOf, withFound, recordsOf}
 use Rattle.records.specs.Laws.Tests.{and-left, and-right, or-cases}
 use Rattle.records.specs.Laws.Records.{Fields, stands}
-use Rattle.scene.specs.Scene.{none, NamedValue, variableAt}
+use Rattle.scene.specs.Scene.{NamedValue, variableAt}
+use Rattle.values.specs.Maybe.{none}
 use Rattle.scene.specs.Labels.{sameBytes, variableOf}
 use Rattle.scene.specs.Contracts.Answers.{variablesAt}
 

@@ -5,12 +5,13 @@ use Prim.Native.Nat.{ℕ}
 use lib.ListN.{replicate}
 use lib.Ieee.{binary64, ofBits, ofInt, add, div, sum, round, units, odd, size, climb, span}
 use Rattle.stream.specs.Numbers.{u16At, u32At, u64At, floatOf, floatAt}
-use Rattle.records.specs.Records.{asciiGraphic, allTo, named, labelled, namedThen, counted, allZero, optionWidth, optionFits, valuesWidth, itemBegins, itemFits, itemWith}
-use Rattle.records.specs.Records.{endOf, rescaleOf, optionOf, featureOf, variableOf, placeOf, itemOf, pointsOf, pathWith, cubicsOf, polylineOf, pathOf, byTag, recordOf, bytesAt}
+use Rattle.records.specs.Records.{asciiGraphic, allTo, named, labelled, namedThen, counted, allZero, optionWidth, optionFits, valuesWidth, itemBegins, itemFits, itemWith, endOf, rescaleOf, optionOf, featureOf, variableOf, placeOf, itemOf, pointsOf, pathWith, cubicsOf, polylineOf, pathOf, byTag, recordOf, bytesAt}
 use Rattle.records.specs.Walk.{entries}
 use Rattle.records.specs.Search.{endsSearch, searchStepOf, recordsOf}
 use Rattle.scene.specs.Scene as scene
-use Rattle.scene.specs.Scene.{Maybe, none, some, Point, sceneOf, valueOf, floatValueAt, bit, pointAt, pointsAt, cubicAt, cubicsAt, placeAt, formAt, pathAt, itemAt}
+use Rattle.scene.specs.Scene.{sceneOf, valueOf, floatValueAt, bit, pointAt, pointsAt, cubicAt, cubicsAt, placeAt, formAt, pathAt, itemAt}
+use Rattle.values.specs.declared.Point.{Point}
+use Rattle.values.specs.Maybe.{Maybe, none, some}
 use Rattle.scene.specs.Labels.{sameBytes, sumOf, meanOf, meanPoint, startOf, firstStart, meanOrStart, referencePoint, greater, consider, labelIs, bestPlace, bestItem, pointOfLabel}
 
 -- ---- floats: 0 and 1 to 4

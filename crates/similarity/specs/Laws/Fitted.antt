@@ -11,13 +11,13 @@ use lib.ListN.{length, length-map}
 use lib.Ieee.{Float, fin, binary64, ofInt, fits, neg, add, sub, div, lt, le, ofBits}
 use lib.Ieee.Fits.{and-l, and-r, mul-fits}
 use lib.Ieee.Scale.{finite}
+use Rattle.float.specs.Laws.Spans.{each-map, whole-million, Spans, Few, Each, total, looser, ends-spans, spans-ends, within-spans, spans-within, add-spans, sub-spans, mean-spans, floor, million, mMillion}
 use Rattle.float.specs.Laws.Operations.{finite-neg}
 use Rattle.float.specs.Laws.Magnitude.{Within, wider}
 use Rattle.float.specs.Laws.Remainder.{Whole}
 use Rattle.float.specs.Laws.Comparisons.{lt→le}
 use Rattle.float.specs.Laws.Intervals.{iv, Between, in-finite}
 use Rattle.float.specs.Laws.Expressions.{var, lit, over}
-use Rattle.float.specs.Laws.Spans.{Spans, Few, Each, total, looser, ends-spans, spans-ends, within-spans, spans-within, add-spans, sub-spans, mean-spans, floor}
 use Rattle.elementary.specs.Constants as K
 use Rattle.elementary.specs.Functions.{toDegreesOf, hypotOf, atan2Of}
 use Rattle.elementary.specs.Laws.Codes.{encloses, enclosed}
@@ -33,7 +33,7 @@ use Rattle.similarity.specs.declared.fit.Fit.{Fit}
 use Rattle.similarity.specs.declared.fit.ProjectedControl.{ProjectedControl}
 use Rattle.similarity.specs.declared.projection.Registration.{Registration}
 use Rattle.similarity.specs.Fit.{projectedOf, noSums, added, sumsOf, dividedBy, meansOf, noMoments, momentsOf, degenerate, pickFit, fitAt, solvedOf, roundOf, again, fitProjected, fitOf}
-use Rattle.similarity.specs.Laws.Project.{million, mMillion, maxScale, Sound}
+use Rattle.similarity.specs.Laws.Project.{maxScale, Sound}
 use Rattle.similarity.specs.Laws.Bearing.{hypot-parts, bearing-in}
 
 -- ---- control points, and their marks
@@ -53,10 +53,6 @@ record Marked (m : ProjectedControl) : Type 0 where
   e : Sized (2 ^ 25) (m .e)
   n : Sized 20330312 (m .n)
 
-pub whole-million : Whole million 1000000
-unfolding ofBits
-whole-million = record { is-finite = tt; up-is = refl; no-minus = refl }
-
 whole-edge : Whole edge 20330312
 whole-edge = record { is-finite = tt; up-is = refl; no-minus = refl }
 
@@ -71,10 +67,6 @@ marked c h =
       e = within-spans 25 (m .x) (forward-east p (h .lon));
       n = ends-spans 20330312 edge (m .y) whole-edge (forward-north p (h .lat));
     }
-
-pub each-map : {A B : Type 0} (f : A → B) (Q : A → Type 0) (R : B → Type 0) → ((a : A) → Q a → R (f a)) → (l : List A) → Each Q l → Each R (map f l)
-each-map f Q R g [] h = tt
-each-map f Q R g (a ∷ l) h = (g a (h .0), each-map f Q R g l (h .1))
 
 -- ---- the means
 abbrev east : Metres → ProjectedControl → Float

@@ -6,6 +6,7 @@ use native.Mathlib.Omega.{arith}
 use lib.Dec.{T, lit<, lit≤}
 use lib.Ieee.{Float, binary64, fits, neg, add, sub, mul, div, le, ofBits}
 use lib.Ieee.Scale.{finite}
+use Rattle.float.specs.Laws.Spans.{million, mMillion, plus2^, minus2^, within-between, between-within, ends-spans, spans-ends, mul-spans, div-spans, whole-spans}
 use Rattle.float.specs.Laws.Signed.{P, N, D}
 use Rattle.float.specs.Laws.Magnitude.{Within, wider}
 use Rattle.float.specs.Laws.Remainder.{Whole}
@@ -13,7 +14,6 @@ use Rattle.float.specs.Laws.Whole.{round-cuts}
 use Rattle.float.specs.Laws.Intervals.{Iv, iv, Between, in-finite}
 use Rattle.float.specs.Laws.Expressions.{Expr, var, minus, plus, less, times, AllIn}
 use Rattle.float.specs.Laws.Numbers.{half-within}
-use Rattle.float.specs.Laws.Spans.{plus2^, minus2^, within-between, between-within, ends-spans, spans-ends, mul-spans, div-spans, whole-spans}
 use Rattle.elementary.specs.Constants as K
 use Rattle.elementary.specs.Functions.{toRadiansOf, sinOf, cosOf}
 use Rattle.elementary.specs.Contracts.Stages.{atanFirst, atanSecond, atanThird}
@@ -29,13 +29,6 @@ use Rattle.similarity.specs.declared.projection.Registration.{Registrati
 use Rattle.similarity.specs.declared.projection.Projection.{Projection}
 use Rattle.similarity.specs.Projection.{anchorOf, planeOffsetOf, toLonLatOf, toLonLatBy, billion, round9Of, geoOf, geoBy}
 use Rattle.similarity.specs.Contracts.Stages.{planePositionOf, expStageOf, roundedLatitudeOf}
-
--- 1,000,000 and 1,000,000,000
-abbrev pub million : Float
-million = ofBits binary64 0x412e848000000000
-
-abbrev pub mMillion : Float
-mMillion = neg million
 
 abbrev pub maxScale : Float
 maxScale = ofBits binary64 0x41cdcd6500000000

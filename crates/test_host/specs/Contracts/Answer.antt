@@ -9,7 +9,7 @@ use Rattle.scene.specs.Scene.{sceneOf}
 use Rattle.register.specs.declared.outcome.Outcome.{Outcome}
 use Rattle.register.specs.Register.{registerWarnings}
 use Rattle.register.specs.Contracts.Outcome.{pickOutcome, refusedBy, outcomeOf}
-use Rattle.register.specs.Contracts.Warnings.{WarningSlice, pickSlice, allPushed}
+use Rattle.values.specs.Contracts.Warnings.{WarningSlice, pickSlice, allPushed}
 
 unfoldable pub answerOf : List ℕ → Outcome
 answerOf s = pickOutcome (eqb (refusalOf s) 0) (outcomeOf (sceneOf (payload s))) (refusedBy (refusalOf s))

@@ -5,7 +5,9 @@ use mathlib.Core.List.{List}
 use lib.ListN.{length}
 use lib.Dec.{leb}
 use Rattle.records.specs.Records.{bytesAt}
-use Rattle.scene.specs.Scene.{Maybe, none, some, Point, pointAt, sceneOf}
+use Rattle.scene.specs.Scene.{pointAt, sceneOf}
+use Rattle.values.specs.declared.Point.{Point}
+use Rattle.values.specs.Maybe.{Maybe, none, some}
 use Rattle.scene.specs.Labels.{pointOfLabel}
 
 -- the i-th point of those from `at` on

@@ -1,7 +1,7 @@
 use native.Mathlib.Omega.{arith}
 use borrow.Author.Needs.{needs}
 use Rattle.densify.specs.Densify.{densifyPolylineOf}
-use Rattle.densify.specs.Contracts.Written.{pointsIn}
+use Rattle.values.specs.Contracts.Points.{pointsIn}
 use Rattle.densify.specs.Laws.Replay.{densify-replays}
 use Rattle.densify.specs.Laws.Sizes.{left-falls}
 use Rattle.convert.specs.Convert.{missing, drawWithoutWriting}

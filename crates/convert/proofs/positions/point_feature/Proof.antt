@@ -2,7 +2,7 @@ use mathlib.Core.Path.{sym, _∙_}
 use mathlib.Core.List.{[], _∷_}
 use borrow.Author.Needs.{needs}
 use borrow.Author.Tests.{leb-false, not-true, not-false}
-use Rattle.scene.specs.Scene.{Point}
+use Rattle.values.specs.declared.Point.{Point}
 use Rattle.densify.specs.Densify.{withoutDraws}
 use Rattle.densify.specs.Contracts.Written.{Written}
 use Rattle.densify.specs.Positions.{projectPoint}

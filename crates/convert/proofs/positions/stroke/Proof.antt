@@ -8,8 +8,10 @@ use borrow.Author.Needs.{needs}
 use borrow.Author.Tests.{not-true, not-false}
 use borrow.Rule.Slice.PartMut.{putMid}
 use Rattle.densify.specs.Densify.{Made}
-use Rattle.densify.specs.Contracts.Written.{pointsIn, Written}
-use Rattle.densify.specs.Laws.Writing.{flats-length, next-in}
+use Rattle.densify.specs.Contracts.Written.{Written}
+use Rattle.values.specs.Contracts.Points.{pointsIn}
+use Rattle.densify.specs.Laws.Writing.{next-in}
+use Rattle.values.specs.Laws.Points.{flats-length}
 use Rattle.convert.specs.Contracts.Space.{most, longest}
 use Rattle.convert.specs.Laws.Applying.{played-stuck}
 use Rattle.convert.specs.Laws.Positions.{tail-written, strokeMade, stroke-some, stroke-few, Stands, line-stands, ring-stands, stands-length, stroke-lacks, stroke-finished}

@@ -2,7 +2,7 @@ use native.Mathlib.Omega.{arith}
 use Prim.Native.Nat.{_+_, _≤_}
 use lib.ListN.{length, length-set}
 use borrow.Author.Needs.{needs}
-use Rattle.geojson.specs.Laws.Words.{pair-put}
+use Rattle.values.specs.Laws.Put.{pair-put}
 use Rattle.convert.specs.Contracts.Space.{outputBy}
 use Rattle.convert.specs.Laws.Applying.{played-stuck}
 use Rattle.convert.specs.Laws.Events.{state-is, warned-fits, warned-lacks}

@@ -3,7 +3,7 @@ use borrow.Author.Needs.{needs}
 use borrow.Author.Tests.{not-true, not-false}
 use Rattle.budget.specs.declared.Budget.{Budget}
 use Rattle.stream.specs.Payload.{payload}
-use Rattle.scene.specs.Scene.{none, some}
+use Rattle.values.specs.Maybe.{none, some}
 use Rattle.densify.specs.Densify.{pathPointsOf}
 use Rattle.densify.specs.Contracts.Written.{drawnBy}
 use Rattle.densify.specs.Laws.Writing.{next-in}

@@ -1,7 +1,8 @@
 use borrow.Author.Needs.{needs}
 use borrow.Author.Tests.{not-true, not-false}
 use Rattle.stream.specs.Payload.{payload}
-use Rattle.scene.specs.Scene.{none, pointsAt}
+use Rattle.scene.specs.Scene.{pointsAt}
+use Rattle.values.specs.Maybe.{none}
 use Rattle.densify.specs.Densify.{withoutDraws}
 use Rattle.densify.specs.Laws.Writing.{next-in}
 use Rattle.convert.specs.Contracts.Space.{Loads, Small}

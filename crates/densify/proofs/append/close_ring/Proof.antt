@@ -4,7 +4,7 @@ use mathlib.Core.Logic.{⊎-elim}
 use mathlib.Core.List.{[], _∷_}
 use native.Mathlib.Omega.{arith}
 use Rattle.densify.specs.Contracts.Written.{closingIn}
-use Rattle.densify.specs.Positions.{pointOf}
+use Rattle.values.specs.Points.{pointOf}
 use Rattle.densify.specs.Laws.Writing.{written-none}
 use Rattle.densify.specs.Laws.Closing.{closing-few, closing-same, closing-open-x, closing-open-y}
 use borrow.Author.Needs.{needs}

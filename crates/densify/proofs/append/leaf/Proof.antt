@@ -5,9 +5,10 @@ use native.Mathlib.Omega.{arith}
 use lib.ListN.{length-set}
 use lib.Dec.{ltb}
 use Rattle.densify.specs.Densify.{leafOf}
-use Rattle.densify.specs.Contracts.Written.{pointIn}
-use Rattle.densify.specs.Positions.{flats}
-use Rattle.densify.specs.Laws.Writing.{put-point, written-short, written-all}
+use Rattle.values.specs.Contracts.Points.{pointIn}
+use Rattle.values.specs.Points.{flats}
+use Rattle.densify.specs.Laws.Writing.{written-short, written-all}
+use Rattle.values.specs.Laws.Points.{put-point}
 use borrow.Author.Needs.{needs}
 use Rattle.densify.proofs.append.leaf.Statement.{statement}
 use Rattle.densify.proofs.append.leaf.Tie as tie

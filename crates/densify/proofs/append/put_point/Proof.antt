@@ -2,10 +2,11 @@ use mathlib.Core.Path.{refl}
 use mathlib.Core.List.{[], _∷_}
 use native.Mathlib.Omega.{arith}
 use lib.ListN.{length-set}
-use Rattle.scene.specs.Scene.{Point}
+use Rattle.values.specs.declared.Point.{Point}
 use Rattle.densify.specs.Densify.{withoutDraws}
-use Rattle.densify.specs.Positions.{flats}
-use Rattle.densify.specs.Laws.Writing.{put-point, written-short, written-all}
+use Rattle.values.specs.Points.{flats}
+use Rattle.densify.specs.Laws.Writing.{written-short, written-all}
+use Rattle.values.specs.Laws.Points.{put-point}
 use borrow.Author.Needs.{needs}
 use Rattle.densify.proofs.append.put_point.Statement.{statement}
 use Rattle.densify.proofs.append.put_point.Tie as tie

@@ -6,7 +6,6 @@ use native.Mathlib.Numerals.{unary-clauses}
 use lib.ListN.{length}
 use Rattle.stream.specs.Payload.{payload}
 use Rattle.scene.specs.Scene.{cubicsAt}
-use Rattle.scene.specs.Contracts.Answers.{pointBy}
 use Rattle.densify.specs.Densify.{cubicsOf}
 use Rattle.densify.specs.Laws.Writing.{next-in, Leads}
 use Rattle.densify.proofs.Points.{cubics-short, cubics-next, cubics-end}
@@ -69,7 +68,7 @@ returns c =
     let three = c .before .before .before .before .before .before .point-at3 in
     let d = c .before .before .before .before .flatten-cubic in
     cubics-short (payload (s .s .now)) (s .from) (s .count) (t .i) (s .tol) (record { x = t .px; y = t .py }) (t .left) (t .inv .3)
-    (pointBy (one .result)) (pointBy (two .result)) (pointBy (three .result)) (c .before .before .before .before .before .before .before .before .before .loop-test .taken) (one .ensures) (two .ensures) (three .ensures) (d .ensures) (not-true _ (c .if1 .taken))
+    (one .result) (two .result) (three .result) (c .before .before .before .before .before .before .before .before .before .loop-test .taken) (one .ensures) (two .ensures) (three .ensures) (d .ensures) (not-true _ (c .if1 .taken))
 
 add-i : tie.Need-add-i Inv-loop μ-loop
 add-i c = search needs
@@ -91,7 +90,7 @@ loop-again c =
       next-in (d .ensures) fits,
       d .kept .1 .1 .1 .0 ∙ t .inv .2,
       cubics-next (payload (s .s .now)) (s .from) (s .count) (t .i) (s .tol) (record { x = t .px; y = t .py }) (t .left) (t .inv .3)
-          (pointBy (one .result)) (pointBy (two .result)) (pointBy (three .result)) more (one .ensures) (two .ensures) (three .ensures) (d .ensures) fits,
+          (one .result) (two .result) (three .result) more (one .ensures) (two .ensures) (three .ensures) (d .ensures) fits,
     )
 
 same-length-2 : tie.Need-same-length-2 Inv-loop μ-loop

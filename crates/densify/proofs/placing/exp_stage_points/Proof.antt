@@ -6,10 +6,10 @@ use lib.ListN.{getD, length-set}
 use lib.Ieee.{nan}
 use borrow.Author.Needs.{needs}
 use borrow.Author.Tests.{not-false}
-use Rattle.scene.specs.Scene.{Point}
+use Rattle.values.specs.declared.Point.{Point}
 use Rattle.similarity.specs.Contracts.Stages.{expStageOf}
 use Rattle.densify.specs.Contracts.Written.{expStageBy}
-use Rattle.densify.specs.Positions.{pointOf}
+use Rattle.values.specs.Points.{pointOf}
 use Rattle.densify.specs.Laws.Placing.{Passed, pass-start, pass-end, pass-none, pass-turn, stretched-is}
 use Rattle.densify.proofs.placing.exp_stage_points.Statement.{statement}
 use Rattle.densify.proofs.placing.exp_stage_points.Tie as tie

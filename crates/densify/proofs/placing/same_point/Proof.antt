@@ -1,7 +1,7 @@
 use mathlib.Core.Path.{sym, ap, _∙_}
 use mathlib.Core.Bool.{false≢true}
 use borrow.Author.Needs.{needs}
-use Rattle.scene.specs.Scene.{Point}
+use Rattle.values.specs.declared.Point.{Point}
 use Rattle.densify.proofs.placing.same_point.Statement.{statement}
 use Rattle.densify.proofs.placing.same_point.Tie as tie
 

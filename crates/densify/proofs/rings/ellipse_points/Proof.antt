@@ -4,7 +4,7 @@ use native.Mathlib.Omega.{arith}
 use borrow.Author.Needs.{needs}
 use borrow.Author.Tests.{not-true, not-false}
 use Rattle.densify.specs.Densify.{ellipsePoint}
-use Rattle.densify.specs.Contracts.Written.{pointIn}
+use Rattle.values.specs.Contracts.Points.{pointIn}
 use Rattle.densify.specs.Laws.Writing.{next-in}
 use Rattle.densify.specs.Laws.Rounds.{Rounds, round-none, round-next, round-short}
 use Rattle.densify.proofs.Casts.{in-float}

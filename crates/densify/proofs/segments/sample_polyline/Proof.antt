@@ -9,8 +9,9 @@ use borrow.Author.Tests.{not-true, not-false}
 use Rattle.budget.specs.Budget.{takeOf}
 use Rattle.densify.specs.declared.append.PointCursor.{PointCursor}
 use Rattle.densify.specs.Densify.{withoutDraws, segmentWant, segmentsOf, densifyPolylineOf}
-use Rattle.densify.specs.Contracts.Written.{pointsIn, Written}
-use Rattle.densify.specs.Positions.{pointOf}
+use Rattle.densify.specs.Contracts.Written.{Written}
+use Rattle.values.specs.Contracts.Points.{pointsIn}
+use Rattle.values.specs.Points.{pointOf}
 use Rattle.densify.specs.Laws.Writing.{written-none, next-in, Leads}
 use Rattle.densify.specs.Laws.Segments.{grant-within, polyline-none, onwards, segments-end, segment-short, segment-next, polyline-short, polyline-done}
 use Rattle.densify.proofs.segments.sample_polyline.Statement.{statement}

@@ -6,7 +6,8 @@ use native.Mathlib.Omega.{arith}
 use borrow.Author.Needs.{needs}
 use borrow.Author.Tests.{not-true, not-false}
 use Rattle.densify.specs.Densify.{withoutDraws, alongOf, samplesTo}
-use Rattle.densify.specs.Contracts.Written.{pointIn, Written}
+use Rattle.densify.specs.Contracts.Written.{Written}
+use Rattle.values.specs.Contracts.Points.{pointIn}
 use Rattle.densify.specs.Laws.Writing.{written-none, next-in}
 use Rattle.densify.specs.Laws.Segments.{sampled, sample-next, sample-short}
 use Rattle.densify.proofs.segments.sample_segment.Statement.{statement}

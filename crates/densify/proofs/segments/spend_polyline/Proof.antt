@@ -3,7 +3,7 @@ use Prim.Native.Nat.{_+_, _-_, _≤_, _<_}
 use native.Mathlib.Omega.{arith}
 use borrow.Author.Needs.{needs}
 use Rattle.densify.specs.Densify.{segmentsOf}
-use Rattle.densify.specs.Contracts.Written.{pointsIn}
+use Rattle.values.specs.Contracts.Points.{pointsIn}
 use Rattle.densify.specs.Laws.Segments.{polyline-none, polyline-first, segments-none, spent-next}
 use Rattle.densify.proofs.segments.spend_polyline.Statement.{statement}
 use Rattle.densify.proofs.segments.spend_polyline.Tie as tie

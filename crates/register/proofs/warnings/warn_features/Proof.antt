@@ -9,13 +9,13 @@ use lib.ListN.{length}
 use Rattle.stream.specs.Payload.{payload}
 use Rattle.stream.specs.Contracts.Payload.{room}
 use Rattle.scene.specs.Contracts.Answers.{Within, LengthPrefixed}
-use Rattle.register.proofs.Pushing.{sheet, sheets}
+use Rattle.values.specs.Laws.Warnings.{sliceOf, same-slice}
 use Rattle.register.proofs.WarningLaws.{Told, none-told, all-told, one-fits, one-control, one-warned}
 use Rattle.register.proofs.warnings.warn_features.Statement.{statement}
 use Rattle.register.proofs.warnings.warn_features.Tie as tie
 
 abbrev Inv-loop : tie.InvT-loop
-Inv-loop s kept n heads₀ out₀ warned₀ h₀ q₀ i₀ heads out warned h q i = Told s kept n heads h (sheet out₀ warned₀) (sheet out warned) q i
+Inv-loop s kept n heads₀ out₀ warned₀ h₀ q₀ i₀ heads out warned h q i = Told s kept n heads h (sliceOf out₀ warned₀) (sliceOf out warned) q i
 
 abbrev μ-loop : tie.MeasureT-loop
 μ-loop s kept n heads₀ out₀ warned₀ h₀ q₀ i₀ heads out warned h q i = room s - q
@@ -66,11 +66,11 @@ slice-write-heads c = omega (arith, place (c .before .before) (c .before .if2 .t
 add-h : tie.Need-add-h Inv-loop μ-loop
 add-h c = omega (arith, place (c .before .before) (c .before .if2 .taken))
 
-cast-push : tie.Need-cast-push Inv-loop μ-loop
-cast-push c = omega (arith, c .before .before .before .before .before .before .loop .inv .short, c .before .before .before .before .before .before .loop .inv .within, c .before .before .before .before .before .before .before .before .before .before .before .pre .0)
+cast-push-warning : tie.Need-cast-push-warning Inv-loop μ-loop
+cast-push-warning c = omega (arith, c .before .before .before .before .before .before .loop .inv .short, c .before .before .before .before .before .before .loop .inv .within, c .before .before .before .before .before .before .before .before .before .before .before .pre .0)
 
-push-requires : tie.Need-push-requires Inv-loop μ-loop
-push-requires c κs = c .before .before .before .before .before .before .loop .inv .fits
+push-warning-requires : tie.Need-push-warning-requires Inv-loop μ-loop
+push-warning-requires c κs = c .before .before .before .before .before .before .loop .inv .fits
 
 add-i : tie.Need-add-i Inv-loop μ-loop
 add-i c = omega (arith, c .before .before .before .before .before .loop .inv .short, c .before .before .before .before .before .loop .inv .within, c .before .before .before .before .before .before .before .before .before .before .pre .0)
@@ -84,8 +84,8 @@ loop-again c =
     let d = c .before .before .before .before .before .loop .inv in
     let r = c .before .before .before .before .next-name in
     ⊎-elim
-    (λ w. one-control d (r .result) (r .ensures .0) (e .if1 .left) (within e) (long e) (c .before .is-kept .ensures) (c .before .before .before .before .before .before .before .before .before .before .pre .2) (headed e) (w .0 .taken) (sheets (w .3) (w .4)) (w .2) (w .5))
-    (λ w. one-warned d (r .result) (r .ensures .0) (e .if1 .left) (within e) (long e) (c .before .is-kept .ensures) (w .0 .left) (sheets (w .6) (w .7) ∙ w .2 .ensures) (w .5) (w .8))
+    (λ w. one-control d (r .result) (r .ensures .0) (e .if1 .left) (within e) (long e) (c .before .is-kept .ensures) (c .before .before .before .before .before .before .before .before .before .before .pre .2) (headed e) (w .0 .taken) (same-slice (w .3) (w .4)) (w .2) (w .5))
+    (λ w. one-warned d (r .result) (r .ensures .0) (e .if1 .left) (within e) (long e) (c .before .is-kept .ensures) (w .0 .left) (same-slice (w .6) (w .7) ∙ w .2 .ensures) (w .5) (w .8))
     (c .if2 .came)
 
 pub warn-features-spec : {M : Type 1} → statement M
@@ -105,8 +105,8 @@ warn-features-spec =
     mul-heads
     slice-write-heads
     add-h
-    cast-push
-    push-requires
+    cast-push-warning
+    push-warning-requires
     add-i
     loop-less
     loop-again)

@@ -4,7 +4,8 @@ use mathlib.Core.Path.{refl, _∙_}
 use mathlib.Core.Logic.{⊎-elim}
 use mathlib.Core.Bool.{true, false}
 use Rattle.register.specs.Register.{ignoredWith}
-use Rattle.register.proofs.Pushing.{sheet, sheets, none-written, one-written, each-none, Declaring, ignored-told}
+use Rattle.values.specs.Laws.Warnings.{sliceOf, same-slice}
+use Rattle.register.proofs.Pushing.{none-written, one-written, each-none, Declaring, ignored-told}
 use Rattle.register.proofs.warnings.warn_ignored.Statement.{statement}
 use Rattle.register.proofs.warnings.warn_ignored.Tie as tie
 
@@ -15,36 +16,36 @@ returns c = each-none (c .before .before .args .d) (ignoredWith (c .before .befo
 declares-requires : tie.Need-declares-requires
 declares-requires c κs = search needs
 
-push-requires : tie.Need-push-requires
-push-requires c κs = search needs
+push-warning-requires : tie.Need-push-warning-requires
+push-warning-requires c κs = search needs
 
 -- what is declared is told first, or not
 first : (j : tie.Joined2)
     → let o = j .before .before .before .args in
-    Declaring (o .n) (o .d) (sheet (o .out .now) (o .w)) (sheet (j .if2 .out) (j .if2 .warned))
+    Declaring (o .n) (o .d) (sliceOf (o .out .now) (o .w)) (sliceOf (j .if2 .out) (j .if2 .warned))
 first j =
     let n = j .before .before .before .args .n in
     let h = j .before .before .before .pre in
     ⊎-elim
-    (λ w. record { told = true; is = λ sc x. rw (le-leb 2 n (w .0 .taken), ← w .1 .ensures sc x, w .2 .taken) refl; written = one-written _ _ _ _ refl (sheets (w .7) (w .8) ∙ w .4 .ensures) h })
+    (λ w. record { told = true; is = λ sc x. rw (le-leb 2 n (w .0 .taken), ← w .1 .ensures sc x, w .2 .taken) refl; written = one-written _ _ _ _ refl (same-slice (w .7) (w .8) ∙ w .4 .ensures) h })
     (⊎-elim
-    (λ w. record { told = false; is = λ sc x. rw (le-leb 2 n (w .0 .taken), ← w .1 .ensures sc x, w .2 .left) refl; written = none-written _ _ _ refl (sheets (w .3) (w .4)) h })
-    (λ w. record { told = false; is = λ sc x. rw (lt-leb 2 n (w .0 .left)) refl; written = none-written _ _ _ refl (sheets (w .1) (w .2)) h }))
+    (λ w. record { told = false; is = λ sc x. rw (le-leb 2 n (w .0 .taken), ← w .1 .ensures sc x, w .2 .left) refl; written = none-written _ _ _ refl (same-slice (w .3) (w .4)) h })
+    (λ w. record { told = false; is = λ sc x. rw (lt-leb 2 n (w .0 .left)) refl; written = none-written _ _ _ refl (same-slice (w .1) (w .2)) h }))
     (j .if2 .came)
 
-push-requires-2 : tie.Need-push-requires-2
-push-requires-2 c κs = first (c .before .before .before) .written .1
+push-warning-requires-2 : tie.Need-push-warning-requires-2
+push-warning-requires-2 c κs = first (c .before .before .before) .written .1
 
 -- then the anchor, or not
 same-length : tie.Need-same-length
 same-length c =
     let j = c .before .before .before .before .before .before in
-    ignored-told (first j) (j .before .if1 .left) true (c .before .before .before .before .if4 .taken) (one-written _ _ _ _ refl (c .before .before .push2 .ensures) (first j .written .1)) .1
+    ignored-told (first j) (j .before .if1 .left) true (c .before .before .before .before .if4 .taken) (one-written _ _ _ _ refl (c .before .before .push-warning2 .ensures) (first j .written .1)) .1
 
 returns-2 : tie.Need-returns-2
 returns-2 c =
     let j = c .before .before .before .before .before .before in
-    ignored-told (first j) (j .before .if1 .left) true (c .before .before .before .before .if4 .taken) (one-written _ _ _ _ refl (c .before .before .push2 .ensures) (first j .written .1)) .0
+    ignored-told (first j) (j .before .if1 .left) true (c .before .before .before .before .if4 .taken) (one-written _ _ _ _ refl (c .before .before .push-warning2 .ensures) (first j .written .1)) .0
 
 same-length-2 : tie.Need-same-length-2
 same-length-2 c =
@@ -62,8 +63,8 @@ warn-ignored-spec =
     (tie.spec
     returns
     declares-requires
-    push-requires
-    push-requires-2
+    push-warning-requires
+    push-warning-requires-2
     same-length
     returns-2
     same-length-2

@@ -5,13 +5,13 @@ use Prim.Native.Nat.{_-_}
 use native.Mathlib.Omega.{arith}
 use Rattle.stream.specs.Contracts.Payload.{room}
 use Rattle.scene.specs.Laws.Rising.{variables-rising}
-use Rattle.register.proofs.Pushing.{sheet, sheets}
+use Rattle.values.specs.Laws.Warnings.{sliceOf, same-slice}
 use Rattle.register.proofs.WarningLaws.{Telling, telling, all-variables, lon-fits, lon-control, lon-warned}
 use Rattle.register.proofs.warnings.warn_lons.Statement.{statement}
 use Rattle.register.proofs.warnings.warn_lons.Tie as tie
 
 abbrev Inv-loop : tie.InvT-loop
-Inv-loop s kept n heads h features out₀ warned₀ runs₀ c₀ k₀ j₀ out warned runs c k j = Telling s kept n (sheet out₀ warned₀) (sheet out warned) runs c k features j
+Inv-loop s kept n heads h features out₀ warned₀ runs₀ c₀ k₀ j₀ out warned runs c k j = Telling s kept n (sliceOf out₀ warned₀) (sliceOf out warned) runs c k features j
 
 abbrev μ-loop : tie.MeasureT-loop
 μ-loop s kept n heads h features out₀ warned₀ runs₀ c₀ k₀ j₀ out warned runs c k j = room s - c .q
@@ -40,11 +40,11 @@ add-k c = omega (arith, lon-fits (c .before .before .before .before .before .bef
 kind-of-requires : tie.Need-kind-of-requires Inv-loop μ-loop
 kind-of-requires c κs = (c .before .before .before .before .before .before .before .before .before .before .before .before .before .before .pre .6 .heading .stands, omega (arith, c .before .before .before .before .before .before .before .next-mention .ensures .heads (not-false _ (c .before .before .before .before .if1 .left))))
 
-cast-push : tie.Need-cast-push Inv-loop μ-loop
-cast-push c = omega (arith, c .before .before .before .before .before .before .before .before .before .next-mention .ensures .index (not-false _ (c .before .before .before .before .before .before .if1 .left)), c .before .before .before .before .before .before .before .before .before .next-mention .ensures .fits (not-false _ (c .before .before .before .before .before .before .if1 .left)), c .before .before .before .before .before .before .before .before .before .next-mention .ensures .follows .short, c .before .before .before .before .before .before .before .before .before .before .before .before .before .before .before .before .pre .0)
+cast-push-warning : tie.Need-cast-push-warning Inv-loop μ-loop
+cast-push-warning c = omega (arith, c .before .before .before .before .before .before .before .before .before .next-mention .ensures .index (not-false _ (c .before .before .before .before .before .before .if1 .left)), c .before .before .before .before .before .before .before .before .before .next-mention .ensures .fits (not-false _ (c .before .before .before .before .before .before .if1 .left)), c .before .before .before .before .before .before .before .before .before .next-mention .ensures .follows .short, c .before .before .before .before .before .before .before .before .before .before .before .before .before .before .before .before .pre .0)
 
-push-requires : tie.Need-push-requires Inv-loop μ-loop
-push-requires c κs = c .before .before .before .before .before .before .before .before .before .before .before .loop .inv .fits
+push-warning-requires : tie.Need-push-warning-requires Inv-loop μ-loop
+push-warning-requires c κs = c .before .before .before .before .before .before .before .before .before .before .before .loop .inv .fits
 
 add-j : tie.Need-add-j Inv-loop μ-loop
 add-j c = omega (arith, c .before .before .before .before .before .before .before .before .loop .inv .short, c .before .before .before .before .before .before .next-mention .ensures .more (not-false _ (c .before .before .before .if1 .left)), c .before .before .before .before .before .before .next-mention .ensures .fits (not-false _ (c .before .before .before .if1 .left)), c .before .before .before .before .before .before .before .before .before .before .before .before .before .pre .6 .short, c .before .before .before .before .before .before .before .before .before .before .before .before .before .pre .0)
@@ -59,8 +59,8 @@ loop-again c =
     let o = c .before .before .before .if1 .left in
     let k = c .before .is-kept .ensures in
     ⊎-elim
-    (λ w. lon-control d (m .result) (m .ensures) o (omega (arith, c .before .before .before .before .before .before .before .before .before .before .before .before .before .pre .4, c .before .before .before .before .before .before .before .before .before .before .before .before .before .pre .5)) k (w .0 .taken) (sheets (w .1) (w .2)) (w .3))
-    (λ w. lon-warned d (m .result) (m .ensures) o (omega (arith, c .before .before .before .before .before .before .before .before .before .before .before .before .before .pre .4, c .before .before .before .before .before .before .before .before .before .before .before .before .before .pre .5)) k (c .before .before .before .before .before .before .before .before .before .before .before .before .before .pre .6 .heading) (w .0 .left) (w .2 .ensures) (sheets (w .7) (w .8) ∙ w .4 .ensures) (w .9))
+    (λ w. lon-control d (m .result) (m .ensures) o (omega (arith, c .before .before .before .before .before .before .before .before .before .before .before .before .before .pre .4, c .before .before .before .before .before .before .before .before .before .before .before .before .before .pre .5)) k (w .0 .taken) (same-slice (w .1) (w .2)) (w .3))
+    (λ w. lon-warned d (m .result) (m .ensures) o (omega (arith, c .before .before .before .before .before .before .before .before .before .before .before .before .before .pre .4, c .before .before .before .before .before .before .before .before .before .before .before .before .before .pre .5)) k (c .before .before .before .before .before .before .before .before .before .before .before .before .before .pre .6 .heading) (w .0 .left) (w .2 .ensures) (same-slice (w .7) (w .8) ∙ w .4 .ensures) (w .9))
     (c .if2 .came)
 
 pub warn-lons-spec : {M : Type 1} → statement M
@@ -77,8 +77,8 @@ warn-lons-spec =
     is-kept-requires
     add-k
     kind-of-requires
-    cast-push
-    push-requires
+    cast-push-warning
+    push-warning-requires
     add-j
     loop-less
     loop-again)

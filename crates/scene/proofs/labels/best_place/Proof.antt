@@ -9,7 +9,8 @@ use Rattle.stream.specs.Payload.{payload}
 use Rattle.stream.specs.Contracts.Payload.{room}
 use Rattle.records.specs.Records.{bytesAt}
 use Rattle.records.specs.Laws.Search.{standing-tells}
-use Rattle.scene.specs.Scene.{none, itemAt}
+use Rattle.scene.specs.Scene.{itemAt}
+use Rattle.values.specs.Maybe.{none}
 use Rattle.scene.specs.Labels.{bestPlace}
 use Rattle.scene.specs.Contracts.Answers.{placesAt, itemsAt, bestBy}
 use Rattle.scene.specs.Laws.Found.{answer, One, one-found, beyond, named}

@@ -1,7 +1,7 @@
 use borrow.Author.Needs.{needs}
 use borrow.Author.Tests.{not-false}
 use mathlib.Core.Path.{ap}
-use Rattle.scene.specs.Scene.{some}
+use Rattle.values.specs.Maybe.{some}
 use Rattle.scene.proofs.Starts.{no-points, empty-points, some-points}
 use Rattle.scene.proofs.labels.mean_or_start.Statement.{statement}
 use Rattle.scene.proofs.labels.mean_or_start.Tie as tie

@@ -6,7 +6,8 @@ use lib.Seq.{getD-drop}
 use Rattle.stream.specs.Contracts.Payload.{room, rest}
 use Rattle.stream.specs.Laws.Payload.{rest-length}
 use Rattle.records.specs.Records.{optionWidth}
-use Rattle.scene.specs.Scene.{sceneOf, some}
+use Rattle.scene.specs.Scene.{sceneOf}
+use Rattle.values.specs.Maybe.{some}
 use Rattle.scene.specs.Laws.Found.{One, one-found, none-first, one-first, option-fits}
 use Rattle.scene.proofs.options.frame.Statement.{statement}
 use Rattle.scene.proofs.options.frame.Tie as tie

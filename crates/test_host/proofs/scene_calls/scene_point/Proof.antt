@@ -4,7 +4,7 @@ use Prim.Native.Nat.{_+_, _*_, _≤_}
 use native.Mathlib.Omega.{arith}
 use Rattle.stream.specs.Contracts.Payload.{room}
 use Rattle.stream.specs.Laws.Payload.{rest-length}
-use Rattle.scene.specs.Scene.{some}
+use Rattle.values.specs.Maybe.{some}
 use Rattle.test_host.proofs.Guards.{no-spot, a-spot}
 use Rattle.test_host.proofs.scene_calls.scene_point.Statement.{statement}
 use Rattle.test_host.proofs.scene_calls.scene_point.Tie as tie

@@ -1,9 +1,9 @@
 use borrow.Author.Needs.{needs}
 use native.Mathlib.Omega.{arith}
 use lib.ListN.{length-set}
-use Rattle.register.proofs.Pushing.{push-shut, push-full, push-more}
-use Rattle.register.proofs.warnings.push.Statement.{statement}
-use Rattle.register.proofs.warnings.push.Tie as tie
+use Rattle.values.specs.Laws.Warnings.{push-shut, push-full, push-more}
+use Rattle.values.proofs.push_warning.Statement.{statement}
+use Rattle.values.proofs.push_warning.Tie as tie
 
 returns : tie.Need-returns
 returns c = push-shut _ _ _ (c .if1 .taken)
@@ -38,8 +38,8 @@ same-length c = search needs
 returns-3 : tie.Need-returns-3
 returns-3 c = push-more _ _ _ (c .before .if1 .left) (c .before .before .before .pre) (c .if2 .left)
 
-pub push-spec : {M : Type 1} → statement M
-push-spec =
+pub push-warning-spec : {M : Type 1} → statement M
+push-warning-spec =
     tie.close
     (tie.spec
     returns

@@ -11,7 +11,7 @@ use borrow.Author.Tests.{eqb-true}
 use lib.Ieee.{Float, binary64, neg, add, le, ofBits}
 use Rattle.float.specs.Laws.Intervals.{Between}
 use Rattle.float.specs.Laws.Tests.{yes}
-use Rattle.float.specs.Laws.Spans.{Spans, Few, Each, total, ends-spans, spans-ends, mean-spans}
+use Rattle.float.specs.Laws.Spans.{Spans, Few, Each, total, ends-spans, spans-ends, mean-spans, each-map, whole-million, million, mMillion}
 use Rattle.stream.specs.Numbers.{u16At, floatAt}
 use Rattle.stream.specs.declared.Float64.{Float64}
 use Rattle.stream.specs.declared.Float64.the-variants.{Finite, NotFinite}
@@ -25,12 +25,12 @@ use Rattle.records.specs.Search.{keyOf, endsSearch, searchStepOf, withFound, re
 use Rattle.records.specs.Limits.{onCanvas, allOnCanvas, limitedAt, allLimited, limited}
 use Rattle.records.specs.Laws.Tests.{and-left, and-right}
 use Rattle.records.specs.Laws.Records.{sizeOf, Fields, stands}
-use Rattle.scene.specs.Scene.{Maybe, none, some, given, first, valueOf, floatValueAt, bit, Point, pointAt, pointsAt, Cubic, cubicAt, cubicsAt, NamedPlace, placeAt, Form, curve, polyline, formAt, DrawnPath, pathAt, DrawnItem, tail, itemWith, itemAt, Scene, sceneOf}
-use Rattle.scene.specs.Labels.{sameBytes, pick, sumOf, meanOf, meanPoint, startOf, firstStart, meanOrStart, orElse, referencePoint, Key, Best, greater, consider, considerAt, placeKey, itemKey, bestPlace, labelIs, bestItem, pointOf, pointOfLabel}
+use Rattle.scene.specs.Scene.{first, valueOf, floatValueAt, bit, pointAt, pointsAt, Cubic, cubicAt, cubicsAt, NamedPlace, placeAt, Form, curve, polyline, formAt, DrawnPath, pathAt, DrawnItem, tail, itemWith, itemAt, Scene, sceneOf}
+use Rattle.values.specs.declared.Point.{Point}
+use Rattle.values.specs.Maybe.{Maybe, none, some, given, orElse}
+use Rattle.scene.specs.Labels.{sameBytes, pick, sumOf, meanOf, meanPoint, startOf, firstStart, meanOrStart, referencePoint, Key, Best, greater, consider, considerAt, placeKey, itemKey, bestPlace, labelIs, bestItem, pointOf, pointOfLabel}
 use Rattle.scene.specs.Laws.Widths.{all-at, at-within, w-within, h-within, r-within, rad-within}
 use Rattle.scene.specs.Laws.Points.{points-length}
-use Rattle.similarity.specs.Laws.Project.{million, mMillion}
-use Rattle.similarity.specs.Laws.Fitted.{each-map, whole-million}
 
 -- ---- what may be absent, and lists
 abbrev pub Holds : {A : Type 0} → (A → Type 0) → Maybe A → Type 0
