@@ -12,7 +12,7 @@ use Rattle.values.specs.Maybe.{Maybe, none, some, orValue}
 use Rattle.values.specs.Warnings.{Warning}
 use Rattle.budget.specs.declared.Budget.{Budget}
 use Rattle.densify.specs.Densify.{GrantedDraw, Made, closeRingOf, pathPointsOf, densifyPolylineOf, ellipseRingOf, boxRingOf}
-use Rattle.densify.specs.Positions.{projectPoint}
+use Rattle.projection.specs.Projection.{projectPoint}
 use Rattle.geojson.specs.declared.Feature.{Feature}
 use Rattle.convert.specs.declared.shapes.Shape.{Shape}
 use Rattle.convert.specs.declared.shapes.Shape.the-variants.{Box, Ellipse, Circle, Dot, Points, Paths, Missing, Nothing}

@@ -1,12 +1,16 @@
 // Features: their positions, then their line.
 ghost use mathlib.Core.Path.{_≡_};
-ghost use mathlib.Core.List.{List};
+ghost use mathlib.Core.Bool.{true};
+ghost use mathlib.Core.List.{List, map};
 ghost use Prim.Native.Nat.{ℕ, _+_, _≤_};
 ghost use lib.Ieee.{Float};
 ghost use lib.ListN.{length};
 ghost use Rattle.values.specs.Contracts.Points.{pointsIn};
-ghost use Rattle.convert.specs.Convert.{strokeOf, drawWithoutWriting, pointOf};
-ghost use Rattle.convert.specs.Contracts.Space.{outputBy, most, longest, firstRepeatedIn, Finished, Fits, Applied};
+ghost use Rattle.projection.specs.Projection.{projectPoint};
+ghost use Rattle.densify.specs.Densify.{Made};
+ghost use Rattle.densify.specs.Contracts.Written.{onPoints, Written};
+ghost use Rattle.convert.specs.Convert.{positionsOf, strokeOf, drawWithoutWriting, pointOf};
+ghost use Rattle.convert.specs.Contracts.Space.{outputBy, most, longest, behindAt, firstRepeatedIn, Finished, Fits, Applied};
 use crate::state::Ctx;
 use crate::state::Props;
 use crate::state::State;
@@ -14,23 +18,54 @@ use crate::state::out_of_room;
 use crate::state::warn;
 use crate::state::with_budget;
 use budget::Budget;
+use densify::PointCursor;
 use densify::densify_polyline;
 use densify::put_point;
 use densify::spend_polyline;
 use geojson::Feature;
 use geojson::write_feature;
+use projection::Projection;
 use projection::geo;
+use projection::project_points;
 
 // The last position of those from `from` to `to` becomes the first, bit for bit.
-fn repeat_first_position(out: &mut [f64], from: usize, to: usize) -> usize
+fn repeat_first_position(out: &mut [f64], from: usize, to: usize)
     requires { ⌜ (from + 2 ≤ to) × (to ≤ length (now out)) ⌝ }
-    ensures { λ r. ⌜ (now (out .exit) ≡ firstRepeatedIn (now (out .entry)) from to) × (r ≡ to) ⌝ }
+    ensures { λ _. ⌜ now (out .exit) ≡ firstRepeatedIn (now (out .entry)) from to ⌝ }
 {
     let lon = out[from];
     let lat = out[from + 1];
     out[to - 2] = lon;
     out[to - 1] = lat;
-    to
+}
+
+// The points that a polyline left behind `at`, as d tells, become the positions of a line or a ring where they stand: carried to the Earth, and a ring's last the first.
+fn place_positions(
+    t: Projection,
+    geometry: u32,
+    positions: &mut [f64],
+    at: usize,
+    d: PointCursor,
+) -> PointCursor
+    requires { ⌜ (d .ok ≡ true → (2 ≤ d .at) × (at + d .at ≤ length (now positions))) ⌝ }
+    ensures { λ r. ⌜ ((q : List Float) (m : Made) → Written q (now (positions .entry)) at m (behindAt at d) → Written q (now (positions .exit)) at (onPoints (λ ps. positionsOf geometry (map (projectPoint t) ps)) m) r) ⌝ }
+{
+    if !d.ok {
+        return d;
+    }
+    let end = at + d.at;
+    let left = d.budget;
+    let placed = PointCursor {
+        ok: d.ok,
+        at: end,
+        budget: left,
+    };
+    project_points(t, positions, at, end);
+    if geometry != 2 {
+        return placed;
+    }
+    repeat_first_position(positions, at, end);
+    placed
 }
 
 // The line of a feature whose positions stand from st.positions to `to`.
@@ -89,8 +124,8 @@ pub fn stroke(
     }
     let at = st.positions;
     let d = densify_polyline(
-        cx.projection,
         cx.step,
+        cx.projection.registration.scale,
         work,
         from,
         to,
@@ -98,20 +133,17 @@ pub fn stroke(
         &mut positions[at..],
         0,
     );
-    if !d.ok {
+    let placed = place_positions(cx.projection, geometry, positions, at, d);
+    if !placed.ok {
         return out_of_room(st, 16);
-    }
-    let mut end = at + d.at;
-    if geometry == 2 {
-        end = repeat_first_position(positions, at, end);
     }
     finish(
         p,
         geometry,
         role,
-        end,
-        (d.at / 2) as u32,
-        d.budget,
+        placed.at,
+        ((placed.at - at) / 2) as u32,
+        placed.budget,
         features,
         st,
     )

@@ -2,7 +2,6 @@
 pub mod Writing
 pub mod Closing
 pub mod Segments
-pub mod Placing
 pub mod Rounds
 pub mod Replay
 pub mod Counts

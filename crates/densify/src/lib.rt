@@ -2,7 +2,6 @@
 mod counts;
 mod cubic;
 mod paths;
-mod placing;
 mod rings;
 mod segments;
 mod append;

@@ -3,16 +3,14 @@ ghost use mathlib.Core.Path.{_≡_};
 ghost use Prim.Native.Nat.{_+_, _≤_, _<_};
 ghost use lib.ListN.{length};
 ghost use Rattle.densify.specs.Densify.{withoutDraws, segmentWant, alongOf, samplesTo, densifyPolylineOf};
-ghost use Rattle.densify.specs.Contracts.Written.{projected, Written};
+ghost use Rattle.densify.specs.Contracts.Written.{Written};
 ghost use Rattle.values.specs.Contracts.Points.{pointIn, pointsIn};
 use crate::counts::segment_parts;
-use crate::placing::project_points;
 use crate::append::PointCursor;
 use crate::append::put_point;
 use budget::Budget;
 use budget::take;
 use elementary::hypot;
-use projection::Projection;
 
 // How many vertices a segment wants: one for each of its parts.
 pub fn segment_want(step: f64, scale: f64, a: [f64; 2], b: [f64; 2]) -> usize
@@ -63,7 +61,7 @@ fn sample_segment(
 }
 
 // The polyline whose points stand in `work` from `from` to `to`, densified to this step, on the canvas: each point is written into `out` as it is made.
-fn sample_polyline(
+pub fn densify_polyline(
     step: f64,
     scale: f64,
     work: &[f64],
@@ -113,30 +111,6 @@ fn sample_polyline(
         at: next,
         budget: left,
     }
-}
-
-// The positions of that polyline: sampled on the canvas, then carried to the Earth where they stand.
-pub fn densify_polyline(
-    t: Projection,
-    step: f64,
-    work: &[f64],
-    from: usize,
-    to: usize,
-    budget: Budget,
-    out: &mut [f64],
-    at: usize,
-) -> PointCursor
-    requires { ⌜ (from ≤ to) × (to ≤ length (now work)) × (at ≤ length (now out)) ⌝ }
-    ensures { λ r. ⌜ Written (now (out .entry)) (now (out .exit)) at
-        (projected t (densifyPolylineOf step (t .registration .scale) (pointsIn (now (work .entry)) from to) budget))
-        r ⌝ }
-{
-    let d = sample_polyline(step, t.registration.scale, work, from, to, budget, out, at);
-    if !d.ok {
-        return d;
-    }
-    project_points(t, out, at, d.at);
-    d
 }
 
 // What such a polyline leaves of the budget where its positions are not written.

@@ -8,11 +8,10 @@ use Rattle.stream.specs.Conditions.{firstOf, NoneHolds}
 use Rattle.stream.specs.Payload.{payload}
 use Rattle.scene.specs.Scene.{Scene, sceneOf}
 use Rattle.values.specs.declared.Point.{Point}
-use Rattle.projection.specs.Projection.{geoOf}
+use Rattle.projection.specs.Projection.{geoOf, projectPoint}
 use Rattle.register.specs.Register.{f0, registrationOf}
 use Rattle.budget.specs.Draws.{Draw, leftAfter, Claim}
 use Rattle.budget.specs.Laws.Draws.{claim}
-use Rattle.densify.specs.Positions.{projectPoint}
 use Rattle.densify.specs.Draws.{drawsOf, Granted, fellShort}
 use Rattle.convert.specs.Convert.{drawsIn}
 use Rattle.convert.specs.Features.{AllWellFormed, positionsIn, featuresIn, warningsIn, featuresAt, warningsAt, anyOfKind}

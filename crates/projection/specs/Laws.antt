@@ -1,3 +1,4 @@
 -- What callers may know of the projection.
 pub mod Project
 pub mod Projects
+pub mod Passes

@@ -1,5 +1,6 @@
 -- Canvas points to the Earth: `plane_offset` and `to_lonlat` of the source's register.rs, operation by operation.
 use lib.Ieee.{Float, binary64, ofBits, neg, add, sub, mul, div}
+use Rattle.values.specs.declared.Point.{Point}
 use Rattle.float.specs.Functions.{roundOf}
 use Rattle.elementary.specs.Functions.{toRadiansOf, sinOf, cosOf}
 use Rattle.geodesy.specs.declared.LonLat.{LonLat}
@@ -58,3 +59,7 @@ geoOf r x y = let p = toLonLatOf r x y in record { lon = round9Of (p .lon); lat 
 
 unfoldable pub geoBy : Projection → Float → Float → LonLat
 geoBy t x y = let p = toLonLatBy t x y in record { lon = round9Of (p .lon); lat = round9Of (p .lat) }
+
+-- as a point: longitude as x, latitude as y
+unfoldable pub projectPoint : Projection → Point → Point
+projectPoint t p = let g = geoBy t (p .x) (p .y) in record { x = g .lon; y = g .lat }

@@ -16,6 +16,10 @@ use geodesy::mercator_inverse;
 use geodesy::latitude;
 use geodesy::exp_ordinate;
 
+mod project;
+
+pub use project::project_points;
+
 // A canvas point p goes to the anchor's plane: p less the origin, times the scale, turned so that the canvas's y axis points to the bearing.
 #[repr(C)]
 pub struct Registration {

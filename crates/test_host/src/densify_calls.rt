@@ -1,15 +1,16 @@
 // The producers of points as C symbols, for the comparison.
 ghost use mathlib.Core.Path.{_≡_};
 ghost use mathlib.Core.Bool.{true, false};
+ghost use mathlib.Core.List.{map};
 ghost use Rattle.stream.specs.Payload.{payload};
 ghost use Rattle.stream.specs.Contracts.Payload.{room};
-ghost use Rattle.projection.specs.Projection.{projectionOf};
+ghost use Rattle.projection.specs.Projection.{projectionOf, projectPoint};
 ghost use lib.ListN.{length};
 ghost use Prim.Native.Nat.{_+_, _*_, _≤_, _<_};
 ghost use lib.Dec.{leb};
 ghost use Rattle.budget.specs.Budget.{takeOf};
 ghost use Rattle.densify.specs.Densify.{arcVerticesOf, segmentWant, pathPointsOf, densifyPolylineOf, ellipseRingOf, boxRingOf};
-ghost use Rattle.densify.specs.Contracts.Written.{drawnBy, projected};
+ghost use Rattle.densify.specs.Contracts.Written.{drawnBy, onPoints};
 ghost use Rattle.values.specs.Contracts.Points.{pointsIn};
 ghost use Rattle.test_host.specs.Contracts.Drawings.{fresh, Shown, pathFits, undrawn};
 use budget::Budget;
@@ -23,6 +24,7 @@ use densify::path_points;
 use densify::segment_want;
 use scene::Path;
 use projection::Registration;
+use projection::project_points;
 use projection::projection_of;
 
 // Whether the points had room, where they end, and the budget after them.
@@ -163,7 +165,7 @@ pub extern "C" fn densify_line(
     out: &mut [f64],
 ) -> Drawing
     ensures { λ r. ⌜ Shown (now (out .entry)) (now (out .exit))
-        (projected (projectionOf reg)
+        (onPoints (map (projectPoint (projectionOf reg)))
         (densifyPolylineOf step (reg .scale) (pointsIn (now (work .entry)) 0 (length (now (work .entry))))
         (fresh left))) r ⌝ }
 {
@@ -171,7 +173,12 @@ pub extern "C" fn densify_line(
         left: left,
         hit: false,
     };
-    drawing_of(densify_polyline(projection_of(reg), step, work, 0, work.len(), b, out, 0))
+    let d = densify_polyline(step, reg.scale, work, 0, work.len(), b, out, 0);
+    if !d.ok {
+        return drawing_of(d);
+    }
+    project_points(projection_of(reg), out, 0, d.at);
+    drawing_of(d)
 }
 
 // What a segment and a full circle want, and a draw: what the draw lists are made of.

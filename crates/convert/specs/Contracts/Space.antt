@@ -146,6 +146,11 @@ pub record RingLoaded (w : List Float) (m : Made) (d : PointCursor) : Type 0 whe
   pub left : d .ok ≡ true → d .budget .left ≤ most
   pub few : d .ok ≡ true → d .at ≤ longest
 
--- ---- the last position overwritten by the first
+-- ---- positions
+-- a cursor into the tail from `at` on, as one into the whole slice
+abbrev pub behindAt : ℕ → PointCursor → PointCursor
+behindAt at d = record { ok = d .ok; at = at + d .at; budget = d .budget }
+
+-- the last overwritten by the first
 unfoldable pub firstRepeatedIn : List Float → ℕ → ℕ → List Float
 firstRepeatedIn w from to = set (set w (to - 2) (getD w from nan)) (to - 1) (getD w (from + 1) nan)

@@ -15,7 +15,7 @@ use Rattle.elementary.specs.Constants as K
 use Rattle.geodesy.specs.declared.LonLat.{LonLat}
 use Rattle.geodesy.specs.Laws.Finite.{m180, m90, c90, OnEarth}
 use Rattle.projection.specs.declared.Registration.{Registration}
-use Rattle.projection.specs.Projection.{projectionOf}
+use Rattle.projection.specs.Projection.{projectionOf, projectPoint}
 use Rattle.projection.specs.Laws.Projects.{geo-projects}
 use Rattle.projection.specs.Laws.Project.{Sound, geo-in}
 use Rattle.records.specs.Laws.Tests.{and-right}
@@ -26,7 +26,6 @@ use Rattle.scene.specs.Laws.Near as R
 use Rattle.scene.specs.Laws.Near.{Holds, NearItem}
 use Rattle.budget.specs.declared.Budget.{Budget}
 use Rattle.densify.specs.Densify.{GrantedDraw, Made, closeRingOf, pathPointsOf, densifyPolylineOf, ellipseRingOf, boxRingOf}
-use Rattle.densify.specs.Positions.{projectPoint}
 use Rattle.densify.specs.Laws.Bounds.{Near, NearPoint, NearCubic, NearForm, InPoint, close-each, near-in, nears-in, half-near, zero-near, path-near, densify-in, ellipse-in, box-in}
 use Rattle.densify.specs.Laws.Counts.{densify-least, ring-least, ellipse-ring, box-ring}
 use Rattle.geojson.specs.Rfc7946.{Positions, lastFrom, Closed, Geometry}

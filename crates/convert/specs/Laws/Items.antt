@@ -17,12 +17,11 @@ use Rattle.densify.specs.declared.append.PointCursor.{PointCursor}
 use Rattle.densify.specs.Densify.{Made, ellipseRingOf, boxRingOf}
 use Rattle.densify.specs.Contracts.Written.{Written}
 use Rattle.values.specs.Points.{flats}
-use Rattle.densify.specs.Laws.Writing.{next-in}
+use Rattle.densify.specs.Laws.Writing.{next-in, written-points}
 use Rattle.values.specs.Laws.Points.{flats-length}
 use Rattle.densify.specs.Laws.Replay.{ellipse-replays, box-replays}
 use Rattle.densify.specs.Laws.Counts.{ring-least, ellipse-ring, box-ring}
 use Rattle.densify.specs.Laws.Sizes.{left-falls, ellipse-most, box-most}
-use Rattle.densify.specs.Laws.Placing.{written-points}
 use Rattle.convert.specs.declared.shapes.Shape.{Shape}
 use Rattle.convert.specs.declared.state.Ctx.{Ctx}
 use Rattle.convert.specs.declared.state.Props.{Props}

@@ -20,9 +20,8 @@ use Rattle.densify.specs.Densify.{Made, withoutDraws, closeRingOf, closedIf, pa
 use Rattle.densify.specs.Contracts.Written.{closingIn, Written, drawnBy}
 use Rattle.values.specs.Contracts.Points.{pointsIn}
 use Rattle.values.specs.Points.{flats, pointsOf}
-use Rattle.densify.specs.Laws.Writing.{written-room, next-in, written-all, written-none, join-done, andThen-none}
+use Rattle.densify.specs.Laws.Writing.{written-room, next-in, written-all, written-none, join-done, andThen-none, written-points}
 use Rattle.values.specs.Laws.Points.{flats-length}
-use Rattle.densify.specs.Laws.Placing.{written-points}
 use Rattle.densify.specs.Laws.Closing.{closed-done}
 use Rattle.densify.specs.Laws.Counts.{Within, close-within}
 use Rattle.densify.specs.Laws.Replay.{path-replays}

@@ -19,10 +19,9 @@ use Rattle.densify.specs.Contracts.Written.{closing, closingIn, Written}
 use Rattle.values.specs.Contracts.Points.{pointsIn}
 use Rattle.values.specs.Slices.{put}
 use Rattle.values.specs.Points.{flats, pointOf, pointsOf}
-use Rattle.densify.specs.Laws.Writing.{written-all, next-in}
+use Rattle.densify.specs.Laws.Writing.{written-all, next-in, written-points}
 use Rattle.values.specs.Laws.Points.{flats-length}
 use Rattle.densify.specs.Laws.Closing.{closed-done}
-use Rattle.densify.specs.Laws.Placing.{written-points}
 use Rattle.convert.specs.declared.workspace.Workspace.{Workspace}
 use Rattle.convert.specs.declared.state.Ctx.{Ctx}
 use Rattle.convert.specs.declared.state.Props.{Props}

@@ -1,28 +1,28 @@
--- Laws of a stroke's positions: written into the lent tail of a slice, firstRepeated where they are a ring's, and then played as a feature. Assumes nothing.
+-- Laws of a stroke's positions: a polyline's points written into the lent tail of a slice, changed there to positions, and then applied as a feature. Assumes nothing.
 use Prim.Native.Nat.{ℕ, _+_, _-_, _/_, _≤_, _<_}
 use mathlib.Core.Path.{_≡_, refl, sym, ap, _∙_}
 use mathlib.Core.Bool.{Bool, true, false, cond}
-use mathlib.Core.List.{List, [], _∷_, _++_, append-nil}
+use mathlib.Core.List.{List, [], _∷_, _++_, append-nil, map}
 use native.Mathlib.Omega.{arith}
 use native.Mathlib.Nat.{zero-add, add-zero}
-use lib.ListN.{length, take, drop, set, getD, length-append, length-drop}
+use lib.ListN.{length, take, drop, set, getD, length-append, length-drop, length-map}
 use lib.Seq.{length-take-le, take-all, drop-length, drop-drop, getD-append-add, set-comm, set-set}
 use lib.Dec.{eqb, leb}
 use lib.Ieee.{Float, nan}
 use borrow.Author.Tests.{le-leb, lt-leb, leb-true, leb-false, eq-eqb, ne-eqb}
 use borrow.Rule.Slice.PartMut.{midOf, postOf, putMid, same-len-mid, post-is, take-put}
 use Rattle.values.specs.declared.Point.{Point}
+use Rattle.projection.specs.declared.Projection.{Projection}
+use Rattle.projection.specs.Projection.{projectPoint}
 use Rattle.budget.specs.declared.Budget.{Budget}
 use Rattle.densify.specs.declared.append.PointCursor.{PointCursor}
 use Rattle.densify.specs.Densify.{Made, lastOf, densifyPolylineOf}
-use Rattle.densify.specs.Contracts.Written.{projected, Written}
-use Rattle.values.specs.Contracts.Points.{pointsIn}
+use Rattle.densify.specs.Contracts.Written.{onPoints, Written}
+use Rattle.values.specs.Contracts.Points.{pointsIn, inPlace}
 use Rattle.values.specs.Slices.{put}
 use Rattle.values.specs.Points.{flats}
-use Rattle.densify.specs.Laws.Writing.{written-room}
-use Rattle.values.specs.Laws.Put.{put-length}
-use Rattle.values.specs.Laws.Points.{flats-append, flats-length, put-next}
-use Rattle.densify.specs.Laws.Placing.{points-between, placed-count}
+use Rattle.densify.specs.Laws.Writing.{written-all, written-room, still-short, mapped-written}
+use Rattle.values.specs.Laws.Points.{flats-append, flats-length, put-next, points-between}
 use Rattle.densify.specs.Laws.Counts.{densify-least}
 use Rattle.densify.specs.Laws.Replay.{densify-replays}
 use Rattle.densify.specs.Laws.Sizes.{left-falls, densify-sized}
@@ -30,7 +30,7 @@ use Rattle.convert.specs.declared.state.Ctx.{Ctx}
 use Rattle.convert.specs.declared.state.Props.{Props}
 use Rattle.convert.specs.declared.state.State.{State}
 use Rattle.convert.specs.Convert.{oneEvent, endWith, firstRepeated, positionsOf, featureOf, strokeOf}
-use Rattle.convert.specs.Contracts.Space.{outputBy, most, longest, firstRepeatedIn, Fits, Applied, Finished}
+use Rattle.convert.specs.Contracts.Space.{outputBy, most, longest, behindAt, firstRepeatedIn, Fits, Applied, Finished}
 use Rattle.convert.specs.Laws.Applying.{played-drawn}
 use Rattle.convert.specs.Laws.Events.{Restated, written-lacks, written-finished}
 
@@ -56,7 +56,7 @@ module _ (w : List Float) (at : ℕ) (h : at ≤ length w) where
   put-tail vs = rw (behind, append-nil, zero-add, drop-drop (length vs) at w)
 
   pub tail-written : {t : List Float} {m : Made} {r : PointCursor} → Written (midOf at (length w - at) w) t 0 m r
-      → Written w (putMid at (length w - at) w t) at m (record { ok = r .ok; at = at + r .at; budget = r .budget })
+      → Written w (putMid at (length w - at) w t) at m (behindAt at r)
   tail-written {t} {m} {r} part =
       let one : Written (drop at w) t 0 m r = rw tail-is at part in
       record {
@@ -132,87 +132,81 @@ sealed-put w at (p ∷ ps) some h =
     ∙ put-next w at front p room
     ∙ ap (λ (l : List Point). put w at (flats l)) (sym (sealed-is p ps))
 
--- ---- the positions of a line or a ring
-module _ (geometry : ℕ) (ps : List Point) where
-  positions-length : length (positionsOf geometry ps) ≡ length ps
-  positions-length = go (eqb geometry 2)
-    where
-      go : (x : Bool) → length (cond x (firstRepeated ps) ps) ≡ length ps
-      go true = sealed-length ps
-      go false = refl
+pub repeated-written : {q q₁ q₂ : List Float} {at : ℕ} {m : Made} {r : PointCursor} → Written q q₁ at m r → r .ok ≡ true → at + 2 ≤ r .at → q₂ ≡ firstRepeatedIn q₁ at (r .at)
+    → Written q q₂ at (onPoints firstRepeated m) r
+repeated-written {q} {q₂ = q₂} {at = at} {m = m} {r = r} one fits some there =
+    let same : length (flats (firstRepeated (m .points))) ≡ length (flats (m .points)) = omega (arith, flats-length (firstRepeated (m .points)), flats-length (m .points), sealed-length (m .points)) in
+    let h = written-room one fits in
+    written-all q at (onPoints firstRepeated m) q₂ r (rw same h) fits (rw same (one .next fits)) (one .left fits)
+    (there ∙ rw (one .holds fits, one .next fits) (sealed-put q at (m .points) (omega (arith, one .next fits, flats-length (m .points))) h))
 
-  positions-room : length (flats (positionsOf geometry ps)) ≡ length (flats ps)
-  positions-room = omega (arith, positions-length, flats-length ps, flats-length (positionsOf geometry ps))
+-- ---- a polyline's points become the positions of a line or a ring
+module _ (t : Projection) (geometry : ℕ) where
+  abbrev pub placing : List Point → List Point
+  placing ps = positionsOf geometry (map (projectPoint t) ps)
+
+  placing-length : (ps : List Point) → length (placing ps) ≡ length ps
+  placing-length ps = go (eqb geometry 2)
+    where
+      go : (x : Bool) → length (cond x (firstRepeated (map (projectPoint t) ps)) (map (projectPoint t) ps)) ≡ length ps
+      go true = sealed-length (map (projectPoint t) ps) ∙ length-map ps (projectPoint t)
+      go false = length-map ps (projectPoint t)
+
+  module _ {q q₁ : List Float} {at : ℕ} {m : Made} {d : PointCursor} (one : Written q q₁ at m d) where
+    pub place-short : (r : PointCursor) → d .ok ≡ false → r .ok ≡ false → Written q q₁ at (onPoints placing m) r
+    place-short r short shut = still-short one (onPoints placing m) r short shut (omega (arith, placing-length (m .points)))
+
+    module _ {q₂ : List Float} (fits : d .ok ≡ true) (there : q₂ ≡ inPlace (projectPoint t) q₁ at (d .at)) where
+      on-earth : Written q q₂ at (onPoints (map (projectPoint t)) m) d
+      on-earth = mapped-written (projectPoint t) one fits there
+
+      pub place-line : (geometry ≡ 2 → ⊥) → Written q q₂ at (onPoints placing m) d
+      place-line line = rw (ne-eqb geometry 2 line) on-earth
+
+      pub place-ring : geometry ≡ 2 → at + 2 ≤ d .at → {q₃ : List Float} → q₃ ≡ firstRepeatedIn q₂ at (d .at) → Written q q₃ at (onPoints placing m) d
+      place-ring ring some last = rw (eq-eqb geometry 2 ring) (repeated-written on-earth fits some last)
 
 -- ---- how many points a stroke makes
--- a stroke's positions, before a ring is firstRepeated
-abbrev pub strokeMade : Ctx → List Point → Budget → Made
-strokeMade cx ps b = projected (cx .projection) (densifyPolylineOf (cx .step) (cx .projection .registration .scale) ps b)
+-- a stroke's points on the canvas, and its positions
+abbrev pub strokePoints : Ctx → List Point → Budget → Made
+strokePoints cx ps b = densifyPolylineOf (cx .step) (cx .projection .registration .scale) ps b
+
+abbrev pub strokeMade : Ctx → ℕ → List Point → Budget → Made
+strokeMade cx geometry ps b = onPoints (placing (cx .projection) geometry) (strokePoints cx ps b)
 
 module _ (cx : Ctx) (w : List Float) (from to : ℕ) (b : Budget) where
   abbrev between : List Point
   between = pointsIn w from to
 
-  made-count : length (strokeMade cx between b .points) ≡ length (densifyPolylineOf (cx .step) (cx .projection .registration .scale) between b .points)
-  made-count = placed-count (cx .projection) (densifyPolylineOf (cx .step) (cx .projection .registration .scale) between b)
+  pub stroke-some : from + 2 ≤ to → 1 ≤ length (strokePoints cx between b .points)
+  stroke-some h = omega (arith, points-between w from to, densify-least (cx .step) (cx .projection .registration .scale) between b)
 
-  pub stroke-some : from + 2 ≤ to → 1 ≤ length (strokeMade cx between b .points)
-  stroke-some h = rw made-count (omega (arith, points-between w from to, densify-least (cx .step) (cx .projection .registration .scale) between b))
-
-  pub stroke-few : to ≤ longest → b .left ≤ most → length (strokeMade cx between b .points) ≤ most + longest
-  stroke-few h left = rw made-count (omega (arith, points-between w from to, densify-sized (cx .step) (cx .projection .registration .scale) between b))
-
--- ---- where they stand
-pub record Stands (geometry : ℕ) (ps : List Point) (at : ℕ) (q q₂ : List Float) (end : ℕ) : Type 0 where
-  pub there : q₂ ≡ put q at (flats (positionsOf geometry ps))
-  pub ends : end ≡ at + length (flats (positionsOf geometry ps))
-
-module _ (geometry : ℕ) {q q₁ : List Float} {at : ℕ} {m : Made} {r : PointCursor} (one : Written q q₁ at m r) (fits : r .ok ≡ true) where
-  pub line-stands : (geometry ≡ 2 → ⊥) → Stands geometry (m .points) at q q₁ (r .at)
-  line-stands line = record { there = rw (ne-eqb geometry 2 line) (one .holds fits); ends = rw (ne-eqb geometry 2 line) (one .next fits) }
-
-  pub ring-stands : geometry ≡ 2 → 1 ≤ length (m .points) → Stands geometry (m .points) at q (firstRepeatedIn q₁ at (r .at)) (r .at)
-  ring-stands ring some =
-      record {
-        there = rw (one .holds fits, one .next fits, eq-eqb geometry 2 ring) (sealed-put q at (m .points) some (written-room one fits));
-        ends = rw (positions-room geometry (m .points)) (one .next fits);
-      }
-
-  pub stands-length : {q₂ : List Float} {end : ℕ} → Stands geometry (m .points) at q q₂ end → length q₂ ≡ length q
-  stands-length s =
-      rw (s .there) (put-length q at (flats (positionsOf geometry (m .points))) (omega (arith, written-room one fits, positions-room geometry (m .points))))
+  pub stroke-few : (geometry : ℕ) → to ≤ longest → b .left ≤ most → length (strokeMade cx geometry between b .points) ≤ most + longest
+  stroke-few geometry h left =
+      rw (placing-length (cx .projection) geometry (strokePoints cx between b .points))
+      (omega (arith, points-between w from to, densify-sized (cx .step) (cx .projection .registration .scale) between b))
 
 -- ---- a stroke as the code draws it
-module _ (cx : Ctx) (p : Props) (geometry role : ℕ) (ps : List Point) (work : ℕ) {q q₁ : List Float} {f v : List ℕ} {st : State} (d : PointCursor)
-    (start : st .number ≡ 0) (h : Fits (outputBy work q f v st) (st .budget))
-    (one : Written q q₁ (st .positions) (strokeMade cx ps (st .budget)) (record { ok = d .ok; at = st .positions + d .at; budget = d .budget })) where
+module _ (cx : Ctx) (p : Props) (geometry role : ℕ) (ps : List Point) (work : ℕ) {q q₁ : List Float} {f v : List ℕ} {st : State} {d : PointCursor}
+    (start : st .number ≡ 0) (h : Fits (outputBy work q f v st) (st .budget)) (one : Written q q₁ (st .positions) (strokeMade cx geometry ps (st .budget)) d) where
   abbrev made : Made
-  made = densifyPolylineOf (cx .step) (cx .projection .registration .scale) ps (st .budget)
-
-  abbrev placed : List Point
-  placed = strokeMade cx ps (st .budget) .points
+  made = strokePoints cx ps (st .budget)
 
   abbrev drawn : List Point
-  drawn = positionsOf geometry placed
-
-  same-room : length (flats drawn) ≡ length (flats placed)
-  same-room = positions-room geometry placed
+  drawn = placing (cx .projection) geometry (made .points)
 
   pub stroke-lacks : {r : State} → d .ok ≡ false → Restated st 16 (st .budget) r
       → Applied (strokeOf cx p geometry role ps (st .budget)) (outputBy work q f v st) (outputBy work q₁ f v r) (r .budget)
   unfolding strokeOf
   stroke-lacks short is =
-      let lacks : length q < st .positions + length (flats placed) = leb-false (st .positions + length (flats placed)) (length q) (sym (one .asked) ∙ short) in
-      played-drawn made (λ b. oneEvent (featureOf p geometry role drawn) b)
-      (written-lacks p geometry role drawn (made .after) work start h (one .kept) (omega (arith, same-room)) is)
+      let lacks : length q < st .positions + length (flats drawn) = leb-false (st .positions + length (flats drawn)) (length q) (sym (one .asked) ∙ short) in
+      played-drawn made (λ b. oneEvent (featureOf p geometry role drawn) b) (written-lacks p geometry role drawn (made .after) work start h (one .kept) lacks is)
 
-  pub stroke-finished : {q₂ : List Float} {f′ : List ℕ} {r : State} {end : ℕ} → d .ok ≡ true → Stands geometry placed (st .positions) q q₂ end
-      → Finished p geometry role end (d .at / 2) (d .budget) f f′ st r
-      → Applied (strokeOf cx p geometry role ps (st .budget)) (outputBy work q f v st) (outputBy work q₂ f′ v r) (r .budget)
+  pub stroke-finished : {f′ : List ℕ} {r : State} → d .ok ≡ true → Finished p geometry role (d .at) ((d .at - st .positions) / 2) (d .budget) f f′ st r
+      → Applied (strokeOf cx p geometry role ps (st .budget)) (outputBy work q f v st) (outputBy work q₁ f′ v r) (r .budget)
   unfolding strokeOf
-  stroke-finished fits stands fin =
-      let count : d .at / 2 ≡ length drawn = omega (arith, one .next fits, flats-length drawn, same-room) in
+  stroke-finished fits fin =
+      let count : (d .at - st .positions) / 2 ≡ length drawn = omega (arith, one .next fits, flats-length drawn) in
       let left = left-falls (densify-replays (cx .step) (cx .projection .registration .scale) ps (st .budget)) in
       played-drawn made (λ b. oneEvent (featureOf p geometry role drawn) b)
-      (written-finished p geometry role drawn (made .after) work start h (omega (arith, written-room one fits, same-room)) (stands .there) (omega arith)
-      (rw (stands .ends, count, one .left fits) at fin))
+      (written-finished p geometry role drawn (made .after) work start h (written-room one fits) (one .holds fits) (omega arith) (rw (count, one .next fits, one .left fits) at fin))

@@ -1,26 +1,20 @@
 -- What a producer leaves in a lent slice, two floats a point.
-use Prim.Native.Nat.{ℕ, _+_, _-_, _*_, _/_, _≤_}
+use Prim.Native.Nat.{ℕ, _+_, _-_, _*_, _≤_}
 use mathlib.Core.Path.{_≡_}
 use mathlib.Core.Bool.{true, false, cond}
-use mathlib.Core.List.{List, [], _∷_, map}
+use mathlib.Core.List.{List, [], _∷_}
 use lib.ListN.{length, take, getD}
 use lib.Dec.{leb}
-use lib.Ieee.{Float, nan}
+use lib.Ieee.{Float}
 use Rattle.values.specs.Contracts.Points.{pointIn}
-use Rattle.projection.specs.declared.Projection.{Projection}
-use Rattle.elementary.specs.Contracts.Stages.{atanFirst, atanSecond, atanThird}
-use Rattle.projection.specs.Contracts.Stages.{expStageOf, roundedLatitudeOf}
 use Rattle.scene.specs.declared.readers.Path.{Path}
 use Rattle.scene.specs.Scene.{DrawnPath}
 use Rattle.values.specs.declared.Point.{Point}
 use Rattle.scene.specs.Contracts.Answers.{formBy}
 use Rattle.densify.specs.declared.append.PointCursor.{PointCursor}
-use Rattle.densify.specs.declared.placing.Stage.{Stage}
-use Rattle.densify.specs.declared.placing.Stage.the-variants.{First, Second, Last}
 use Rattle.densify.specs.Densify.{Made, Block, samePoint}
-use Rattle.densify.specs.Positions.{projectPoint}
 use Rattle.values.specs.Slices.{put}
-use Rattle.values.specs.Points.{flats, pointOf, pointsOf}
+use Rattle.values.specs.Points.{flats, pointOf}
 
 -- ---- arrays of the code as points
 abbrev pub blockIn : List (List Float) → Block
@@ -53,23 +47,6 @@ pub record PathFits (n : ℕ) (p : Path) : Type 0 where
   pub cubics : p .curve ≡ true → p .at + 48 * p .count ≤ n
   pub points : p .curve ≡ false → p .at + 16 * p .count ≤ n
 
--- the same draws, each point carried to the Earth
-abbrev pub projected : Projection → Made → Made
-projected t m = record { points = map (projectPoint t) (m .points); after = m .after; draws = m .draws }
-
--- ---- the same in stages, each for all points of a line
-unfoldable pub expStageBy : Projection → Point → Point
-expStageBy t p = let g = expStageOf t (p .x) (p .y) in record { x = g .lon; y = g .lat }
-
-unfoldable pub stageOf : Stage → Float → Float
-stageOf First v = atanFirst v
-stageOf Second v = atanSecond v
-stageOf Last v = roundedLatitudeOf (atanThird v)
-
--- x as it is
-abbrev pub onY : (Float → Float) → Point → Point
-onY f p = record { x = p .x; y = f (p .y) }
-
--- w with f of each point that stands from `from` to `to`, where it stood
-unfoldable pub inPlace : (Point → Point) → List Float → ℕ → ℕ → List Float
-inPlace f w from to = put w from (flats (map f (pointsIn w from to)))
+-- the same draws, with what f makes of the points
+abbrev pub onPoints : (List Point → List Point) → Made → Made
+onPoints f m = record { points = f (m .points); after = m .after; draws = m .draws }

@@ -1,24 +1,24 @@
 -- Laws of points written into a lent slice. Assumes nothing.
-use Prim.Native.Nat.{ℕ, _+_, _*_, _≤_, _<_}
-use mathlib.Core.Path.{_≡_, refl, sym, ap, subst, _∙_}
+use Prim.Native.Nat.{ℕ, _+_, _≤_, _<_}
+use mathlib.Core.Path.{_≡_, refl, sym, ap, _∙_}
 use mathlib.Core.Bool.{true, false, false≢true}
-use mathlib.Core.List.{List, [], _∷_, _++_, append-assoc, append-nil}
+use mathlib.Core.List.{List, [], _++_, append-nil, map}
 use native.Mathlib.Omega.{arith}
-use native.Mathlib.Numerals.{add-one}
-use native.Mathlib.Nat.{add-assoc, add-zero}
-use lib.ListN.{length, take, drop, set, length-append, length-drop, take-append-drop}
-use lib.Seq.{length-take-le, take-at, drop-append-add, drop-drop, take-take, sets-eq}
+use native.Mathlib.Nat.{add-assoc}
+use lib.ListN.{length, take, length-append, length-map}
+use lib.Seq.{take-take}
 use lib.Ieee.{Float}
 use borrow.Author.Tests.{le-leb, lt-leb, leb-true, leb-false}
-use Rattle.values.specs.Laws.Put.{put-before, put-none, put-length, put-more}
-use Rattle.values.specs.Laws.Points.{flats-append}
+use Rattle.values.specs.Laws.Put.{put-before, put-none, put-length, put-more, put-over}
+use Rattle.values.specs.Laws.Points.{flats-append, flats-length, points-back}
 use Rattle.budget.specs.declared.Budget.{Budget}
 use Rattle.values.specs.declared.Point.{Point}
 use Rattle.densify.specs.declared.append.PointCursor.{PointCursor}
 use Rattle.densify.specs.Densify.{Made, withoutDraws, andThen}
-use Rattle.densify.specs.Contracts.Written.{Written}
+use Rattle.densify.specs.Contracts.Written.{Written, onPoints}
 use Rattle.values.specs.Slices.{put}
 use Rattle.values.specs.Points.{flats}
+use Rattle.values.specs.Contracts.Points.{pointsIn, inPlace}
 
 -- ---- Written
 module _ (w : List Float) (at : ℕ) (m : Made) where
@@ -61,6 +61,12 @@ module _ {w w₁ : List Float} {at : ℕ} {a : Made} {r : PointCursor} (one : Wr
   pub next-in : r .ok ≡ true → r .at ≤ length w₁
   next-in fits = omega (arith, one .next fits, written-room fits, one .kept)
 
+  -- what had no room has none with more points
+  pub still-short : (b : Made) (s : PointCursor) → r .ok ≡ false → s .ok ≡ false → length (a .points) ≤ length (b .points) → Written w w₁ at b s
+  still-short b s short shut more =
+      let h : length w < at + length (flats (a .points)) = leb-false _ _ (sym (one .asked) ∙ short) in
+      written-short w at b w₁ s (omega (arith, flats-length (a .points), flats-length (b .points))) shut (one .before) (one .kept)
+
   -- a first that had no room: the whole has none
   pub join-short : (f : Budget → Made) → r .ok ≡ false → Written w w₁ at (andThen a f) r
   join-short f short =
@@ -100,6 +106,22 @@ written-as m n e f h =
       before = h .before;
       kept = h .kept;
     }
+
+-- ---- what is written, then changed where it stands
+pub written-points : {w w₁ : List Float} {at : ℕ} {m : Made} {r : PointCursor} → Written w w₁ at m r → r .ok ≡ true → pointsIn w₁ at (r .at) ≡ m .points
+written-points {w} {at = at} {m = m} one fits =
+    let room = written-room one fits in
+    rw (one .holds fits, one .next fits) (points-back w at (at + length (flats (m .points))) (m .points) (omega arith) (omega (arith, flats-length (m .points))))
+
+pub mapped-written : (f : Point → Point) {w w₁ w₂ : List Float} {at : ℕ} {m : Made} {r : PointCursor} → Written w w₁ at m r → r .ok ≡ true → w₂ ≡ inPlace f w₁ at (r .at)
+    → Written w w₂ at (onPoints (map f) m) r
+unfolding inPlace
+mapped-written f {w} {w₂ = w₂} {at = at} {m = m} {r = r} one fits there =
+    let n = onPoints (map f) m in
+    let room : length (flats (n .points)) ≡ length (flats (m .points)) = omega (arith, flats-length (n .points), flats-length (m .points), length-map (m .points) f) in
+    let h = written-room one fits in
+    written-all w at n w₂ r (rw room h) fits (rw room (one .next fits)) (one .left fits)
+    (there ∙ rw (written-points one fits, one .holds fits) (put-over w at (flats (m .points)) (omega arith) (flats (n .points)) room))
 
 -- ---- loops: whatever writes the rest from here has written the whole
 abbrev pub Leads : List Float → ℕ → Made → List Float → ℕ → Made → Type 0

@@ -13,7 +13,7 @@ use Rattle.stream.specs.Payload.{payload}
 use Rattle.scene.specs.Scene.{NamedFeature, NamedValue, Scene, sceneOf}
 use Rattle.values.specs.declared.Point.{Point}
 use Rattle.values.specs.Maybe.{Maybe, none, some, isSome}
-use Rattle.projection.specs.Projection.{geoOf}
+use Rattle.projection.specs.Projection.{geoOf, projectPoint}
 use Rattle.projection.specs.Laws.Projects.{geo-projects}
 use Rattle.register.specs.Register as register
 use Rattle.register.specs.Register.{f0, isLon, stem, suffixLat, var, resolved, mentioned, eventOf, featureEvent, featureEvents, lonEvent, consIf, variableEvents, events, registrationOf, anchorOf, pxMode, halfAnchor, controlsOf, only, ignored, anyDeclared, ignoredWith, viewWarnings, halfWarnings, registerWarnings}
@@ -22,7 +22,6 @@ use Rattle.register.specs.Laws.Sound.{accepted-tame, accepted-sound}
 use Rattle.budget.specs.Draws.{leftAfter, Claim}
 use Rattle.budget.specs.Laws.Draws.{claim}
 use Rattle.densify.specs.Densify.{GrantedDraw}
-use Rattle.densify.specs.Positions.{projectPoint}
 use Rattle.densify.specs.Draws.{drawsOf, Granted, fellShort}
 use Rattle.convert.specs.Convert.{Event, warned, onScreen, convertOf, drawsIn}
 use Rattle.convert.specs.Features.{AllWellFormed, positionsIn, featuresIn, warningsIn, featuresAt, warningsAt, anyOfKind}

@@ -3,7 +3,11 @@ use lib.Ieee.{Float, binary64, neg, add, sub, mul}
 use Rattle.geodesy.specs.declared.LonLat.{LonLat}
 use Rattle.geodesy.specs.declared.Metres.{Metres}
 use Rattle.geodesy.specs.Contracts.Stages.{longitudeOf, expOrdinateOf, latitudeOf}
+use Rattle.values.specs.declared.Point.{Point}
+use Rattle.elementary.specs.Contracts.Stages.{atanFirst, atanSecond, atanThird}
 use Rattle.projection.specs.declared.Projection.{Projection}
+use Rattle.projection.specs.declared.project.Stage.{Stage}
+use Rattle.projection.specs.declared.project.Stage.the-variants.{First, Second, Last}
 use Rattle.projection.specs.Projection.{round9Of}
 
 -- the point's position on the plane
@@ -21,3 +25,16 @@ expStageOf p x y = let m = planePositionOf p x y in record { lon = round9Of (lon
 
 unfoldable pub roundedLatitudeOf : Float → Float
 roundedLatitudeOf a = round9Of (latitudeOf a)
+
+-- ---- of a point
+unfoldable pub expStageBy : Projection → Point → Point
+expStageBy t p = let g = expStageOf t (p .x) (p .y) in record { x = g .lon; y = g .lat }
+
+unfoldable pub stageOf : Stage → Float → Float
+stageOf First v = atanFirst v
+stageOf Second v = atanSecond v
+stageOf Last v = roundedLatitudeOf (atanThird v)
+
+-- x as it is
+abbrev pub onY : (Float → Float) → Point → Point
+onY f p = record { x = p .x; y = f (p .y) }

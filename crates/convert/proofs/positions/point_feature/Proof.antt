@@ -5,9 +5,9 @@ use borrow.Author.Tests.{leb-false, not-true, not-false}
 use Rattle.values.specs.declared.Point.{Point}
 use Rattle.densify.specs.Densify.{withoutDraws}
 use Rattle.densify.specs.Contracts.Written.{Written}
-use Rattle.densify.specs.Positions.{projectPoint}
+use Rattle.projection.specs.Projection.{projectPoint}
 use Rattle.densify.specs.Laws.Writing.{written-room}
-use Rattle.densify.specs.Laws.Placing.{placed-is}
+use Rattle.projection.specs.Laws.Passes.{placed-is}
 use Rattle.convert.specs.Convert.{pointOf}
 use Rattle.convert.specs.Laws.Applying.{played-stuck}
 use Rattle.convert.specs.Laws.Events.{written-lacks, written-finished}

@@ -44,7 +44,7 @@ same-length c = search needs
 
 returns : tie.Need-returns
 unfolding firstRepeatedIn
-returns c = (refl, refl)
+returns c = refl
 
 pub repeat-first-position-spec : {M : Type 1} → statement M
 repeat-first-position-spec =

@@ -1,7 +1,7 @@
 use borrow.Author.Needs.{needs}
-use Rattle.densify.specs.Laws.Placing.{four-passes}
-use Rattle.densify.proofs.placing.project_points.Statement.{statement}
-use Rattle.densify.proofs.placing.project_points.Tie as tie
+use Rattle.projection.specs.Laws.Passes.{four-passes}
+use Rattle.projection.proofs.project.project_points.Statement.{statement}
+use Rattle.projection.proofs.project.project_points.Tie as tie
 
 exp-stage-points-requires : tie.Need-exp-stage-points-requires
 exp-stage-points-requires c κs = search needs

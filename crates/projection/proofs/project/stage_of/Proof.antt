@@ -1,7 +1,7 @@
 use borrow.Author.Needs.{needs}
-use Rattle.densify.specs.Contracts.Written.{stageOf}
-use Rattle.densify.proofs.placing.stage_of.Statement.{statement}
-use Rattle.densify.proofs.placing.stage_of.Tie as tie
+use Rattle.projection.specs.Contracts.Stages.{stageOf}
+use Rattle.projection.proofs.project.stage_of.Statement.{statement}
+use Rattle.projection.proofs.project.stage_of.Tie as tie
 
 enum-told : tie.Need-enum-told
 enum-told c = search needs

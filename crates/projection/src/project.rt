@@ -5,15 +5,15 @@ ghost use mathlib.Core.Bool.{true, false};
 ghost use Prim.Native.Nat.{_≤_};
 ghost use lib.Ieee.{isNan};
 ghost use lib.ListN.{length};
-ghost use Rattle.densify.specs.Contracts.Written.{expStageBy, stageOf, onY, inPlace};
-ghost use Rattle.values.specs.Contracts.Points.{pointWith};
-ghost use Rattle.densify.specs.Positions.{projectPoint};
+ghost use Rattle.projection.specs.Contracts.Stages.{expStageBy, stageOf, onY};
+ghost use Rattle.values.specs.Contracts.Points.{inPlace, pointWith};
+ghost use Rattle.projection.specs.Projection.{projectPoint};
+use crate::Projection;
+use crate::exp_stage;
+use crate::rounded_latitude;
 use elementary::atan_first;
 use elementary::atan_second;
 use float::same_value;
-use projection::Projection;
-use projection::rounded_latitude;
-use projection::exp_stage;
 
 // The stages of a latitude: two halvings of the exponential's arc tangent, and the rest.
 pub enum Stage {

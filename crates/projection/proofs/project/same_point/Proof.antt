@@ -2,8 +2,8 @@ use mathlib.Core.Path.{sym, ap, _∙_}
 use mathlib.Core.Bool.{false≢true}
 use borrow.Author.Needs.{needs}
 use Rattle.values.specs.declared.Point.{Point}
-use Rattle.densify.proofs.placing.same_point.Statement.{statement}
-use Rattle.densify.proofs.placing.same_point.Tie as tie
+use Rattle.projection.proofs.project.same_point.Statement.{statement}
+use Rattle.projection.proofs.project.same_point.Tie as tie
 
 same-value-requires : tie.Need-same-value-requires
 same-value-requires c κs = search needs

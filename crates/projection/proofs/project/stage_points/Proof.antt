@@ -6,10 +6,10 @@ use lib.ListN.{getD}
 use lib.Ieee.{nan}
 use borrow.Author.Needs.{needs}
 use borrow.Author.Tests.{not-false}
-use Rattle.densify.specs.Contracts.Written.{stageOf, onY}
-use Rattle.densify.specs.Laws.Placing.{Passed, pass-start, pass-end, pass-none, pass-turn-y}
-use Rattle.densify.proofs.placing.stage_points.Statement.{statement}
-use Rattle.densify.proofs.placing.stage_points.Tie as tie
+use Rattle.projection.specs.Contracts.Stages.{stageOf, onY}
+use Rattle.projection.specs.Laws.Passes.{Passed, pass-start, pass-end, pass-none, pass-turn-y}
+use Rattle.projection.proofs.project.stage_points.Statement.{statement}
+use Rattle.projection.proofs.project.stage_points.Tie as tie
 
 abbrev Inv-loop : tie.InvT-loop
 Inv-loop k out₀ from to last₀ made₀ i₀ out last made i = Passed (onY (stageOf k)) out₀ from to out i × (made ≡ stageOf k last)

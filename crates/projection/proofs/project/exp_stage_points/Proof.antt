@@ -7,12 +7,11 @@ use lib.Ieee.{nan}
 use borrow.Author.Needs.{needs}
 use borrow.Author.Tests.{not-false}
 use Rattle.values.specs.declared.Point.{Point}
-use Rattle.projection.specs.Contracts.Stages.{expStageOf}
-use Rattle.densify.specs.Contracts.Written.{expStageBy}
+use Rattle.projection.specs.Contracts.Stages.{expStageOf, expStageBy}
 use Rattle.values.specs.Points.{pointOf}
-use Rattle.densify.specs.Laws.Placing.{Passed, pass-start, pass-end, pass-none, pass-turn, stretched-is}
-use Rattle.densify.proofs.placing.exp_stage_points.Statement.{statement}
-use Rattle.densify.proofs.placing.exp_stage_points.Tie as tie
+use Rattle.projection.specs.Laws.Passes.{Passed, pass-start, pass-end, pass-none, pass-turn, stretched-is}
+use Rattle.projection.proofs.project.exp_stage_points.Statement.{statement}
+use Rattle.projection.proofs.project.exp_stage_points.Tie as tie
 
 abbrev Inv-loop : tie.InvT-loop
 Inv-loop t out₀ from to last-x₀ last-y₀ g₀ i₀ out last-x last-y g i = Passed (expStageBy t) out₀ from to out i × (g ≡ expStageOf t last-x last-y)
