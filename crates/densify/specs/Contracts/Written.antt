@@ -6,7 +6,7 @@ use mathlib.Core.List.{List, [], _∷_, map}
 use lib.ListN.{length, take, getD}
 use lib.Dec.{leb}
 use lib.Ieee.{Float, nan}
-use Rattle.values.specs.Contracts.Points.{pointIn}
+use Rattle.values.specs.Contracts.Points.{pointIn, pointsIn}
 use Rattle.similarity.specs.declared.projection.Projection.{Projection}
 use Rattle.elementary.specs.Contracts.Stages.{atanFirst, atanSecond, atanThird}
 use Rattle.similarity.specs.Contracts.Stages.{expStageOf, roundedLatitudeOf}
