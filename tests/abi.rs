@@ -14,7 +14,7 @@ pub struct Path {
     pub next: usize,
 }
 
-/// `Registration` of crates/similarity/src/projection.rt.
+/// `Registration` of crates/projection/src/lib.rt.
 #[allow(dead_code)]
 #[repr(C)]
 #[derive(Clone, Copy)]

@@ -19,7 +19,7 @@ use densify::put_point;
 use densify::spend_polyline;
 use geojson::Feature;
 use geojson::write_feature;
-use similarity::geo;
+use projection::geo;
 
 // The last position of those from `from` to `to` becomes the first, bit for bit.
 fn repeat_first_position(out: &mut [f64], from: usize, to: usize) -> usize

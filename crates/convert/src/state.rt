@@ -8,7 +8,7 @@ ghost use lib.ListN.{length};
 ghost use Rattle.convert.specs.Convert.{oneEvent, warned};
 ghost use Rattle.convert.specs.Contracts.Space.{outputBy, Fits, Applied};
 use budget::Budget;
-use similarity::Projection;
+use projection::Projection;
 
 // The same for a whole sheet: the projection, the longest step in metres, and the tolerance for curves in inches.
 pub struct Ctx {

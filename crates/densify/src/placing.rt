@@ -11,9 +11,9 @@ ghost use Rattle.densify.specs.Positions.{projectPoint};
 use elementary::atan_first;
 use elementary::atan_second;
 use float::same_value;
-use similarity::Projection;
-use similarity::rounded_latitude;
-use similarity::exp_stage;
+use projection::Projection;
+use projection::rounded_latitude;
+use projection::exp_stage;
 
 // The stages of a latitude: two halvings of the exponential's arc tangent, and the rest.
 pub enum Stage {

@@ -12,7 +12,7 @@ use crate::append::put_point;
 use budget::Budget;
 use budget::take;
 use elementary::hypot;
-use similarity::Projection;
+use projection::Projection;
 
 // How many vertices a segment wants: one for each of its parts.
 pub fn segment_want(step: f64, scale: f64, a: [f64; 2], b: [f64; 2]) -> usize

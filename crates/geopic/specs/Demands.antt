@@ -8,7 +8,7 @@ use Rattle.stream.specs.Conditions.{firstOf, NoneHolds}
 use Rattle.stream.specs.Payload.{payload}
 use Rattle.scene.specs.Scene.{Scene, sceneOf}
 use Rattle.values.specs.declared.Point.{Point}
-use Rattle.similarity.specs.Projection.{geoOf}
+use Rattle.projection.specs.Projection.{geoOf}
 use Rattle.register.specs.Register.{f0, registrationOf}
 use Rattle.budget.specs.Draws.{Draw, leftAfter, Claim}
 use Rattle.budget.specs.Laws.Draws.{claim}

@@ -9,8 +9,8 @@ use Rattle.stream.specs.Conditions.{Condition, firstOf}
 use Rattle.stream.specs.Payload.{payload}
 use Rattle.records.specs.Conditions.{ofStream}
 use Rattle.scene.specs.Scene.{Scene, sceneOf}
-use Rattle.similarity.specs.declared.projection.Registration.{Registration}
-use Rattle.similarity.specs.Projection.{projectionOf}
+use Rattle.projection.specs.declared.Registration.{Registration}
+use Rattle.projection.specs.Projection.{projectionOf}
 use Rattle.register.specs.Register.{f0, f100, registrationOf, ofRegistration, registerWarnings}
 use Rattle.budget.specs.declared.Budget.{Budget}
 use Rattle.convert.specs.declared.state.Ctx.{Ctx}

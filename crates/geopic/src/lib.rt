@@ -18,8 +18,8 @@ use register::Survey;
 use register::register;
 use register::survey_stream;
 use register::write_warnings;
-use similarity::Registration;
-use similarity::projection_of;
+use projection::Registration;
+use projection::projection_of;
 
 // The longest step between two positions, in metres.
 const MAX_STEP_M: f64 = 100.0;

@@ -7,8 +7,8 @@ use native.Mathlib.Omega.{arith}
 use lib.ListN.{length, take, set, length-set}
 use lib.Seq.{take-suc-set}
 use lib.Ieee.{Float}
-use Rattle.similarity.specs.declared.fit.Control.{Control}
-use Rattle.similarity.specs.Contracts.Fours.{foursIn}
+use Rattle.fit.specs.declared.Control.{Control}
+use Rattle.fit.specs.Contracts.Fours.{foursIn}
 use Rattle.register.specs.Contracts.Gathered.{controlIn, controlsBy}
 
 -- the first k of n are copied

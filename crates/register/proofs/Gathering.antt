@@ -17,10 +17,10 @@ use Rattle.scene.specs.Contracts.Answers.{LabelsFrom, VariablesFrom, placesAt, 
 use Rattle.scene.specs.Laws.Answers.{scene-lists, all-labels}
 use Rattle.scene.specs.Laws.Rising.{variables-rising}
 use Rattle.records.specs.Layout.{laidOut}
-use Rattle.similarity.specs.declared.fit.Control.{Control}
+use Rattle.fit.specs.declared.Control.{Control}
 use Rattle.names.specs.Contracts.Table.{nameOf, markOf, marked, Contains}
 use Rattle.names.specs.Contracts.Batch as batch
-use Rattle.similarity.specs.Contracts.Fours.{foursIn}
+use Rattle.fit.specs.Contracts.Fours.{foursIn}
 use Rattle.register.specs.declared.controls.Tally.{Tally}
 use Rattle.register.specs.declared.controls.FilledBatch as code-filled
 use Rattle.register.specs.declared.mentions.Cursor.{Cursor}

@@ -11,9 +11,9 @@ use lib.ListN.{length, set, length-append, length-set}
 use lib.Seq.{take-suc-set}
 use lib.Ieee.{Float}
 use borrow.Author.Tests.{lt-ltb, le-ltb, ltb-true, ltb-false}
-use Rattle.similarity.specs.declared.fit.Control.{Control}
-use Rattle.similarity.specs.Contracts.Fours.{withFour}
-use Rattle.similarity.specs.Laws.Fours.{four-length, four-more}
+use Rattle.fit.specs.declared.Control.{Control}
+use Rattle.fit.specs.Contracts.Fours.{withFour}
+use Rattle.fit.specs.Laws.Fours.{four-length, four-more}
 use Rattle.register.specs.declared.controls.Tally.{Tally}
 use Rattle.register.specs.Register.{withinLimits, allWithinLimits}
 use Rattle.register.specs.Contracts.Gathered.{upTo65, controlBy, Holds}

@@ -18,7 +18,7 @@ use Rattle.scene.specs.Laws.Rising.{Rising, before-trans, before-itself, same-e
 use Rattle.register.specs.Register.{Event, resolved, mentioned, eventOf, suffixLon, suffixLat, var, stem, isLon, featureEvent, featureEvents, lonEvent, consIf, variableEvents, controlsIn}
 use Rattle.register.specs.Contracts.Mentions.{Mention, featureMentions, lonMention, lonMentions, eventWith, grownBy, eventsOf, mentionsAt, Follows}
 use Rattle.register.specs.declared.mentions.Cursor.{Cursor}
-use Rattle.similarity.specs.declared.fit.Control.{Control}
+use Rattle.fit.specs.declared.Control.{Control}
 use Rattle.register.specs.Contracts.Survey.{lonsIn}
 use Rattle.register.proofs.Lons.{lon-ends}
 use Rattle.register.proofs.Marks.{same-self}

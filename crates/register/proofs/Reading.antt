@@ -18,7 +18,7 @@ use Rattle.scene.specs.Scene.{Scene, sceneOf}
 use Rattle.values.specs.declared.Point.{Point}
 use Rattle.values.specs.Maybe.{Maybe, none, some, isSome}
 use Rattle.scene.specs.Contracts.Answers.{maybeFloat}
-use Rattle.similarity.specs.declared.fit.Control.{Control}
+use Rattle.fit.specs.declared.Control.{Control}
 use Rattle.names.specs.Contracts.Table.{markOf, Table, Contains}
 use Rattle.names.specs.Contracts.Batch.{slotPoint}
 use Rattle.register.specs.declared.controls.Tally.{Tally}

@@ -13,10 +13,10 @@ use Rattle.stream.specs.Conditions.{Condition}
 use Rattle.scene.specs.Scene.{NamedFeature, NamedValue, Scene}
 use Rattle.values.specs.declared.Point.{Point}
 use Rattle.scene.specs.Labels.{sameBytes, variableOf, pointOfLabel}
-use Rattle.similarity.specs.declared.fit.Control.{Control}
-use Rattle.similarity.specs.declared.fit.Fit.{Fit}
-use Rattle.similarity.specs.declared.projection.Registration.{Registration}
-use Rattle.similarity.specs.Fit.{fitOf}
+use Rattle.fit.specs.declared.Control.{Control}
+use Rattle.fit.specs.declared.Fit.{Fit}
+use Rattle.projection.specs.declared.Registration.{Registration}
+use Rattle.fit.specs.Fit.{fitOf}
 
 -- ---- names of variables, by their bytes
 abbrev pub geo : List ℕ

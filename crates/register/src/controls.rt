@@ -13,7 +13,7 @@ ghost use Rattle.stream.specs.Contracts.Payload.{room};
 ghost use Rattle.records.specs.Records.{bytesAt};
 ghost use Rattle.records.specs.Layout.{laidOut};
 ghost use Rattle.scene.specs.Scene.{sceneOf};
-ghost use Rattle.similarity.specs.declared.fit.Control.{Control};
+ghost use Rattle.fit.specs.declared.Control.{Control};
 ghost use Rattle.names.specs.Contracts.Table.{Table};
 ghost use Rattle.names.specs.Contracts.Batch.{slotPoint};
 ghost use Rattle.register.specs.Register.{withinLimits, controlsIn};
@@ -30,7 +30,7 @@ use names::insert;
 use names::match_labels;
 use names::unmark;
 use scene::next_name;
-use similarity::Control;
+use fit::Control;
 
 pub struct Tally {
     // how many there are, 65 for more than 64

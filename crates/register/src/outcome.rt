@@ -16,9 +16,9 @@ use crate::declared::Declared;
 use crate::survey::Survey;
 use float::is_finite;
 use scene::OptionalPoint;
-use similarity::Control;
-use similarity::Registration;
-use similarity::fit_points;
+use fit::Control;
+use projection::Registration;
+use fit::fit_points;
 
 // The largest effective scale, in metres an inch.
 const MAX_SCALE_M_PER_IN: f64 = 1e9;

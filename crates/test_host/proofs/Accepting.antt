@@ -11,8 +11,8 @@ use Rattle.records.specs.Contracts.Refusals.{refusalOf}
 use Rattle.scene.specs.Scene.{Scene, sceneOf}
 use Rattle.values.specs.declared.Point.{Point}
 use Rattle.values.specs.Maybe.{Maybe}
-use Rattle.similarity.specs.declared.fit.Control.{Control}
-use Rattle.similarity.specs.declared.projection.Registration.{Registration}
+use Rattle.fit.specs.declared.Control.{Control}
+use Rattle.projection.specs.declared.Registration.{Registration}
 use Rattle.register.specs.declared.outcome.Outcome.{Outcome}
 use Rattle.register.specs.Register.{controlsOf, anchorOf, registrationBy, registrationOf, registerWarnings}
 use Rattle.register.specs.Contracts.Outcome.{registerRefusal, accepted, refusedBy, pickOutcome, outcomeOf}

@@ -2,9 +2,9 @@
 use mathlib.Core.Path.{_≡_, refl, ap}
 use mathlib.Core.List.{List}
 use lib.Ieee.{Float}
-use Rattle.similarity.specs.declared.projection.Registration.{Registration}
-use Rattle.similarity.specs.declared.projection.Projection.{Projection}
-use Rattle.similarity.specs.Projection.{projectionOf}
+use Rattle.projection.specs.declared.Registration.{Registration}
+use Rattle.projection.specs.declared.Projection.{Projection}
+use Rattle.projection.specs.Projection.{projectionOf}
 use Rattle.budget.specs.declared.Budget.{Budget}
 use Rattle.values.specs.declared.Point.{Point}
 use Rattle.densify.specs.declared.append.PointCursor.{PointCursor}

@@ -3,7 +3,7 @@ ghost use mathlib.Core.Path.{_≡_};
 ghost use mathlib.Core.Bool.{true, false};
 ghost use Rattle.stream.specs.Payload.{payload};
 ghost use Rattle.stream.specs.Contracts.Payload.{room};
-ghost use Rattle.similarity.specs.Projection.{projectionOf};
+ghost use Rattle.projection.specs.Projection.{projectionOf};
 ghost use lib.ListN.{length};
 ghost use Prim.Native.Nat.{_+_, _*_, _≤_, _<_};
 ghost use lib.Dec.{leb};
@@ -22,8 +22,8 @@ use densify::ellipse_ring;
 use densify::path_points;
 use densify::segment_want;
 use scene::Path;
-use similarity::Registration;
-use similarity::projection_of;
+use projection::Registration;
+use projection::projection_of;
 
 // Whether the points had room, where they end, and the budget after them.
 #[repr(C)]

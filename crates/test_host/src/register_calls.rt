@@ -1,12 +1,12 @@
 // Registration as C symbols, for the comparison.
 ghost use mathlib.Core.Path.{_≡_};
-ghost use Rattle.similarity.specs.Projection.{toLonLatOf};
+ghost use Rattle.projection.specs.Projection.{toLonLatOf};
 ghost use Rattle.test_host.specs.Contracts.Answer.{answerOf, warnedOf};
 use geodesy::LonLat;
 use register::Outcome;
-use similarity::Registration;
-use similarity::to_lonlat;
-use similarity::projection_of;
+use projection::Registration;
+use projection::to_lonlat;
+use projection::projection_of;
 use values::WarningCursor;
 
 // Refusals 1 to 14, or 0 and the registration.

@@ -14,10 +14,10 @@ use Rattle.float.specs.Laws.Spans.{Each, each-map}
 use Rattle.elementary.specs.Constants as K
 use Rattle.geodesy.specs.declared.LonLat.{LonLat}
 use Rattle.geodesy.specs.Laws.Finite.{m180, m90, c90, OnEarth}
-use Rattle.similarity.specs.declared.projection.Registration.{Registration}
-use Rattle.similarity.specs.Projection.{projectionOf}
-use Rattle.similarity.specs.Laws.Projects.{geo-projects}
-use Rattle.similarity.specs.Laws.Project.{Sound, geo-in}
+use Rattle.projection.specs.declared.Registration.{Registration}
+use Rattle.projection.specs.Projection.{projectionOf}
+use Rattle.projection.specs.Laws.Projects.{geo-projects}
+use Rattle.projection.specs.Laws.Project.{Sound, geo-in}
 use Rattle.records.specs.Laws.Tests.{and-right}
 use Rattle.scene.specs.Scene.{Cubic, Form, curve, polyline, DrawnPath, DrawnItem}
 use Rattle.values.specs.declared.Point.{Point}

@@ -7,9 +7,9 @@ use lib.ListN.{length, take, getD}
 use lib.Dec.{leb}
 use lib.Ieee.{Float, nan}
 use Rattle.values.specs.Contracts.Points.{pointIn, pointsIn}
-use Rattle.similarity.specs.declared.projection.Projection.{Projection}
+use Rattle.projection.specs.declared.Projection.{Projection}
 use Rattle.elementary.specs.Contracts.Stages.{atanFirst, atanSecond, atanThird}
-use Rattle.similarity.specs.Contracts.Stages.{expStageOf, roundedLatitudeOf}
+use Rattle.projection.specs.Contracts.Stages.{expStageOf, roundedLatitudeOf}
 use Rattle.scene.specs.declared.readers.Path.{Path}
 use Rattle.scene.specs.Scene.{DrawnPath}
 use Rattle.values.specs.declared.Point.{Point}

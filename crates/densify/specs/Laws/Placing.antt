@@ -11,10 +11,10 @@ use lib.Ieee.{Float, nan}
 use borrow.Author.Tests.{leb-false}
 use Rattle.values.specs.declared.Point.{Point}
 use Rattle.geodesy.specs.declared.LonLat.{LonLat}
-use Rattle.similarity.specs.declared.projection.Projection.{Projection}
-use Rattle.similarity.specs.Projection.{geoBy}
-use Rattle.similarity.specs.Contracts.Stages.{expStageOf}
-use Rattle.similarity.specs.Laws.Project.{geo-staged}
+use Rattle.projection.specs.declared.Projection.{Projection}
+use Rattle.projection.specs.Projection.{geoBy}
+use Rattle.projection.specs.Contracts.Stages.{expStageOf}
+use Rattle.projection.specs.Laws.Project.{geo-staged}
 use Rattle.densify.specs.declared.append.PointCursor.{PointCursor}
 use Rattle.densify.specs.Densify.{Made}
 use Rattle.densify.specs.Contracts.Written.{Written, projected, expStageBy, stageOf, onY, inPlace}

@@ -6,7 +6,7 @@ use lib.ListN.{length}
 use Rattle.stream.specs.Conditions.{firstOf}
 use Rattle.stream.specs.Payload.{payload}
 use Rattle.scene.specs.Scene.{sceneOf}
-use Rattle.similarity.specs.declared.projection.Registration.{Registration}
+use Rattle.projection.specs.declared.Registration.{Registration}
 use Rattle.register.specs.declared.survey.Survey.{Survey}
 use Rattle.register.specs.Register.{registrationOf}
 use Rattle.register.specs.Contracts.Survey.{Surveyed}

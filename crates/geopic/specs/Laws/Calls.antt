@@ -16,10 +16,10 @@ use Rattle.values.specs.declared.Point.{Point}
 use Rattle.values.specs.Maybe.{Maybe}
 use Rattle.scene.specs.Contracts.Answers.{itemsAt}
 use Rattle.scene.specs.Laws.Answers.{scene-lists}
-use Rattle.similarity.specs.declared.fit.Control.{Control}
-use Rattle.similarity.specs.declared.projection.Projection.{Projection}
-use Rattle.similarity.specs.declared.projection.Registration.{Registration}
-use Rattle.similarity.specs.Projection.{projectionOf}
+use Rattle.fit.specs.declared.Control.{Control}
+use Rattle.projection.specs.declared.Projection.{Projection}
+use Rattle.projection.specs.declared.Registration.{Registration}
+use Rattle.projection.specs.Projection.{projectionOf}
 use Rattle.values.specs.declared.WarningCursor.{WarningCursor}
 use Rattle.register.specs.declared.outcome.Outcome.{Outcome}
 use Rattle.register.specs.declared.survey.Survey.{Survey}

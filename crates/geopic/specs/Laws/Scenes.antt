@@ -13,8 +13,8 @@ use Rattle.stream.specs.Payload.{payload}
 use Rattle.scene.specs.Scene.{NamedFeature, NamedValue, Scene, sceneOf}
 use Rattle.values.specs.declared.Point.{Point}
 use Rattle.values.specs.Maybe.{Maybe, none, some, isSome}
-use Rattle.similarity.specs.Projection.{geoOf}
-use Rattle.similarity.specs.Laws.Projects.{geo-projects}
+use Rattle.projection.specs.Projection.{geoOf}
+use Rattle.projection.specs.Laws.Projects.{geo-projects}
 use Rattle.register.specs.Register as register
 use Rattle.register.specs.Register.{f0, isLon, stem, suffixLat, var, resolved, mentioned, eventOf, featureEvent, featureEvents, lonEvent, consIf, variableEvents, events, registrationOf, anchorOf, pxMode, halfAnchor, controlsOf, only, ignored, anyDeclared, ignoredWith, viewWarnings, halfWarnings, registerWarnings}
 use Rattle.values.specs.Warnings.{Warning}

@@ -1,6 +1,6 @@
 -- What a whole call is computed with, from its blocks to its floats: to unfold `everything` is to unfold all that its line names.
 use Rattle.register.specs.Laws.Everything as registration
-use Rattle.similarity.specs.Projection as projection
+use Rattle.projection.specs.Projection as projection
 use Rattle.stream.specs.Blocks as blocks
 use Rattle.stream.specs.Payload as payload
 use Rattle.records.specs.Walk as walk

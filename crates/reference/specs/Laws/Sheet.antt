@@ -7,7 +7,7 @@ use lib.ListN.{length, replicate, take, drop}
 use lib.IntN.{pos}
 use lib.Ieee.{Float, binary64, ofBits, ofInt, neg, mul, eq}
 use Rattle.float.specs.Functions.{roundOf}
-use Rattle.similarity.specs.Projection.{billion}
+use Rattle.projection.specs.Projection.{billion}
 use Rattle.stream.specs.Blocks.{wordSum}
 use Rattle.register.specs.Register as register
 use Rattle.geopic.specs.Geopic.{Buffers, refusal, answerOf, buffersAfter}

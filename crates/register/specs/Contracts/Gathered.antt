@@ -13,8 +13,8 @@ use Rattle.scene.specs.Scene.{Scene, sceneOf}
 use Rattle.values.specs.declared.Point.{Point}
 use Rattle.values.specs.Maybe.{Maybe, none, some, isSome}
 use Rattle.scene.specs.Labels.{sameBytes}
-use Rattle.similarity.specs.declared.fit.Control.{Control}
-use Rattle.similarity.specs.Contracts.Fours.{fourIn, foursIn}
+use Rattle.fit.specs.declared.Control.{Control}
+use Rattle.fit.specs.Contracts.Fours.{fourIn, foursIn}
 use Rattle.names.specs.Contracts.Table.{nameOf, markOf, marked, Table, Unmarked, Contains}
 use Rattle.names.specs.Contracts.Batch.{slotPoint}
 use Rattle.register.specs.declared.controls.Tally.{Tally}

@@ -9,9 +9,9 @@ use lib.Ieee.Scale.{finite}
 use Rattle.stream.specs.Conditions.{firstOf}
 use Rattle.scene.specs.Scene.{Scene}
 use Rattle.values.specs.declared.Point.{Point}
-use Rattle.similarity.specs.declared.fit.Control.{Control}
-use Rattle.similarity.specs.declared.projection.Registration.{Registration}
-use Rattle.similarity.specs.Fit.{fitOf}
+use Rattle.fit.specs.declared.Control.{Control}
+use Rattle.projection.specs.declared.Registration.{Registration}
+use Rattle.fit.specs.Fit.{fitOf}
 use Rattle.register.specs.declared.outcome.Outcome.{Outcome}
 use Rattle.register.specs.Register.{f0, maxScale, above0, pxMode, scaleValue, declaredAt, fitted, registrationOf, ofRegistration}
 

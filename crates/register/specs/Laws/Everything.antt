@@ -6,7 +6,7 @@ use Rattle.root.specs.Root as roots
 use Rattle.elementary.specs.Functions as elementaryFunctions
 use Rattle.elementary.specs.Series as series
 use Rattle.geodesy.specs.Geodesy as geodesy
-use Rattle.similarity.specs.Fit as fit
+use Rattle.fit.specs.Fit as fit
 use Rattle.stream.specs.Numbers as numbers
 use Rattle.stream.specs.Conditions as conditions
 use Rattle.records.specs.Records as records

@@ -17,10 +17,10 @@ use Rattle.values.specs.declared.Point.{Point}
 use Rattle.values.specs.Maybe.{Maybe, none, some}
 use Rattle.scene.specs.declared.fields.OptionalPoint.{OptionalPoint}
 use Rattle.scene.specs.Contracts.Answers.{maybePoint}
-use Rattle.similarity.specs.declared.fit.Control.{Control}
-use Rattle.similarity.specs.Contracts.Fours.{foursIn}
-use Rattle.similarity.specs.declared.projection.Registration.{Registration}
-use Rattle.similarity.specs.Fit.{fitOf}
+use Rattle.fit.specs.declared.Control.{Control}
+use Rattle.fit.specs.Contracts.Fours.{foursIn}
+use Rattle.projection.specs.declared.Registration.{Registration}
+use Rattle.fit.specs.Fit.{fitOf}
 use Rattle.register.specs.declared.controls.Tally.{Tally}
 use Rattle.register.specs.declared.outcome.Outcome.{Outcome}
 use Rattle.register.specs.Register.{f0, maxScale, var, geoFrame, isMercator, withinLimits, allWithinLimits, anchorWithinLimits, anchorOf, controlsOf, scaleValue, pxMode, above0, declaredAt, fitted, registrationBy, registrationOf, ofRegistration}

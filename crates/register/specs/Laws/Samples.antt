@@ -6,7 +6,7 @@ use lib.ListN.{length, take, replicate}
 use lib.Ieee.{binary64, toBits}
 use Rattle.stream.specs.Conditions.{firstOf}
 use Rattle.scene.specs.Scene.{Scene, sceneOf}
-use Rattle.similarity.specs.declared.projection.Registration.{Registration}
+use Rattle.projection.specs.declared.Registration.{Registration}
 use Rattle.register.specs.Register.{controlsOf, registrationOf, ofRegistration, registerWarnings}
 use Rattle.values.specs.Warnings.{Warning}
 use Rattle.register.specs.Contracts.Outcome.{registerRefusal}

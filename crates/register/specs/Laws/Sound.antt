@@ -16,17 +16,19 @@ use Rattle.float.specs.Laws.Signed.{nonneg, round-nonneg, neg-le, →le}
 use Rattle.float.specs.Laws.Operations.{finite-neg}
 use Rattle.float.specs.Laws.Order.{le-trans, le-refl}
 use Rattle.float.specs.Laws.Tests.{yes, no}
-use Rattle.float.specs.Laws.Intervals.{Between}
+use Rattle.float.specs.Laws.Comparisons.{lt→le}
+use Rattle.float.specs.Laws.Intervals.{Between, in-finite}
 use Rattle.float.specs.Laws.Numbers.{nonneg-low}
 use Rattle.float.specs.Laws.Spans.{Each}
 use Rattle.elementary.specs.Constants as K
 use Rattle.elementary.specs.Laws.Mercator.{c89·5, m89·5}
 use Rattle.elementary.specs.Laws.Ordinate.{c85·06, m85·06}
 use Rattle.geodesy.specs.Laws.Finite.{m180}
-use Rattle.similarity.specs.declared.fit.Control.{Control}
-use Rattle.similarity.specs.Fit.{fitOf}
-use Rattle.similarity.specs.Laws.Project.{Sound}
-use Rattle.similarity.specs.Laws.Fitted.{Placed, fit-sound}
+use Rattle.fit.specs.declared.Control.{Control}
+use Rattle.fit.specs.declared.Fit.{Fit}
+use Rattle.fit.specs.Fit.{fitOf}
+use Rattle.projection.specs.Laws.Project.{Sound}
+use Rattle.fit.specs.Laws.Fitted.{Placed, Fitted, fit-in}
 use Rattle.stream.specs.Numbers.{u64At, floatOf, floatAt}
 use Rattle.stream.specs.declared.Float64.{Float64}
 use Rattle.stream.specs.declared.Float64.the-variants.{Finite, NotFinite}
@@ -343,6 +345,17 @@ declared-sound sc a o n t e p s v f m = record {
   of-format = t .bearing .of-format;
 }
 
+fitted-sound : (f : Fit) (n : ℕ) → Fitted f → T (le (f .scale) maxScale) → Sound (fitted f n)
+fitted-sound f n F s = record {
+  lon = F .lon;
+  lat = F .lat;
+  x = F .x;
+  y = F .y;
+  scale = record { low = lt→le K.zero (f .scale) (F .above); high = s; fl = unfold ofBits in tt; fh = unfold ofBits in tt };
+  bearing = in-finite m180 K.c180 (f .bearing) (F .bearing);
+  of-format = F .of-format;
+}
+
 registered : (sc : Scene) (cs : List Control) → Tame sc → Each Placed cs → Passes sc cs → Sound (registrationBy sc (anchorOf sc) cs)
 unfolding registrationBy
 registered sc [] t c p =
@@ -352,8 +365,8 @@ registered sc (k ∷ []) t c p =
     (record { lon = c .0 .lon; lat = lat-wider (k .lat) (c .0 .lat) }) (record { x = c .0 .x; y = c .0 .y })
     (is-true (lt f0 (scaleValue sc)) (p .above)) (p .view) (p .scale) (p .small)
 registered sc (k ∷ j ∷ cs) t c p =
-    fit-sound (k ∷ j ∷ cs) (ltb-false 64 (length (k ∷ j ∷ cs)) (p .most)) c (is-true (fitOf (k ∷ j ∷ cs) .some) (rw (le-ltb (length (k ∷ j ∷ cs)) 2 (omega arith)) at (p .fit))) (p .small)
-    (fitted (fitOf (k ∷ j ∷ cs)) (length (k ∷ j ∷ cs))) (record { lon = refl; lat = refl; x = refl; y = refl; scale = refl; bearing = refl })
+    fitted-sound (fitOf (k ∷ j ∷ cs)) (length (k ∷ j ∷ cs))
+    (fit-in (k ∷ j ∷ cs) (ltb-false 64 (length (k ∷ j ∷ cs)) (p .most)) c (is-true (fitOf (k ∷ j ∷ cs) .some) (rw (le-ltb (length (k ∷ j ∷ cs)) 2 (omega arith)) at (p .fit)))) (p .small)
 
 pub tame-sound : (sc : Scene) → Tame sc → registerRefusal sc ≡ 0 → Sound (registrationOf sc)
 unfolding registrationOf

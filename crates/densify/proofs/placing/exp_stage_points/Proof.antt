@@ -7,7 +7,7 @@ use lib.Ieee.{nan}
 use borrow.Author.Needs.{needs}
 use borrow.Author.Tests.{not-false}
 use Rattle.values.specs.declared.Point.{Point}
-use Rattle.similarity.specs.Contracts.Stages.{expStageOf}
+use Rattle.projection.specs.Contracts.Stages.{expStageOf}
 use Rattle.densify.specs.Contracts.Written.{expStageBy}
 use Rattle.values.specs.Points.{pointOf}
 use Rattle.densify.specs.Laws.Placing.{Passed, pass-start, pass-end, pass-none, pass-turn, stretched-is}

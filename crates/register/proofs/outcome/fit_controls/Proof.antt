@@ -7,7 +7,7 @@ use Prim.Native.Nat.{_-_}
 use native.Mathlib.Omega.{arith}
 use lib.ListN.{take}
 use lib.Dec.{eqb}
-use Rattle.similarity.specs.Laws.Fours.{fours-length}
+use Rattle.fit.specs.Laws.Fours.{fours-length}
 use Rattle.register.specs.Contracts.Gathered.{controlBy, controlsBy}
 use Rattle.register.specs.Contracts.Outcome.{fittedOutcome}
 use Rattle.register.proofs.Copies.{Copied, copied, copied-one, all-copied}

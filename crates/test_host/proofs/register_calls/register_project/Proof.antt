@@ -1,8 +1,8 @@
 use borrow.Author.Needs.{needs}
 use mathlib.Core.Path.{ap, _∙_}
-use Rattle.similarity.specs.declared.projection.Projection.{Projection}
-use Rattle.similarity.specs.Projection.{toLonLatBy}
-use Rattle.similarity.specs.Laws.Projects.{projects}
+use Rattle.projection.specs.declared.Projection.{Projection}
+use Rattle.projection.specs.Projection.{toLonLatBy}
+use Rattle.projection.specs.Laws.Projects.{projects}
 use Rattle.test_host.proofs.register_calls.register_project.Statement.{statement}
 use Rattle.test_host.proofs.register_calls.register_project.Tie as tie
 

@@ -1,0 +1,3 @@
+-- What callers may know of the projection.
+pub mod Project
+pub mod Projects
