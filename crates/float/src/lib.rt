@@ -13,6 +13,9 @@ pub use whole::ceil;
 pub use whole::round;
 pub use whole::trunc;
 
+// The fraction's 52 digits lie below this; the exponent's field counts in it.
+const TWO_52: u64 = 0x0010_0000_0000_0000;
+
 // The size of a value. 0.0 - x gives +0.0 for either zero.
 pub fn abs(x: f64) -> f64
     ensures { λ r. ⌜ r ≡ absOf x ⌝ }
@@ -76,8 +79,8 @@ pub fn decompose(b: u64) -> Decomposed
     requires { ⌜ (0 < b) × (b < 2047 * 2 ^ 52) ⌝ }
     ensures { λ r. ⌜ Decomposition b (r .m) (r .e) ⌝ }
 {
-    let f = b / 4503599627370496;
-    let t = b % 4503599627370496;
+    let f = b / TWO_52;
+    let t = b % TWO_52;
     if f == 0 {
         let z = (u64::leading_zeros(t) - 11) as u64;
         return Decomposed {
@@ -86,7 +89,7 @@ pub fn decompose(b: u64) -> Decomposed
         };
     }
     Decomposed {
-        m: 4503599627370496 + t,
+        m: TWO_52 + t,
         e: 1075 + f,
     }
 }
