@@ -4,15 +4,15 @@ ghost use Prim.Native.Nat.{_+_, _*_, _<_, _%_, _/_};
 ghost use Rattle.float.specs.Functions.{wholeAt, truncOf, ceilOf, roundOf};
 ghost use Rattle.float.specs.Contracts.Fraction.{HasFraction, IsUnit, unitOf, signOf, digitsOf};
 
-// A pattern's sign, exponent field and digits: sign * 2^63 + field * 2^52 + digits.
+// A pattern is its sign, 0 or SIGN, plus field * 2^52 + digits, with 52 digits after the point.
 const TWO_52: u64 = 0x0010_0000_0000_0000;
 
 const SIGN: u64 = 0x8000_0000_0000_0000;
 
-// The values of the exponent's field, of 11 bits.
+// How many values the exponent's field has.
 const FIELDS: u64 = 2048;
 
-// The field of 0.5 up to 1, of 1 up to 2, and of 2^52 up to 2^53, from where on every value is a whole number.
+// The field of the values from 0.5 up to 1, from 1 up to 2, and from 2^52 on, which are all whole numbers.
 const FIELD_HALF: u64 = 1022;
 
 const FIELD_ONE: u64 = 1023;
@@ -30,7 +30,7 @@ fn unit(b: u64) -> u64
     1 << (FIELD_WHOLE - b / TWO_52 % FIELDS)
 }
 
-// What `round` adds before it cuts. Half of one takes halves away from zero.
+// What `round` adds before it clears the fraction: half of what one weighs, so that halves go away from zero.
 fn half(b: u64) -> u64
     requires { ⌜ HasFraction b ⌝ }
     ensures { λ r. ⌜ r ≡ unitOf b / 2 ⌝ }
@@ -39,8 +39,8 @@ fn half(b: u64) -> u64
     u / 2
 }
 
-// The pattern's value with h added to its digits, and without those behind the point. What the sum carries into the exponent's
-// field is right there.
+// The pattern's value with h added to its digits, and without those behind the point. What the sum carries into the
+// exponent's field is right there.
 fn clear_fraction(b: u64, h: u64) -> f64
     requires { ⌜ HasFraction b × (h < unitOf b) ⌝ }
     ensures { λ r. ⌜ r ≡ wholeAt (signOf b) ((digitsOf b + h) / unitOf b) ⌝ }

@@ -1,4 +1,5 @@
--- Magnitudes: x is finite and at most 2 ^ k in size. Sums, differences, products and quotients of such values are such values, and do not overflow.
+-- Magnitudes: x is finite and at most 2 ^ k in size. Sums, differences, products and quotients of such values are such
+-- values, and do not overflow.
 use mathlib.Core.Path.{_≡_, refl, sym, ap, _∙_, subst}
 use mathlib.Core.Logic.{_⊎_, inl, inr}
 use mathlib.Core.Bool.{Bool, true, false, _&&_}

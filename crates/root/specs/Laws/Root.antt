@@ -1,4 +1,5 @@
--- Laws of `rootOf` for callers: it is the nearest value to the root, its cases, what the format holds, the order, and bounds. Assumes nothing.
+-- Laws of `rootOf` for callers: it is the nearest value to the root, its cases, what the format holds, the order, and
+-- bounds. Assumes nothing.
 use mathlib.Core.Path.{_≡_, refl, ap, subst}
 use mathlib.Core.Logic.{_⊎_, inl, inr}
 use mathlib.Core.Bool.{Bool, true, false, cond}
