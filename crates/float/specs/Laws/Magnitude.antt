@@ -20,7 +20,7 @@ pub record Within (k : ℕ) (x : Float) : Type 0 where
   pub is-finite : T (finite x)
   pub size : P x + N x ≤ 2 ^ k * D x
 
--- of a literal, by computation
+-- the bound of a literal, by computation
 abbrev pub within? : ℕ → Float → Bool
 within? k x = finite x && leb (P x + N x) (2 ^ k * D x)
 
