@@ -10,7 +10,6 @@ use crate::placing::project_points;
 use crate::append::PointCursor;
 use crate::append::put_point;
 use budget::Budget;
-use budget::take;
 use elementary::hypot;
 use projection::Projection;
 
@@ -97,7 +96,7 @@ fn sample_polyline(
         let bx = work[i];
         let by = work[i + 1];
         let want = segment_want(step, scale, [ax, ay], [bx, by]);
-        let taken = take(left, want, 1);
+        let taken = left.take(want, 1);
         left = taken.budget;
         let d = sample_segment([ax, ay], [bx, by], taken.granted, left, out, next);
         if !d.ok {
@@ -162,7 +161,7 @@ pub fn spend_polyline(
         let bx = work[i];
         let by = work[i + 1];
         let want = segment_want(step, scale, [ax, ay], [bx, by]);
-        let taken = take(left, want, 1);
+        let taken = left.take(want, 1);
         left = taken.budget;
         ax = bx;
         ay = by;
