@@ -68,8 +68,8 @@ enum {
 
 /* A feature line is six numbers: the item's index from 0; the geometry; the role; the placement; the part (0, or 1 +
  * the path's index from 0 where an item has more than one path); and how many positions it has. They stand in
- * `positions` directly behind those of the lines before it, longitude then latitude, in degrees. A line has two or more,
- * a ring four or more, its last bit-identical to its first; all are finite. */
+ * `positions` directly behind those of the lines before it, longitude then latitude, in degrees. A line has two or
+ * more, a ring four or more, its last bit-identical to its first; all are finite. */
 enum { GEOPIC_POINT = 0, GEOPIC_LINE = 1, GEOPIC_POLYGON = 2 /* of one ring */ };
 enum { GEOPIC_DRAWN = 0, GEOPIC_FILL = 1 /* a separate fill */ };
 enum { GEOPIC_GEOGRAPHIC = 0, GEOPIC_SCREEN = 1 };
