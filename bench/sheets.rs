@@ -21,21 +21,29 @@ struct Answer {
     left: usize,
 }
 
-unsafe extern "C" {
-    #[allow(clippy::too_many_arguments)]
-    fn geopic_place(
-        stream: *const u8,
-        stream_length: usize,
-        work: *mut f64,
-        work_length: usize,
-        positions: *mut f64,
-        positions_length: usize,
-        features: *mut u32,
-        features_length: usize,
-        warnings: *mut u32,
-        warnings_length: usize,
-    ) -> Answer;
+/// The host's call by one of its names.
+macro_rules! call {
+    ($name:ident) => {
+        unsafe extern "C" {
+            #[allow(clippy::too_many_arguments)]
+            fn $name(
+                stream: *const u8,
+                stream_length: usize,
+                work: *mut f64,
+                work_length: usize,
+                positions: *mut f64,
+                positions_length: usize,
+                features: *mut u32,
+                features_length: usize,
+                warnings: *mut u32,
+                warnings_length: usize,
+            ) -> Answer;
+        }
+    };
 }
+call!(geopic_place);
+#[cfg(before)]
+call!(geopic_place_before);
 
 /// What the module is lent. `work` is cleared by every call; nothing is cleared between calls.
 struct Lent {
@@ -59,25 +67,32 @@ impl Lent {
 /// Seconds and positions of one call, none of a sheet that is refused.
 type Run = (f64, Option<usize>);
 
-fn module(stream: &[u8], lent: &mut Lent) -> Run {
-    let start = Instant::now();
-    let answer = unsafe {
-        geopic_place(
-            stream.as_ptr(),
-            stream.len(),
-            lent.work.as_mut_ptr(),
-            lent.work.len(),
-            lent.positions.as_mut_ptr(),
-            lent.positions.len(),
-            lent.features.as_mut_ptr(),
-            lent.features.len(),
-            lent.warnings.as_mut_ptr(),
-            lent.warnings.len(),
-        )
+macro_rules! timed_call {
+    ($name:ident, $call:ident) => {
+        fn $name(stream: &[u8], lent: &mut Lent) -> Run {
+            let start = Instant::now();
+            let answer = unsafe {
+                $call(
+                    stream.as_ptr(),
+                    stream.len(),
+                    lent.work.as_mut_ptr(),
+                    lent.work.len(),
+                    lent.positions.as_mut_ptr(),
+                    lent.positions.len(),
+                    lent.features.as_mut_ptr(),
+                    lent.features.len(),
+                    lent.warnings.as_mut_ptr(),
+                    lent.warnings.len(),
+                )
+            };
+            let seconds = start.elapsed().as_secs_f64();
+            (seconds, (answer.number == 0).then_some(answer.positions))
+        }
     };
-    let seconds = start.elapsed().as_secs_f64();
-    (seconds, (answer.number == 0).then_some(answer.positions))
 }
+timed_call!(module, geopic_place);
+#[cfg(before)]
+timed_call!(module_before, geopic_place_before);
 
 macro_rules! rust {
     ($name:ident, $crate_name:ident) => {
@@ -515,8 +530,72 @@ fn one(name: &str) {
     }
 }
 
+/// Every row's stream, with how many points of work it is lent.
+#[cfg(before)]
+fn rows() -> Vec<(String, Vec<u8>, usize)> {
+    let mut rows: Vec<_> =
+        BY_POSITION.iter().map(|(name, doc)| (name.to_string(), doc().stream(), 8192)).collect();
+    let hidden = largest(&Item::new(LINE).flags(write::HIDDEN));
+    rows.push(("32 MiB of items that draw nothing".into(), hidden, 8192));
+    rows.push(("32 MiB of dots".into(), largest(&Item::new(DOT).at(3.0, 4.0)), 8192));
+    let mut growth = |name: &str, sizes: &[usize], doc: fn(usize) -> Doc| {
+        rows.extend(sizes.iter().map(|&n| (format!("{n} {name}"), doc(n).stream(), 2048)));
+    };
+    growth("items", &[1, 4, 16, 64, 1000, 4000, 16000, 64000], dots);
+    growth("host features", &[1000, 4000, 16000, 64000], features);
+    growth("variables", &[1000, 4000, 16000, 64000], variables);
+    growth("pairs of variables", &[1000, 4000, 16000], pairs);
+    growth("control points", &[1, 2, 4, 8, 16, 32, 64], controls);
+    for kind in NAMES {
+        for n in [500, 8000, 64000] {
+            rows.push((format!("{n} {}", kind.title), kind.doc(n).stream(), 2048));
+        }
+    }
+    rows
+}
+
+/// This build and the one before it in turns: the least time of each, and their ratio. A short call is made many times
+/// in a turn.
+#[cfg(before)]
+fn beside_before(rounds: usize) {
+    println!("{:50}{:>14}{:>14}{:>10}", "microseconds a sheet, the least", "now", "before", "ratio");
+    let mut worst: f64 = 0.0;
+    for (name, stream, work) in rows() {
+        let lent = &mut Lent::with_work(work);
+        let (once, _) = module(&stream, lent);
+        let times = (300e-6 / once).ceil().clamp(1.0, 1000.0) as usize;
+        let mut turn = |call: fn(&[u8], &mut Lent) -> Run| -> f64 {
+            (0..times).map(|_| black_box(call(&stream, lent)).0).sum::<f64>() / times as f64
+        };
+        let (mut now, mut before) = (f64::INFINITY, f64::INFINITY);
+        for k in 0..rounds {
+            // who goes first alternates
+            if k % 2 == 0 {
+                now = now.min(turn(module));
+                before = before.min(turn(module_before));
+            } else {
+                before = before.min(turn(module_before));
+                now = now.min(turn(module));
+            }
+        }
+        worst = worst.max(now / before);
+        println!("{name:50}{:14.2}{:14.2}{:10.3}", now * 1e6, before * 1e6, now / before);
+    }
+    println!("the largest ratio: {worst:.3}");
+}
+
 fn main() {
     let args: Vec<String> = std::env::args().skip(1).collect();
+    #[cfg(before)]
+    {
+        return beside_before(args.first().and_then(|n| n.parse().ok()).unwrap_or(20));
+    }
+    #[cfg(not(before))]
+    main_rows(args);
+}
+
+#[cfg_attr(before, allow(dead_code))]
+fn main_rows(args: Vec<String>) {
     if let [mode] = &args[..]
         && mode == "names"
     {

@@ -34,18 +34,20 @@ fn saturating_sub(a: usize, b: usize) -> usize
     if b < a { a - b } else { 0 }
 }
 
-// Up to `wanted` vertices, never fewer than the smaller of `wanted` and `floor`.
-pub fn take(b: Budget, wanted: usize, floor: usize) -> Taken
-    ensures { λ r. ⌜ r ≡ takeOf b wanted floor ⌝ }
-{
-    let left = b.left;
-    let n = lesser(wanted, greater(left, floor));
-    let after = Budget {
-        left: saturating_sub(left, n),
-        hit: b.hit || n < wanted,
-    };
-    Taken {
-        granted: n,
-        budget: after,
+impl Budget {
+    // Up to `wanted` vertices, never fewer than the smaller of `wanted` and `floor`.
+    pub fn take(self, wanted: usize, floor: usize) -> Taken
+        ensures { λ r. ⌜ r ≡ takeOf self wanted floor ⌝ }
+    {
+        let left = self.left;
+        let n = lesser(wanted, greater(left, floor));
+        let after = Budget {
+            left: saturating_sub(left, n),
+            hit: self.hit || n < wanted,
+        };
+        Taken {
+            granted: n,
+            budget: after,
+        }
     }
 }

@@ -6,7 +6,6 @@ ghost use Rattle.densify.specs.Densify.{withoutDraws, leafOf};
 ghost use Rattle.densify.specs.Contracts.Written.{closingIn, Written};
 ghost use Rattle.values.specs.Contracts.Points.{pointIn};
 use budget::Budget;
-use budget::take;
 
 // Where the next point goes, what is left of the budget, and whether everything had room.
 pub struct PointCursor {
@@ -26,7 +25,7 @@ pub fn leaf(flat: bool, p: [f64; 2], budget: Budget, work: &mut [f64], at: usize
         left: left,
         hit: budget.hit || cut,
     };
-    let t = take(marked, 1, 1);
+    let t = marked.take(1, 1);
     let after = t.budget;
     if work.len() - at < 2 {
         return PointCursor {

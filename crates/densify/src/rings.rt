@@ -10,7 +10,6 @@ use crate::append::PointCursor;
 use crate::append::close_ring;
 use crate::append::put_point;
 use budget::Budget;
-use budget::take;
 use elementary::sin_cos;
 use elementary::to_radians;
 use float::max;
@@ -65,7 +64,7 @@ pub fn ellipse_ring(
     requires { ⌜ at ≤ length (now work) ⌝ }
     ensures { λ r. ⌜ Written (now (work .entry)) (now (work .exit)) at (ellipseRingOf step scale tol (pointIn c) rx ry budget) r ⌝ }
 {
-    let t = take(budget, arc_vertices(step, scale, max(rx, ry), tol), 8);
+    let t = budget.take(arc_vertices(step, scale, max(rx, ry), tol), 8);
     let n = t.granted;
     let after = t.budget;
     let d = ellipse_points(c, rx, ry, n, after, work, at);
@@ -203,7 +202,7 @@ pub fn box_ring(
     let hh = h / 2.0;
     let r = min(min(max(rad, 0.0), hw), hh);
     if r <= 0.0 {
-        let t = take(budget, 4, 4);
+        let t = budget.take(4, 4);
         let after = t.budget;
         let d = sharp_corners(c, hw, hh, after, work, at);
         if !d.ok {
@@ -212,7 +211,7 @@ pub fn box_ring(
         let end = d.at;
         return close_ring(after, work, at, end);
     }
-    let t = take(budget, quarter_of(step, scale, r, tol) * 4, 8);
+    let t = budget.take(quarter_of(step, scale, r, tol) * 4, 8);
     let after = t.budget;
     let d = rounded_corners(c, hw, hh, r, t.granted / 4, after, work, at);
     if !d.ok {

@@ -9,7 +9,6 @@ use crate::counts::segment_parts;
 use crate::append::PointCursor;
 use crate::append::put_point;
 use budget::Budget;
-use budget::take;
 use elementary::hypot;
 
 // How many vertices a segment wants: one for each of its parts.
@@ -95,7 +94,7 @@ pub fn densify_polyline(
         let bx = work[i];
         let by = work[i + 1];
         let want = segment_want(step, scale, [ax, ay], [bx, by]);
-        let taken = take(left, want, 1);
+        let taken = left.take(want, 1);
         left = taken.budget;
         let d = sample_segment([ax, ay], [bx, by], taken.granted, left, out, next);
         if !d.ok {
@@ -136,7 +135,7 @@ pub fn spend_polyline(
         let bx = work[i];
         let by = work[i + 1];
         let want = segment_want(step, scale, [ax, ay], [bx, by]);
-        let taken = take(left, want, 1);
+        let taken = left.take(want, 1);
         left = taken.budget;
         ax = bx;
         ay = by;

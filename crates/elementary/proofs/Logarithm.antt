@@ -1,4 +1,4 @@
--- What `split` gives is the m and the e of the logarithm's definition. Assumes nothing.
+-- What `decompose` gives is the m and the e of the logarithm's definition. Assumes nothing.
 use mathlib.Core.Path.{_≡_, refl, sym, ap, _∙_, subst}
 use mathlib.Core.Bool.{Bool, true, false, not, _||_, Bool·beq, true≢false}
 use Prim.Native.Nat.{ℕ, zero, suc, _+_, _-_, _*_, _/_, _%_, _^_, _≤_, _<_}
@@ -141,9 +141,9 @@ exponent-is : (e : ℕ) → e ≤ 3121 → sub binary64 (ofInt binary64 (pos e))
 exponent-is e h = ap (sub binary64 (ofInt binary64 (pos e))) offset ∙ whole-sub (ofInt binary64 (pos e)) (ofInt binary64 (pos 2098)) e 2098 (whole e (le-trans h (lit≤ tt))) (whole 2098 (lit≤ tt))
 
 -- ---- the whole
-pub ln-split : (v : Float) (m e : ℕ) → T (positive v) → T (fits binary64 v) → Decomposition (toBits binary64 v) m e
+pub ln-decomposed : (v : Float) (m e : ℕ) → T (positive v) → T (fits binary64 v) → Decomposition (toBits binary64 v) m e
     → lnAt (ofBits binary64 (m + 4602678819172646912)) (sub binary64 (ofInt binary64 (pos e)) (ofBits binary64 4656831965863870464)) ≡ lnOf v
-ln-split v m e p f s =
+ln-decomposed v m e p f s =
     let b = toBits binary64 v in
     let n = unitsAt (b / 2 ^ 52) (b % 2 ^ 52) in
     let r = positive-bits v p f in

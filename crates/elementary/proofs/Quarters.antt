@@ -1,4 +1,4 @@
--- Which of the four stands at a quadrant. Assumes nothing.
+-- Which of the four values stands at a quadrant. Assumes nothing.
 use mathlib.Core.Path.{_≡_, _∙_}
 use mathlib.Core.Bool.{true, false}
 use lib.Ieee.{Float, eq}

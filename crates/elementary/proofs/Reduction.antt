@@ -1,4 +1,4 @@
--- Of a quadrant q and what is left in it, u, the sine and the cosine of t. Assumes nothing.
+-- The sine and the cosine of t, from its quadrant q and the angle u that is left in it. Assumes nothing.
 use mathlib.Core.Path.{_≡_, ap, _∙_}
 use mathlib.Core.Bool.{true, false}
 use lib.Ieee.{Float, lt, neg}

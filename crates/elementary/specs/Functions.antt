@@ -8,7 +8,7 @@ use Rattle.root.specs.Root.{rootOf}
 use Rattle.elementary.specs.Constants as K
 use Rattle.elementary.specs.Series.{seriesOf, evenOf, oddOf, sineTable, cosineTable, logarithmTable, exponentialTable, arctangentTable}
 
--- v held to lo .. hi
+-- v, or lo where v is below lo, or hi where v is above hi
 unfoldable pub clampOf : Float → Float → Float → Float
 clampOf lo hi v = pick (lt v lo) lo (pick (lt hi v) hi v)
 
@@ -21,7 +21,7 @@ toDegreesOf x = mul binary64 x (div binary64 K.c180 K.pi)
 unfoldable pub hypotOf : Float → Float → Float
 hypotOf x y = rootOf (add binary64 (mul binary64 x x) (mul binary64 y y))
 
--- ---- sine, cosine and tangent: r = |t| % 2π, q = the whole part of r / FRAC_PI_2, at most 3, and u = r - q * FRAC_PI_2
+-- ---- sine, cosine and tangent: r = |t| % 2π, q the whole part of r / FRAC_PI_2, at most 3, u = r - q * FRAC_PI_2
 unfoldable pub remTauOf : Float → Float
 remTauOf t = rem binary64 (absOf t) K.tau
 
@@ -63,8 +63,9 @@ lnAt m e =
     let s = div binary64 (sub binary64 m K.one) (add binary64 m K.one) in
     add binary64 (mul binary64 e K.ln2) (mul binary64 K.two (oddOf logarithmTable s))
 
--- A finite value above zero is n of the format's smallest values, 2 ^ -1074. With 2 ^ k ≤ n < 2 ^ (k + 1), m is n / 2 ^ k and e is k - 1074.
--- Document 01 leaves the rest free: -infinity at both zeros, NaN below them, and +infinity at +infinity, as in Rust's library.
+-- A finite value above zero is n of the format's smallest values, 2 ^ -1074. With 2 ^ k ≤ n < 2 ^ (k + 1), m is n / 2 ^
+-- k and e is k - 1074. Document 01 leaves the rest free: -infinity at both zeros, NaN below them, and +infinity at
+-- +infinity, as in Rust's library.
 unfoldable pub lnOf : Float → Float
 unfolding lnAt
 lnOf nan = nan
@@ -85,7 +86,7 @@ twoTo (inf s) = nan
 twoTo (fin true m e) = fin false 1 (negℤ (pos (m * up e / down e)))
 twoTo (fin false m e) = fin false 1 (pos (m * up e / down e))
 
--- v is held already, and k is the whole number nearest to v / LN_2
+-- v is clamped already, and k is the whole number nearest to v / LN_2
 unfoldable pub expAt : Float → Float → Float
 unfolding twoTo
 expAt v k = mul binary64 (seriesOf exponentialTable (sub binary64 v (mul binary64 k K.ln2))) (twoTo k)
@@ -101,12 +102,12 @@ expOf v =
 unfoldable pub halfAngleOf : Float → Float
 halfAngleOf v = div binary64 v (add binary64 K.one (rootOf (add binary64 K.one (mul binary64 v v))))
 
--- from 0 to 1
+-- the arc tangent of a v from 0 to 1
 unfoldable pub atanSmall : Float → Float
 unfolding clampOf halfAngleOf
 atanSmall v = clampOf K.zero K.fracPi2 (mul binary64 K.four (oddOf arctangentTable (halfAngleOf (halfAngleOf v))))
 
--- from 0 on
+-- the arc tangent of a v from 0 on
 unfoldable pub atanNonneg : Float → Float
 unfolding atanSmall clampOf
 atanNonneg v = pick (lt K.one v) (clampOf K.zero K.fracPi2 (sub binary64 K.fracPi2 (atanSmall (div binary64 K.one v)))) (atanSmall v)
@@ -116,12 +117,13 @@ unfoldable pub atanOf : Float → Float
 unfolding atanNonneg
 atanOf v = pick (lt v K.zero) (neg (atanNonneg (neg v))) (atanNonneg v)
 
--- the angle between the line to (|x|, |y|) and the x axis. Two zeros, which document 01 leaves free, give FRAC_PI_2, as any y does where x = 0.
+-- the angle between the line to (|x|, |y|) and the x axis. Two zeros, which document 01 leaves free, give FRAC_PI_2, as
+-- any y does where x = 0.
 unfoldable pub angleOf : Float → Float → Float
 unfolding atanOf
 angleOf y x = pick (eq x K.zero) K.fracPi2 (atanOf (div binary64 (absOf y) (absOf x)))
 
--- on the side where x lies
+-- that angle, or what it lacks to a half turn where x is below 0
 unfoldable pub halfPlaneOf : Float → Float → Float
 unfolding angleOf
 halfPlaneOf y x = let a = angleOf y x in pick (lt x K.zero) (sub binary64 K.pi a) a

@@ -1,4 +1,5 @@
--- Series by Horner, and the tables of their coefficients, each one quotient rounded once. A table's rule gives the term at k, and the table runs from the highest k down to 0.
+-- Series by Horner, and the tables of their coefficients, each one quotient rounded once. A table's rule gives the term
+-- at k, and the table runs from the highest k down to 0.
 use mathlib.Core.Bool.{Bool, false}
 use mathlib.Core.List.{List, [], _∷_}
 use Prim.Native.Nat.{ℕ, zero, suc, _+_, _*_, _%_}
@@ -13,12 +14,12 @@ unfolding horner
 seriesOf [] v = fin false 0 (pos 0)
 seriesOf (c ∷ cs) v = horner c cs v
 
--- in the square
+-- a series in the square of its variable
 unfoldable pub evenOf : List Float → Float → Float
 unfolding seriesOf
 evenOf cs v = seriesOf cs (mul binary64 v v)
 
--- in the square, the variable multiplied last
+-- a series in the square of its variable, the variable multiplied last
 unfoldable pub oddOf : List Float → Float → Float
 unfolding seriesOf
 oddOf cs v = mul binary64 (seriesOf cs (mul binary64 v v)) v

@@ -15,6 +15,28 @@ const TAU: f64 = 6.283185307179586;
 
 const LN_2: f64 = 0.6931471805599453;
 
+// PI / 180 and 180 / PI.
+const RADIANS_PER_DEGREE: f64 = 0.017453292519943295;
+
+const DEGREES_PER_RADIAN: f64 = 57.29577951308232;
+
+// The largest argument of the exponential, and with a minus sign the least: others are clamped to these.
+const EXP_LIMIT: f64 = 700.0;
+
+// The last digit of the exponent's field, in a pattern.
+const TWO_52: u64 = 0x0010_0000_0000_0000;
+
+// The pattern of 0.5. Added to a significand of 53 digits, whose leading one adds 1 to the exponent's field, it makes
+// the pattern of a value from 1 up to 2.
+const HALF: u64 = 0x3fe0_0000_0000_0000;
+
+// The exponent's field of 1.0.
+const BIAS: f64 = 1023.0;
+
+// The e that `float::decompose` gives for a value from 1 up to 2: m * 2^e is in units of 2^-2150, and
+// m from 2^52 up to 2^53.
+const EXPONENT_OF_ONE: f64 = 2098.0;
+
 // 1/21!, -1/19!, .., 1
 const SINE: [f64; 11] = [
     1.9572941063391263e-20,
@@ -156,7 +178,7 @@ fn arctangent_series(v: f64) -> f64
     series(&t, v * v) * v
 }
 
-// v held to lo .. hi.
+// v, or lo where v is below lo, or hi where v is above hi.
 fn clamp(lo: f64, hi: f64, v: f64) -> f64
     ensures { λ r. ⌜ r ≡ clampOf lo hi v ⌝ }
 {
@@ -169,13 +191,13 @@ fn clamp(lo: f64, hi: f64, v: f64) -> f64
 pub fn to_radians(x: f64) -> f64
     ensures { λ r. ⌜ r ≡ toRadiansOf x ⌝ }
 {
-    x * 0.017453292519943295
+    x * RADIANS_PER_DEGREE
 }
 
 pub fn to_degrees(x: f64) -> f64
     ensures { λ r. ⌜ r ≡ toDegreesOf x ⌝ }
 {
-    x * 57.29577951308232
+    x * DEGREES_PER_RADIAN
 }
 
 pub fn hypot(x: f64, y: f64) -> f64
@@ -184,19 +206,20 @@ pub fn hypot(x: f64, y: f64) -> f64
     root::root(x * x + y * y)
 }
 
-// A quadrant and what is left in it.
+// A quadrant, 0.0 to 3.0, and the angle that is left in it.
 struct Reduced {
     q: f64,
     u: f64,
 }
 
+// The quadrant of |t|, and the angle in it. A remainder just below TAU can have the quotient 4, so 3 is the most.
 fn reduce(t: f64) -> Reduced
     ensures { λ r. ⌜ (r .q ≡ quadrantOf (remTauOf t)) × (r .u ≡ restOf (remTauOf t)) ⌝ }
 {
     let r = float::abs(t) % TAU;
     let q = float::min(float::trunc(r / FRAC_PI_2), 3.0);
     Reduced {
-        q: q,
+        q,
         u: r - q * FRAC_PI_2,
     }
 }
@@ -251,7 +274,7 @@ pub struct SinCos {
     pub cos: f64,
 }
 
-// Both, by one reduction.
+// The sine and the cosine, by one reduction.
 pub fn sin_cos(t: f64) -> SinCos
     ensures { λ r. ⌜ (r .sin ≡ sinOf t) × (r .cos ≡ cosOf t) ⌝ }
 {
@@ -285,12 +308,12 @@ fn ln_positive(v: f64) -> f64
     ensures { λ r. ⌜ r ≡ lnOf v ⌝ }
 {
     let p = float::decompose(f64::to_bits(v));
-    let m = f64::from_bits(p.m + 4602678819172646912);
-    let e = (p.e as f64) - 2098.0;
+    let m = f64::from_bits(p.m + HALF);
+    let e = (p.e as f64) - EXPONENT_OF_ONE;
     ln_at(m, e)
 }
 
-// -infinity at both zeros, NaN below them.
+// The natural logarithm: -infinity at both zeros, NaN below them.
 pub fn ln(v: f64) -> f64
     ensures { λ r. ⌜ r ≡ lnOf v ⌝ }
 {
@@ -311,8 +334,8 @@ fn two_to(k: f64) -> f64
     requires { ⌜ Small k ⌝ }
     ensures { λ r. ⌜ r ≡ twoTo k ⌝ }
 {
-    let f = (k + 1023.0) as u64;
-    f64::from_bits(f * 4503599627370496)
+    let f = (k + BIAS) as u64;
+    f64::from_bits(f * TWO_52)
 }
 
 pub fn exp(v: f64) -> f64
@@ -321,19 +344,19 @@ pub fn exp(v: f64) -> f64
     if v != v {
         return v;
     }
-    let w = clamp(-700.0, 700.0, v);
+    let w = clamp(-EXP_LIMIT, EXP_LIMIT, v);
     let k = float::round(w / LN_2);
     exponential_series(w - k * LN_2) * two_to(k)
 }
 
-// The tangent of half the angle.
+// The tangent of half the angle whose tangent is v.
 fn half_angle(v: f64) -> f64
     ensures { λ r. ⌜ r ≡ halfAngleOf v ⌝ }
 {
     v / (1.0 + root::root(1.0 + v * v))
 }
 
-// Of the tangent of a quarter of the angle, the angle.
+// The angle from 0 to FRAC_PI_2 for w, the tangent of a quarter of it.
 fn quadruple(w: f64) -> f64
     ensures { λ r. ⌜ r ≡ quadrupled w ⌝ }
 {
@@ -356,7 +379,7 @@ fn atan_nonneg(v: f64) -> f64
     atan_small(v)
 }
 
-// Below 0, the opposite of the arc tangent of -v.
+// The arc tangent. Below 0 it is the opposite of the arc tangent of -v.
 pub fn atan(v: f64) -> f64
     ensures { λ r. ⌜ r ≡ atanOf v ⌝ }
 {
@@ -366,7 +389,8 @@ pub fn atan(v: f64) -> f64
     atan_nonneg(v)
 }
 
-// The arc tangent of an argument above 0 in three stages, so that a line of points goes through one after the other. Above 1 the first two hand on the opposite.
+// The arc tangent of an argument above 0 in three stages, so that a line of points goes through one after the other.
+// Above 1 the first two hand on the opposite.
 pub fn atan_first(v: f64) -> f64
     ensures { λ r. ⌜ r ≡ atanFirst v ⌝ }
 {

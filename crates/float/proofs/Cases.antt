@@ -105,7 +105,7 @@ finite-test (fin s m e) = ap (λ (v : Float). eq v (fin false 0 (pos 0))) (zero-
     zero true = refl
     zero false = refl
 
--- ---- same
+-- ---- same_value
 -- what compares equal is no NaN
 pub equal-numbers : (x y : Float) → eq x y ≡ true → T (not (isNan x)) × T (not (isNan y))
 unfolding eq isNan

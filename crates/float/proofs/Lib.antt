@@ -1,4 +1,4 @@
 -- What the functions' proofs share.
-pub mod Splitting
-pub mod Cutting
+pub mod Decomposing
+pub mod Fractions
 pub mod Cases

@@ -1,5 +1,5 @@
--- What each function answers, for every f64. A value is `nan`, an infinity, or `fin s m e`: the number m * 2 ^ e, negative where s is true.
--- m * 2 ^ e is the fraction m * up e / down e.
+-- What each function answers, for every f64. A value is `nan`, an infinity, or `fin s m e`: the number m * 2 ^ e,
+-- negative where s is true. m * 2 ^ e is the fraction m * up e / down e.
 use mathlib.Core.Bool.{Bool, true, false}
 use Prim.Native.Nat.{ℕ, _+_, _-_, _*_, _/_}
 use lib.Ieee.{Float, nan, inf, fin, binary64, up, down, round, isNan, add, rem, lt, ofBits}
@@ -22,7 +22,8 @@ maxOf x y = pick (isNan x) y (pick (lt x y) y x)
 unfoldable pub minOf : Float → Float → Float
 minOf x y = pick (isNan x) y (pick (lt y x) y x)
 
--- The whole number w with the sign s. `round` is exact there: w comes from a value of the format, so it has at most 53 digits before its zeros (`Laws.Whole`).
+-- The whole number w with the sign s. `round` is exact there: w comes from a value of the format, so it has at most 53
+-- digits before its zeros (`Laws.Whole`).
 abbrev pub wholeAt : Bool → ℕ → Float
 wholeAt s w = round binary64 s w 1
 
@@ -32,7 +33,8 @@ truncOf nan = nan
 truncOf (inf s) = inf s
 truncOf (fin s m e) = wholeAt s (m * up e / down e)
 
--- f64::ceil: the least whole number that is not below the argument; -0.0 for an argument from -1 up to -0.0, -1 left out
+-- f64::ceil: the least whole number that is not below the argument; -0.0 for an argument from -1 up to -0.0, -1 left
+-- out
 unfoldable pub ceilOf : Float → Float
 ceilOf nan = nan
 ceilOf (inf s) = inf s

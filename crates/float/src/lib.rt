@@ -13,6 +13,18 @@ pub use whole::ceil;
 pub use whole::round;
 pub use whole::trunc;
 
+// A finite pattern above zero is field * 2^52 + digits, with 52 digits after the point.
+const TWO_52: u64 = 0x0010_0000_0000_0000;
+
+// The leading zeros of a u64 of 53 digits.
+const ZEROS_AT_53: u32 = 11;
+
+// The exponents in units of 2^-2150: the format's smallest value is 2^-1074, and the last digit at the field f is worth
+// 2^(f - 1075).
+const SMALLEST: u64 = 1076;
+
+const FIELD_ZERO: u64 = 1075;
+
 // The size of a value. 0.0 - x gives +0.0 for either zero.
 pub fn abs(x: f64) -> f64
     ensures { λ r. ⌜ r ≡ absOf x ⌝ }
@@ -65,7 +77,7 @@ pub fn rem_euclid_360(x: f64) -> f64
     if r < 0.0 { r + 360.0 } else { r }
 }
 
-// m * 2^e
+// The number m * 2^e.
 pub struct Decomposed {
     pub m: u64,
     pub e: u64,
@@ -76,17 +88,17 @@ pub fn decompose(b: u64) -> Decomposed
     requires { ⌜ (0 < b) × (b < 2047 * 2 ^ 52) ⌝ }
     ensures { λ r. ⌜ Decomposition b (r .m) (r .e) ⌝ }
 {
-    let f = b / 4503599627370496;
-    let t = b % 4503599627370496;
+    let f = b / TWO_52;
+    let t = b % TWO_52;
     if f == 0 {
-        let z = (u64::leading_zeros(t) - 11) as u64;
+        let z = (u64::leading_zeros(t) - ZEROS_AT_53) as u64;
         return Decomposed {
             m: t << z,
-            e: 1076 - z,
+            e: SMALLEST - z,
         };
     }
     Decomposed {
-        m: 4503599627370496 + t,
-        e: 1075 + f,
+        m: TWO_52 + t,
+        e: FIELD_ZERO + f,
     }
 }

@@ -4,15 +4,33 @@ ghost use Prim.Native.Nat.{_+_, _*_, _<_, _%_, _/_};
 ghost use Rattle.float.specs.Functions.{wholeAt, truncOf, ceilOf, roundOf};
 ghost use Rattle.float.specs.Contracts.Fraction.{HasFraction, IsUnit, unitOf, signOf, digitsOf};
 
+// A pattern is its sign, 0 or SIGN, plus field * 2^52 + digits, with 52 digits after the point.
+const TWO_52: u64 = 0x0010_0000_0000_0000;
+
+const SIGN: u64 = 0x8000_0000_0000_0000;
+
+// How many values the exponent's field has.
+const FIELDS: u64 = 2048;
+
+// The field of the values from 0.5 up to 1, from 1 up to 2, and from 2^52 on, which are all whole numbers.
+const FIELD_HALF: u64 = 1022;
+
+const FIELD_ONE: u64 = 1023;
+
+const FIELD_WHOLE: u64 = 1075;
+
+// The pattern of 1.0.
+const ONE: u64 = 0x3ff0_0000_0000_0000;
+
 // What one weighs among the digits of the pattern b, some of which are behind the point.
 fn unit(b: u64) -> u64
     requires { ⌜ HasFraction b ⌝ }
     ensures { λ r. ⌜ IsUnit b r ⌝ }
 {
-    1 << (1075 - b / 4503599627370496 % 2048)
+    1 << (FIELD_WHOLE - b / TWO_52 % FIELDS)
 }
 
-// What `round` adds before it cuts. Half of one takes halves away from zero.
+// What `round` adds before it clears the fraction: half of what one weighs, so that halves go away from zero.
 fn half(b: u64) -> u64
     requires { ⌜ HasFraction b ⌝ }
     ensures { λ r. ⌜ r ≡ unitOf b / 2 ⌝ }
@@ -21,8 +39,8 @@ fn half(b: u64) -> u64
     u / 2
 }
 
-// The pattern's value with h added to its digits, and without those behind the point. What the sum carries into the exponent's
-// field is right there.
+// The pattern's value with h added to its digits, and without those behind the point. What the sum carries into the
+// exponent's field is right there.
 fn clear_fraction(b: u64, h: u64) -> f64
     requires { ⌜ HasFraction b × (h < unitOf b) ⌝ }
     ensures { λ r. ⌜ r ≡ wholeAt (signOf b) ((digitsOf b + h) / unitOf b) ⌝ }
@@ -40,12 +58,12 @@ pub fn trunc(x: f64) -> f64
         return x;
     }
     let b = f64::to_bits(x);
-    let f = b / 4503599627370496 % 2048;
-    if f >= 1075 {
+    let f = b / TWO_52 % FIELDS;
+    if f >= FIELD_WHOLE {
         return x;
     }
-    if f < 1023 {
-        return f64::from_bits(b / 9223372036854775808 * 9223372036854775808);
+    if f < FIELD_ONE {
+        return f64::from_bits(b / SIGN * SIGN);
     }
     clear_fraction(b, 0)
 }
@@ -56,11 +74,11 @@ pub fn ceil(x: f64) -> f64
 {
     if 0.0 < x {
         let b = f64::to_bits(x);
-        let f = b / 4503599627370496 % 2048;
-        if f >= 1075 {
+        let f = b / TWO_52 % FIELDS;
+        if f >= FIELD_WHOLE {
             return x;
         }
-        if f < 1023 {
+        if f < FIELD_ONE {
             return 1.0;
         }
         let u = unit(b);
@@ -77,16 +95,16 @@ pub fn round(x: f64) -> f64
         return x;
     }
     let b = f64::to_bits(x);
-    let f = b / 4503599627370496 % 2048;
-    if f >= 1075 {
+    let f = b / TWO_52 % FIELDS;
+    if f >= FIELD_WHOLE {
         return x;
     }
-    let s = b / 9223372036854775808 * 9223372036854775808;
-    if f < 1022 {
+    let s = b / SIGN * SIGN;
+    if f < FIELD_HALF {
         return f64::from_bits(s);
     }
-    if f == 1022 {
-        return f64::from_bits(s + 4607182418800017408);
+    if f == FIELD_HALF {
+        return f64::from_bits(s + ONE);
     }
     clear_fraction(b, half(b))
 }

@@ -41,13 +41,14 @@ pub fn normalize_lon(lon: f64) -> f64
     l
 }
 
+// The position on the plane of a position on the sphere.
 pub fn mercator_forward(p: LonLat) -> Metres
     ensures { λ r. ⌜ r ≡ mercatorForwardOf p ⌝ }
 {
     let x = MERCATOR_RADIUS * to_radians(p.lon);
     let phi = to_radians(p.lat);
     let y = MERCATOR_RADIUS * ln(tan(FRAC_PI_4 + phi / 2.0));
-    Metres { x: x, y: y }
+    Metres { x, y }
 }
 
 // The longitude of an abscissa.
@@ -57,20 +58,21 @@ pub fn longitude(x: f64) -> f64
     normalize_lon(to_degrees(x / MERCATOR_RADIUS))
 }
 
-// The exponential of an ordinate, over the radius.
+// The exponential of an ordinate over the radius.
 pub fn exp_ordinate(y: f64) -> f64
     ensures { λ r. ⌜ r ≡ expOrdinateOf y ⌝ }
 {
     exp(y / MERCATOR_RADIUS)
 }
 
-// The latitude of that exponential's arc tangent.
+// The latitude for a, the arc tangent of what `exp_ordinate` gives.
 pub fn latitude(a: f64) -> f64
     ensures { λ r. ⌜ r ≡ latitudeOf a ⌝ }
 {
     to_degrees(2.0 * a - FRAC_PI_2)
 }
 
+// The position on the sphere of a position on the plane.
 pub fn mercator_inverse(m: Metres) -> LonLat
     ensures { λ r. ⌜ r ≡ mercatorInverseOf m ⌝ }
 {

@@ -10,17 +10,17 @@ use Rattle.root.specs.Laws.Whole.{IsRoot, sq-le-root, sq-lt-back}
 use Rattle.root.specs.Contracts.Blocks.{IsRemainder, Guess, BlockInput}
 
 -- ---- the root is `top`, or one less where `have` is below `need`
-pub record Settled (top have need over root : ℕ) : Type 0 where
+pub record Corrected (top have need over root : ℕ) : Type 0 where
   pub over-le : over ≤ top
   pub more-le : over * (2 * root + 1) ≤ 2 * top
   pub need-le : need ≤ have + over * (2 * root + 1)
   pub same : root * root + (have + over * (2 * root + 1) - need) + need ≡ top * top + have
   pub little : have + over * (2 * root + 1) - need ≤ 2 * root
 
-pub settled : (top have need : ℕ) → have ≤ need + 2 * top → need < have + 2 * top → Settled top have need (boolByte (ltb have need)) (top - boolByte (ltb have need))
-settled top have need = go (ltb have need) top (ltb→lt have need) (nltb→le have need)
+pub corrected : (top have need : ℕ) → have ≤ need + 2 * top → need < have + 2 * top → Corrected top have need (boolByte (ltb have need)) (top - boolByte (ltb have need))
+corrected top have need = go (ltb have need) top (ltb→lt have need) (nltb→le have need)
   where
-    go : (b : Bool) (top : ℕ) → (T b → have < need) → (T (not b) → need ≤ have) → have ≤ need + 2 * top → need < have + 2 * top → Settled top have need (boolByte b) (top - boolByte b)
+    go : (b : Bool) (top : ℕ) → (T b → have < need) → (T (not b) → need ≤ have) → have ≤ need + 2 * top → need < have + 2 * top → Corrected top have need (boolByte b) (top - boolByte b)
     go true zero f g h k = absurd (omega (arith, f tt))
     go true (suc r) f g h k =
         let l = f tt in
@@ -90,7 +90,7 @@ module _ {a rem b d : ℕ} (R : BlockInput a rem b d) where
       go : (q e h l : ℕ) → q * (2 * a) + e ≡ rem * b + h → h * b + l ≡ d → (a * a + rem) * (b * b) + d + q * q ≡ (a * b + q) * (a * b + q) + (e * b + l)
       go q e h l f g = omega (arith, ap (λ (x : ℕ). x * b) f)
 
-  -- so all that the code works out fits 64 bits
+  -- all that the code works out fits 64 bits
   pub sizes : (t < 2 ^ 56) × (a * b ≤ 2 ^ 54) × (a * b + q < 2 ^ 57)
   sizes =
       let ab : a * b ≤ 2 ^ 54 = mul-le-mul (le-of-lt (R .root-lt)) (R .b-le) in
@@ -98,7 +98,7 @@ module _ {a rem b d : ℕ} (R : BlockInput a rem b d) where
       omega (arith, high-lt, R .b-le, div-le-self t (2 * a))
 
 -- ---- from block to block
--- the same number, written otherwise
+-- a number that equals n, written otherwise
 pub renamed : {n k r e : ℕ} → n ≡ k → IsRemainder n r e → IsRemainder k r e
 renamed p v = record { is = sym p ∙ v .is; little = v .little }
 

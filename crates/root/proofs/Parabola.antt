@@ -1,4 +1,5 @@
--- The parabola of `guess`: not above the root of n, and near it. It goes by x, the first 9 of the 28 digits of n: one computed test of its 384 values proves it. Assumes nothing.
+-- The parabola of `guess`: not above the root of n, and near it. It goes by x, the first 9 of the 28 digits of n: one
+-- computed test of its 384 values proves it. Assumes nothing.
 use mathlib.Core.Bool.{Bool, _&&_}
 use Prim.Native.Nat.{ℕ, _+_, _-_, _*_, _/_, _^_, _≤_, _<_}
 use native.Mathlib.Nat.{le-trans, mul-le-mul}

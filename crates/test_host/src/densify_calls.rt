@@ -14,7 +14,6 @@ ghost use Rattle.densify.specs.Contracts.Written.{drawnBy, onPoints};
 ghost use Rattle.values.specs.Contracts.Points.{pointsIn};
 ghost use Rattle.test_host.specs.Contracts.Drawings.{fresh, Shown, pathFits, undrawn};
 use budget::Budget;
-use budget::take;
 use densify::PointCursor;
 use densify::arc_vertices;
 use densify::box_ring;
@@ -212,7 +211,7 @@ pub extern "C" fn densify_draw(left: usize, hit: bool, want: usize, floor: usize
         left: left,
         hit: hit,
     };
-    let t = take(b, want, floor);
+    let t = b.take(want, floor);
     let after = t.budget;
     Grant {
         granted: t.granted,

@@ -33,7 +33,8 @@ unfolding granted leftAfter overrun
 exact left [] = omega arith
 exact left (d ∷ ds) = let g = grantOf left (d .want) (d .floor) in omega (arith, exact (left - g) ds)
 
--- Sharper than the claim: what stays left is counted too. A draw with enough left takes from it, and any other leaves nothing.
+-- Sharper than the claim: what stays left is counted too. A draw with enough left takes from it, and any other leaves
+-- nothing.
 bounded : (left : ℕ) (ds : List Draw) → granted left ds ≤ left + shortFloors left ds
 unfolding granted shortFloors
 bounded left [] = omega arith

@@ -3,7 +3,7 @@ use mathlib.Core.Path.{sym, subst, _∙_}
 use lib.Dec.{T}
 use lib.Ieee.{binary64, fits}
 use Rattle.float.specs.Laws.Units.{positive-bits}
-use Rattle.elementary.proofs.Logarithm.{positive-number, pattern-no-nan, exponent-fits, ln-split}
+use Rattle.elementary.proofs.Logarithm.{positive-number, pattern-no-nan, exponent-fits, ln-decomposed}
 use Rattle.elementary.proofs.ln_positive.Statement.{statement}
 use Rattle.elementary.proofs.ln_positive.Tie as tie
 
@@ -32,7 +32,7 @@ ln-at-requires c κs = search needs
 returns : tie.Need-returns
 returns c =
     let s = c .before .before .before in
-    c .ln-at .ensures ∙ ln-split (s .before .args .v) (s .decompose .result .m) (s .decompose .result .e) (s .before .pre) (held (s .before)) (s .decompose .ensures)
+    c .ln-at .ensures ∙ ln-decomposed (s .before .args .v) (s .decompose .result .m) (s .decompose .result .e) (s .before .pre) (held (s .before)) (s .decompose .ensures)
 
 pub ln-positive-spec : {M : Type 1} → statement M
 ln-positive-spec =

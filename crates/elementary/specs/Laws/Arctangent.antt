@@ -1,4 +1,5 @@
--- The arc tangent of a number from 0 on, an infinity too, lies from 0 to FRAC_PI_2, and for one from 1/64 to 64 it stays 1/128 away from both. Assumes nothing.
+-- The arc tangent of a number from 0 on, an infinity too, lies from 0 to FRAC_PI_2, and for one from 1/64 to 64 it
+-- stays 1/128 away from both. Assumes nothing.
 use mathlib.Core.Path.{_≡_, refl, subst}
 use mathlib.Core.Bool.{Bool, true, false, not}
 use mathlib.Core.List.{[], _∷_}
@@ -23,7 +24,7 @@ use Rattle.elementary.specs.Constants as K
 use Rattle.elementary.specs.Series.{oddOf, arctangentTable}
 use Rattle.elementary.specs.Functions.{clampOf, halfAngleOf, atanSmall, atanNonneg, atanOf}
 use Rattle.elementary.specs.Laws.Codes.{encloses, enclosed, odd-code, odd-is}
-use Rattle.elementary.specs.Laws.Clamp.{held-keeps}
+use Rattle.elementary.specs.Laws.Clamp.{clamp-keeps}
 use Rattle.elementary.specs.Laws.Powers.{power}
 use Rattle.elementary.specs.Laws.Exponential.{c1/64, c64}
 
@@ -111,7 +112,7 @@ module _ (a lo hi : Float) (t : Ends a lo hi) where
       let w = halfAngleOf h in
       let r = rootOf (add binary64 K.one (mul binary64 v v)) in
       let q = rootOf (add binary64 K.one (mul binary64 h h)) in
-      held-keeps K.zero K.fracPi2 lo K.one (mul binary64 K.four (oddOf arctangentTable w)) (t .least) unit-end
+      clamp-keeps K.zero K.fracPi2 lo K.one (mul binary64 K.four (oddOf arctangentTable w)) (t .least) unit-end
       (subst (λ (z : Float). Between lo K.one (mul binary64 K.four z)) (odd-is arctangentTable w (v ∷ r ∷ q ∷ []))
       (enclosed at-code (iv a K.one ∷ roots ∷ roots ∷ []) (v ∷ r ∷ q ∷ []) lo K.one (t .unit) (i, (root-in v j, (root-in h (halved-in v j), tt)))))
 
@@ -125,7 +126,7 @@ module _ (a lo hi : Float) (t : Ends a lo hi) where
       go : (b : Bool) → (T (not b) → Between a K.one v) → (T b → Between a K.one (div binary64 K.one v)) → Between lo hi (pick b turned (atanSmall v))
       go true f g =
           let z = atanSmall (div binary64 K.one v) in
-          held-keeps K.zero K.fracPi2 lo hi (sub binary64 K.fracPi2 z) (t .least) (t .within) (enclosed rest-code (iv lo K.one ∷ []) (z ∷ []) lo hi (t .rest) (at-in (div binary64 K.one v) (g tt), tt))
+          clamp-keeps K.zero K.fracPi2 lo hi (sub binary64 K.fracPi2 z) (t .least) (t .within) (enclosed rest-code (iv lo K.one ∷ []) (z ∷ []) lo hi (t .rest) (at-in (div binary64 K.one v) (g tt), tt))
       go false f g =
           let i = at-in v (f tt) in
           record { low = i .low; high = le-trans (atanSmall v) K.one hi (i .high) (t .most); fl = i .fl; fh = t .is-finite }

@@ -1,4 +1,4 @@
--- A number that is held to lo .. hi lies there, and stays within what it lay in. Assumes nothing.
+-- A number that is clamped to lo .. hi lies there, and stays within what it lay in. Assumes nothing.
 use mathlib.Core.Bool.{Bool, true, false, not}
 use lib.Dec.{T}
 use lib.Ieee.{Float, lt, le, isNan}
@@ -9,9 +9,9 @@ use Rattle.float.specs.Laws.Intervals.{Between}
 use Rattle.float.specs.Laws.Order.{le-trans, le-refl}
 use Rattle.elementary.specs.Functions.{clampOf}
 
-pub held-in : (lo hi v : Float) → T (finite lo) → T (finite hi) → T (le lo hi) → T (not (isNan v)) → Between lo hi (clampOf lo hi v)
+pub clamp-in : (lo hi v : Float) → T (finite lo) → T (finite hi) → T (le lo hi) → T (not (isNan v)) → Between lo hi (clampOf lo hi v)
 unfolding clampOf
-held-in lo hi v p q h n = go (lt v lo) (lt hi v) (neither lo hi v p q n)
+clamp-in lo hi v p q h n = go (lt v lo) (lt hi v) (neither lo hi v p q n)
   where
     go : (a b : Bool) → (T (not a) → T (not b) → Between lo hi v) → Between lo hi (pick a lo (pick b hi v))
     go true b f = record { low = le-refl lo p; high = h; fl = p; fh = q }
@@ -19,9 +19,9 @@ held-in lo hi v p q h n = go (lt v lo) (lt hi v) (neither lo hi v p q n)
     go false false f = f tt tt
 
 -- between a and b, which lie between lo and hi
-pub held-keeps : (lo hi a b v : Float) → T (le lo a) → T (le b hi) → Between a b v → Between a b (clampOf lo hi v)
+pub clamp-keeps : (lo hi a b v : Float) → T (le lo a) → T (le b hi) → Between a b v → Between a b (clampOf lo hi v)
 unfolding clampOf
-held-keeps lo hi a b v h k i = go (lt v lo) (lt hi v) (lt→le v lo) (lt→le hi v)
+clamp-keeps lo hi a b v h k i = go (lt v lo) (lt hi v) (lt→le v lo) (lt→le hi v)
   where
     ends : T (le a b)
     ends = le-trans a v b (i .low) (i .high)

@@ -1,4 +1,5 @@
--- Straight-line code on intervals: one computed test for any code, and the series, whatever the table's length, as such code. Assumes nothing.
+-- Straight-line code on intervals: one computed test for any code, and the series, whatever the table's length, as such
+-- code. Assumes nothing.
 use mathlib.Core.Path.{_≡_, refl}
 use mathlib.Core.Bool.{Bool, false, _&&_}
 use mathlib.Core.List.{List, [], _∷_}

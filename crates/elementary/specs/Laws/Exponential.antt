@@ -1,4 +1,5 @@
--- The exponential of every number is finite and above zero: from 2 ^ -1011 to 2 ^ 1011, and from 1/64 to 64 between -3.25 and 3.25. Assumes nothing.
+-- The exponential of every number is finite and above zero: from 2 ^ -1011 to 2 ^ 1011, and from 1/64 to 64 between
+-- -3.25 and 3.25. Assumes nothing.
 use mathlib.Core.Path.{_≡_, refl, sym, ap, subst}
 use mathlib.Core.Logic.{inl, inr}
 use mathlib.Core.List.{[], _∷_}
@@ -20,13 +21,13 @@ use Rattle.float.specs.Laws.Order.{le-trans, le-total, div-up}
 use Rattle.float.specs.Laws.Expressions.{Expr, var, lit, less, times, over, fits-in}
 use Rattle.float.specs.Laws.Quick.{qadd, qsub, qmul}
 use Rattle.float.specs.Laws.Every.{every, every-at, split-at}
-use Rattle.float.specs.Laws.Whole.{round-cuts, whole-value}
+use Rattle.float.specs.Laws.Whole.{round-by-rule, whole-value}
 use Rattle.elementary.specs.Constants as K
 use Rattle.elementary.specs.Series.{seriesOf, exponentialTable}
 use Rattle.elementary.specs.Functions.{clampOf, twoTo, expAt, expOf}
 use Rattle.elementary.specs.Contracts.Powers.{Small}
 use Rattle.elementary.specs.Laws.Codes.{encloses, enclosed, plain-code, plain-range}
-use Rattle.elementary.specs.Laws.Clamp.{held-in, held-keeps}
+use Rattle.elementary.specs.Laws.Clamp.{clamp-in, clamp-keeps}
 use Rattle.elementary.specs.Laws.Powers.{power, two-to-in}
 
 -- ---- the whole number nearest to y, and where y lies then
@@ -77,7 +78,7 @@ rounded a d most D h =
     let E : 0 < 2 * d = mul-pos (zero-lt-suc 1) D in
     record { from = div-mul-le-self (2 * a + d) (2 * d); to = lt-div-mul-add E; few = le-of-suc-le-suc (div-lt-iff-lt-mul E .1 (omega arith)) }
 
--- the same of a value, with its sign
+-- the whole number nearest to a value, with its sign
 record Nearest (most : ℕ) (y : Float) : Type 0 where
   minus : Bool
   size : ℕ
@@ -99,7 +100,7 @@ nearest most (fin false m e) f i =
     record {
       minus = false;
       size = n;
-      whole = whole-value round-cuts false m e f;
+      whole = whole-value round-by-rule false m e f;
       few = r .few;
       low = halves-below (2 * n) 1 (fin false m e) tt (let h = r .from in omega arith);
       high = halves-above (2 * n + 1) 0 (fin false m e) tt (let h = r .to in omega arith);
@@ -110,20 +111,20 @@ nearest most (fin true m e) f i =
     record {
       minus = true;
       size = n;
-      whole = whole-value round-cuts true m e f;
+      whole = whole-value round-by-rule true m e f;
       few = r .few;
       low = halves-below 0 (2 * n + 1) (fin true m e) tt (let h = r .to in omega arith);
       high = halves-above 1 (2 * n) (fin true m e) tt (let h = r .from in omega arith);
     }
 
--- ---- what is held, over LN_2
+-- ---- the clamped argument, over LN_2
 ends : T (le K.m700 K.c700)
 unfolding ofBits neg le
 ends = tt
 
-held-700 : (v : Float) → T (not (isNan v)) → Between K.m700 K.c700 (clampOf K.m700 K.c700 v)
+clamp-700 : (v : Float) → T (not (isNan v)) → Between K.m700 K.c700 (clampOf K.m700 K.c700 v)
 unfolding ofBits neg
-held-700 v n = held-in K.m700 K.c700 v tt tt ends n
+clamp-700 v n = clamp-in K.m700 K.c700 v tt tt ends n
 
 abbrev over-ln2 : Expr
 over-ln2 = over (var 0) (lit K.ln2)
@@ -133,7 +134,7 @@ unfolding ofBits neg div le
 quotient-test = tt
 
 quotient-in : (v : Float) → T (not (isNan v)) → Between (whole true 1010) (whole false 1010) (div binary64 (clampOf K.m700 K.c700 v) K.ln2)
-quotient-in v n = enclosed over-ln2 (iv K.m700 K.c700 ∷ []) (clampOf K.m700 K.c700 v ∷ []) (whole true 1010) (whole false 1010) quotient-test (held-700 v n, tt)
+quotient-in v n = enclosed over-ln2 (iv K.m700 K.c700 ∷ []) (clampOf K.m700 K.c700 v ∷ []) (whole true 1010) (whole false 1010) quotient-test (clamp-700 v n, tt)
 
 pub exponent-small : (v : Float) → T (not (isNan v)) → Small (roundOf (div binary64 (clampOf K.m700 K.c700 v) K.ln2))
 exponent-small v n =
@@ -338,7 +339,7 @@ pub exp-in : (v : Float) → T (not (isNan v)) → Between exp-least exp-most (e
 unfolding expOf
 exp-in v n =
     let w = clampOf K.m700 K.c700 v in
-    exp-at 1010 exp-least exp-most w (lit≤ tt) (wide-ends .0) (wide-ends .1) tt tt (in-finite K.m700 K.c700 w (held-700 v n)) (quotient-in v n)
+    exp-at 1010 exp-least exp-most w (lit≤ tt) (wide-ends .0) (wide-ends .1) tt tt (in-finite K.m700 K.c700 w (clamp-700 v n)) (quotient-in v n)
 
 pub exp-finite : (v : Float) → T (not (isNan v)) → T (finite (expOf v))
 exp-finite v n = in-finite exp-least exp-most (expOf v) (exp-in v n)
@@ -346,9 +347,9 @@ exp-finite v n = in-finite exp-least exp-most (expOf v) (exp-in v n)
 pub exp-positive : (v : Float) → T (not (isNan v)) → T (positive (expOf v))
 exp-positive v n = let i = exp-in v n in between exp-least (expOf v) exp-most tt tt (i .low) (i .high)
 
-mid-held : T (le K.m700 m3·25) × T (le c3·25 K.c700)
+mid-clamped : T (le K.m700 m3·25) × T (le c3·25 K.c700)
 unfolding ofBits neg le
-mid-held = (tt, tt)
+mid-clamped = (tt, tt)
 
 mid-test : T (encloses over-ln2 (iv m3·25 c3·25 ∷ []) (whole true 5) (whole false 5))
 unfolding ofBits div le
@@ -358,5 +359,5 @@ pub exp-mid : (v : Float) → Between m3·25 c3·25 v → Between c1/64 c64 (exp
 unfolding expOf
 exp-mid v i =
     let w = clampOf K.m700 K.c700 v in
-    let j = held-keeps K.m700 K.c700 m3·25 c3·25 v (mid-held .0) (mid-held .1) i in
+    let j = clamp-keeps K.m700 K.c700 m3·25 c3·25 v (mid-clamped .0) (mid-clamped .1) i in
     exp-at 5 c1/64 c64 w (lit≤ tt) (mid-ends .0) (mid-ends .1) tt tt (in-finite m3·25 c3·25 w j) (enclosed over-ln2 (iv m3·25 c3·25 ∷ []) (w ∷ []) (whole true 5) (whole false 5) mid-test (j, tt))

@@ -1,4 +1,5 @@
--- The arguments of the Mercator projection: the ordinate of a latitude up to 89.5 degrees is finite, and a mean of ordinates gives such a latitude. Assumes nothing.
+-- The arguments of the Mercator projection: the ordinate of a latitude up to 89.5 degrees is finite, and a mean of
+-- ordinates gives such a latitude. Assumes nothing.
 use mathlib.Core.Bool.{true, false}
 use mathlib.Core.List.{[], _∷_}
 use lib.Dec.{T}
@@ -14,10 +15,10 @@ use Rattle.elementary.specs.Laws.Codes.{encloses, enclosed}
 use Rattle.elementary.specs.Laws.Exponential.{m3·25, c3·25, exp-mid}
 use Rattle.elementary.specs.Laws.Logarithm.{ln-least, ln-most, ln-in}
 use Rattle.elementary.specs.Laws.Arctangent.{atan-least, atan-most, atan-mid}
-use Rattle.elementary.specs.Laws.Tangent.{c1/256, c1·5707, Slanted, tan-least, tan-most, tan-in}
+use Rattle.elementary.specs.Laws.Tangent.{c1/256, c1·5707, InTanRange, tan-least, tan-most, tan-in}
 
 -- ---- the logarithm of the tangent
-pub ln-tan-in : (a : Float) → Slanted a → Between ln-least ln-most (lnOf (tanOf a))
+pub ln-tan-in : (a : Float) → InTanRange a → Between ln-least ln-most (lnOf (tanOf a))
 ln-tan-in a i =
     let j = tan-in a i in
     ln-in (tanOf a) (between tan-least (tanOf a) tan-most tt tt (j .low) (j .high)) (unfold tanOf in div-fits binary64 (sinOf a) (cosOf a))
@@ -27,9 +28,9 @@ ln-tan-in a i =
 abbrev pub fracPi4 : Float
 fracPi4 = ofBits binary64 0x3fe921fb54442d18
 
--- whose tangent's logarithm is the ordinate, over the radius
-abbrev pub slantOf : Float → Float
-slantOf lat = add binary64 fracPi4 (div binary64 (toRadiansOf lat) K.two)
+-- the argument of the tangent, whose logarithm is the ordinate over the radius
+abbrev pub tanArgumentOf : Float → Float
+tanArgumentOf lat = add binary64 fracPi4 (div binary64 (toRadiansOf lat) K.two)
 
 abbrev pub c89·5 : Float
 c89·5 = fin false 179 (negsuc 0)
@@ -37,16 +38,16 @@ c89·5 = fin false 179 (negsuc 0)
 abbrev pub m89·5 : Float
 m89·5 = fin true 179 (negsuc 0)
 
-abbrev pub slant : Expr
-slant = plus (lit fracPi4) (over (times (var 0) (over (lit K.pi) (lit K.c180))) (lit K.two))
+abbrev pub tanArgument : Expr
+tanArgument = plus (lit fracPi4) (over (times (var 0) (over (lit K.pi) (lit K.c180))) (lit K.two))
 
-slant-test : T (encloses slant (iv m89·5 c89·5 ∷ []) c1/256 c1·5707)
+tan-argument-test : T (encloses tanArgument (iv m89·5 c89·5 ∷ []) c1/256 c1·5707)
 unfolding ofBits add mul div le
-slant-test = tt
+tan-argument-test = tt
 
-pub latitude-in : (lat : Float) → Between m89·5 c89·5 lat → Slanted (slantOf lat)
+pub latitude-in : (lat : Float) → Between m89·5 c89·5 lat → InTanRange (tanArgumentOf lat)
 unfolding toRadiansOf
-latitude-in lat i = enclosed slant (iv m89·5 c89·5 ∷ []) (lat ∷ []) c1/256 c1·5707 slant-test (i, tt)
+latitude-in lat i = enclosed tanArgument (iv m89·5 c89·5 ∷ []) (lat ∷ []) c1/256 c1·5707 tan-argument-test (i, tt)
 
 -- ---- inverse: an ordinate over the radius
 abbrev pub latitudeOf : Float → Float

@@ -1,4 +1,5 @@
--- The ordinate of a latitude up to 85.06 degrees, over the radius, is at most 3.1875 in size: its tangent lies from 43/1024 to 24. Assumes nothing.
+-- The ordinate of a latitude up to 85.06 degrees, over the radius, is at most 3.1875 in size: its tangent lies from
+-- 43/1024 to 24. Assumes nothing.
 use mathlib.Core.Path.{_≡_, refl, sym, ap, _∙_, subst}
 use mathlib.Core.Bool.{Bool, true, false, not}
 use mathlib.Core.List.{[], _∷_}
@@ -23,8 +24,8 @@ use Rattle.elementary.specs.Functions.{toRadiansOf, remTauOf, restOf, si
 use Rattle.elementary.specs.Laws.Codes.{encloses, enclosed, even-code, odd-code}
 use Rattle.elementary.specs.Laws.Logarithm.{Digits, digits, units-some, units-few, significand-on, significand-in, exponent-on, log-code, whole, ln-on}
 use Rattle.elementary.specs.Laws.Sine.{bound, rest-code}
-use Rattle.elementary.specs.Laws.Tangent.{c1/256, c1·5707, Slanted, slanted-positive, turn-is, rest-on, sin-on, cos-on}
-use Rattle.elementary.specs.Laws.Mercator.{fracPi4, slantOf, slant}
+use Rattle.elementary.specs.Laws.Tangent.{c1/256, c1·5707, InTanRange, tan-range-positive, turn-is, rest-on, sin-on, cos-on}
+use Rattle.elementary.specs.Laws.Mercator.{fracPi4, tanArgumentOf, tanArgument}
 
 -- 85.06, and its opposite
 abbrev pub c85·06 : Float
@@ -39,30 +40,30 @@ c3·1875 = fin false 51 (negsuc 3)
 abbrev pub m3·1875 : Float
 m3·1875 = fin true 51 (negsuc 3)
 
--- ---- the slant, from 0.04309 to 1.52771
+-- ---- the argument of the tangent, from 0.04309 to 1.52771
 abbrev lo : Float
 lo = fin false 353 (negsuc 12)
 
 abbrev hi : Float
 hi = fin false 12515 (negsuc 12)
 
-slant-test : T (encloses slant (iv m85·06 c85·06 ∷ []) lo hi)
+tan-argument-test : T (encloses tanArgument (iv m85·06 c85·06 ∷ []) lo hi)
 unfolding ofBits neg add mul div le
-slant-test = tt
+tan-argument-test = tt
 
-slant-in : (lat : Float) → Between m85·06 c85·06 lat → Between lo hi (slantOf lat)
+tan-argument-in : (lat : Float) → Between m85·06 c85·06 lat → Between lo hi (tanArgumentOf lat)
 unfolding toRadiansOf
-slant-in lat i = enclosed slant (iv m85·06 c85·06 ∷ []) (lat ∷ []) lo hi slant-test (i, tt)
+tan-argument-in lat i = enclosed tanArgument (iv m85·06 c85·06 ∷ []) (lat ∷ []) lo hi tan-argument-test (i, tt)
 
-slant-ends : T (le c1/256 lo) × T (le hi c1·5707)
+tan-argument-ends : T (le c1/256 lo) × T (le hi c1·5707)
 unfolding le
-slant-ends = (tt, tt)
+tan-argument-ends = (tt, tt)
 
-slanted : (a : Float) → Between lo hi a → Slanted a
-slanted a i = record { low = le-trans c1/256 lo a (slant-ends .0) (i .low); high = le-trans a hi c1·5707 (i .high) (slant-ends .1); fl = tt; fh = tt }
+in-tan-range : (a : Float) → Between lo hi a → InTanRange a
+in-tan-range a i = record { low = le-trans c1/256 lo a (tan-argument-ends .0) (i .low); high = le-trans a hi c1·5707 (i .high) (tan-argument-ends .1); fl = tt; fh = tt }
 
 -- ---- the tangent: a value of the format below FRAC_PI_2 is its own turn's part
-turn-own : (a : Float) → T (positive a) → Slanted a → T (fits binary64 a) → remTauOf a ≡ a
+turn-own : (a : Float) → T (positive a) → InTanRange a → T (fits binary64 a) → remTauOf a ≡ a
 turn-own nan p i f = absurd p
 turn-own (inf s) p i f = absurd p
 turn-own (fin true m e) p i f = absurd p
@@ -74,8 +75,8 @@ rest-test = tt
 
 rest-in : (a : Float) → T (fits binary64 a) → Between lo hi a → Between lo hi (restOf (remTauOf a))
 rest-in a f i =
-    let j = slanted a i in
-    subst (λ (z : Float). Between lo hi (restOf z)) (sym (turn-own a (slanted-positive a j) j f)) (rest-on lo hi a rest-test j i)
+    let j = in-tan-range a i in
+    subst (λ (z : Float). Between lo hi (restOf z)) (sym (turn-own a (tan-range-positive a j) j f)) (rest-on lo hi a rest-test j i)
 
 -- the least sine and cosine there, 0.0427
 abbrev least : Float
@@ -102,7 +103,7 @@ tan-test = tt
 tan-in : (a : Float) → T (fits binary64 a) → Between lo hi a → Between c43/1024 c24 (tanOf a)
 unfolding tanOf
 tan-in a f i =
-    let j = slanted a i in
+    let j = in-tan-range a i in
     let k = rest-in a f i in
     enclosed (over (var 0) (var 1)) (iv least bound ∷ iv least bound ∷ []) (sinOf a ∷ cosOf a ∷ []) c43/1024 c24 tan-test
     (sin-on least bound lo hi a tt tt sine-test j k, (cos-on least bound lo hi a tt tt cosine-test j k, tt))
@@ -240,9 +241,9 @@ ln-mid (fin false (suc m) e) p f i =
     let n = suc m * up e * 2 ^ 1074 / down e in
     at-all n (size n - 1) (digits n (units-some m e (fits-digits false (suc m) e f .1)) (units-few m e (fits-top false (suc m) e f))) (inner (suc m) e i)
 
-pub ordinate-in : (lat : Float) → Between m85·06 c85·06 lat → Between m3·1875 c3·1875 (lnOf (tanOf (slantOf lat)))
+pub ordinate-in : (lat : Float) → Between m85·06 c85·06 lat → Between m3·1875 c3·1875 (lnOf (tanOf (tanArgumentOf lat)))
 ordinate-in lat i =
-    let a = slantOf lat in
+    let a = tanArgumentOf lat in
     let v = tanOf a in
-    let j = tan-in a (add-fits binary64 fracPi4 (div binary64 (toRadiansOf lat) K.two)) (slant-in lat i) in
+    let j = tan-in a (add-fits binary64 fracPi4 (div binary64 (toRadiansOf lat) K.two)) (tan-argument-in lat i) in
     ln-mid v (between c43/1024 v c24 tt tt (j .low) (j .high)) (unfold tanOf in div-fits binary64 (sinOf a) (cosOf a)) j

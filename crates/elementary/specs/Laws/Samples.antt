@@ -1,4 +1,5 @@
--- The definitions run on known values: patterns of arguments and of what the recipes give, worked out beside them by a program in Rust (tests/standins.rs).
+-- The definitions run on known values: patterns of arguments and of what the recipes give, worked out beside them by a
+-- program in Rust (tests/standins.rs).
 use mathlib.Core.Bool.{Bool, true, _&&_}
 use mathlib.Core.List.{List, [], _∷_}
 use Prim.Native.Nat.{ℕ}

@@ -36,13 +36,13 @@ pub unit-finite : (x : Float) → UnitSize x → T (finite x)
 unit-finite x h = finite-of low-bound x bound tt tt (h .0) (h .1)
 
 minus-unit : (x : Float) → UnitSize x → UnitSize (neg x)
-minus-unit x h = (subst (λ (z : Float). T (le z (neg x))) flip (neg-le x bound (h .1)), subst (λ (z : Float). T (le (neg x) z)) flop (neg-le low-bound x (h .0)))
+minus-unit x h = (subst (λ (z : Float). T (le z (neg x))) neg-bound (neg-le x bound (h .1)), subst (λ (z : Float). T (le (neg x) z)) neg-low-bound (neg-le low-bound x (h .0)))
   where
-    flip : neg bound ≡ low-bound
-    flip = unfold neg in refl
+    neg-bound : neg bound ≡ low-bound
+    neg-bound = unfold neg in refl
 
-    flop : neg low-bound ≡ bound
-    flop = unfold neg in refl
+    neg-low-bound : neg low-bound ≡ bound
+    neg-low-bound = unfold neg in refl
 
 -- ---- both series on a little more than a quadrant
 abbrev slack-lo : Float

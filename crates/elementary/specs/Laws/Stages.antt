@@ -82,7 +82,7 @@ module _ (v : Float) (i : Between exp-least K.one v) where
   unfolding atanSecond atanThird quadrupled atanSmall
   beyond = rw (first .minus, first .back, second .minus, second .back)
 
--- ---- both
+-- ---- both sides of 1
 inverse-test : T (encloses (over (lit K.one) (var 0)) (iv K.one exp-most ∷ []) exp-least K.one)
 unfolding ofBits div le
 inverse-test = tt

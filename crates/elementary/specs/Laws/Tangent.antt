@@ -33,18 +33,18 @@ c1/256 = power true 8
 abbrev pub c1·5707 : Float
 c1·5707 = fin false 3536901967355419 (negsuc 50)
 
-abbrev pub Slanted : Float → Type 0
-Slanted a = Between c1/256 c1·5707 a
+abbrev pub InTanRange : Float → Type 0
+InTanRange a = Between c1/256 c1·5707 a
 
-pub slanted-positive : (a : Float) → Slanted a → T (positive a)
-slanted-positive a i = between c1/256 a c1·5707 tt tt (i .low) (i .high)
+pub tan-range-positive : (a : Float) → InTanRange a → T (positive a)
+tan-range-positive a i = between c1/256 a c1·5707 tt tt (i .low) (i .high)
 
 -- ---- less than a turn, so the turn's part is a, rounded once
 own-ends : (round binary64 false 1 (2 ^ 8) ≡ c1/256) × (round binary64 false 3536901967355419 (2 ^ 51) ≡ c1·5707)
 unfolding round
 own-ends = (refl, refl)
 
-rounded-in : (m : ℕ) (e : ℤ) → Slanted (fin false m e) → Slanted (round binary64 false (m * up e) (down e))
+rounded-in : (m : ℕ) (e : ℤ) → InTanRange (fin false m e) → InTanRange (round binary64 false (m * up e) (down e))
 rounded-in m e i =
     let v = round binary64 false (m * up e) (down e) in
     let l = le→ c1/256 (fin false m e) tt tt (i .low) in
@@ -59,18 +59,18 @@ rounded-in m e i =
 short : (x d : ℕ) → 0 < d → x * 2 ^ 51 ≤ 3536901967355419 * d → x * 2 ^ 47 < 884279719003555 * 1 * d
 short x d D h = omega arith
 
-pub turn-is : (m : ℕ) (e : ℤ) → Slanted (fin false m e) → remTauOf (fin false m e) ≡ round binary64 false (m * up e) (down e)
+pub turn-is : (m : ℕ) (e : ℤ) → InTanRange (fin false m e) → remTauOf (fin false m e) ≡ round binary64 false (m * up e) (down e)
 unfolding remTauOf absOf rem ofBits
 turn-is m e i =
     let h = le→ (fin false m e) c1·5707 tt tt (i .high) in
     ap (λ (j : ℕ). round binary64 false j (down e * 2 ^ 47)) (mod-eq-of-lt (short (m * up e) (down e) (down-pos e) (omega arith)))
     ∙ round-same binary64 false (m * up e * 2 ^ 47) (down e * 2 ^ 47) (m * up e) (down e) (mul-pos (down-pos e) (pow-pos 47)) (down-pos e) (omega arith)
 
-turn-in : (a : Float) → T (positive a) → Slanted a → Slanted (remTauOf a)
+turn-in : (a : Float) → T (positive a) → InTanRange a → InTanRange (remTauOf a)
 turn-in nan p i = absurd p
 turn-in (inf s) p i = absurd p
 turn-in (fin true m e) p i = absurd p
-turn-in (fin false m e) p i = subst Slanted (sym (turn-is m e i)) (rounded-in m e i)
+turn-in (fin false m e) p i = subst InTanRange (sym (turn-is m e i)) (rounded-in m e i)
 
 -- ---- the first quadrant
 abbrev q-lo : Float
@@ -95,7 +95,7 @@ whole-part (fin false m d) p h =
     under : (x d : ℕ) → 0 < d → x * 2 ^ 14 ≤ 16383 * d → x < d
     under x d D h = omega arith
 
-quadrant-is : (r : Float) → Slanted r → quadrantOf r ≡ K.zero
+quadrant-is : (r : Float) → InTanRange r → quadrantOf r ≡ K.zero
 unfolding quadrantOf
 quadrant-is r i =
     let w = div binary64 r K.fracPi2 in
@@ -106,14 +106,14 @@ rest-test : T (encloses (rest-code K.zero) (iv c1/256 c1·5707 ∷ []) c1/256 c1
 unfolding ofBits sub mul le
 rest-test = tt
 
-pub rest-on : (lo hi r : Float) → T (encloses (rest-code K.zero) (iv lo hi ∷ []) lo hi) → Slanted r → Between lo hi r → Between lo hi (restOf r)
+pub rest-on : (lo hi r : Float) → T (encloses (rest-code K.zero) (iv lo hi ∷ []) lo hi) → InTanRange r → Between lo hi r → Between lo hi (restOf r)
 unfolding restOf
 rest-on lo hi r t i j = subst (λ (q : Float). Between lo hi (sub binary64 r (mul binary64 q K.fracPi2))) (sym (quadrant-is r i)) (enclosed (rest-code K.zero) (iv lo hi ∷ []) (r ∷ []) lo hi t (j, tt))
 
-rest-in : (r : Float) → Slanted r → Slanted (restOf r)
+rest-in : (r : Float) → InTanRange r → InTanRange (restOf r)
 rest-in r i = rest-on c1/256 c1·5707 r rest-test i i
 
--- ---- both series there
+-- ---- sine and cosine series in that range
 abbrev sine-least : Float
 sine-least = power true 9
 
@@ -141,7 +141,7 @@ unfolding ofBits le
 above-zero = tt
 
 -- what the series give where the rest lies from a to b
-pub sin-on : (lo hi a b x : Float) → T (finite lo) → T (finite hi) → T (fits-in 20 (odd-code sineTable) lo hi a b) → Slanted x → Between a b (restOf (remTauOf x)) → Between lo hi (sinOf x)
+pub sin-on : (lo hi a b x : Float) → T (finite lo) → T (finite hi) → T (fits-in 20 (odd-code sineTable) lo hi a b) → InTanRange x → Between a b (restOf (remTauOf x)) → Between lo hi (sinOf x)
 unfolding sinOf
 sin-on lo hi a b x p q t i k = go (lt x K.zero) (le→not-lt K.zero x (unfold ofBits in tt) (le-trans K.zero c1/256 x above-zero (i .low)))
   where
@@ -151,19 +151,19 @@ sin-on lo hi a b x p q t i k = go (lt x K.zero) (le→not-lt K.zero x (unfold of
     go : (b : Bool) → T (not b) → Between lo hi (pick b (neg (sineAt (quadrantOf r) (restOf r))) (sineAt (quadrantOf r) (restOf r)))
     go true n = absurd n
     go false n =
-        subst (Between lo hi) (first-sine (quadrantOf r) (restOf r) (quadrant-is r (turn-in x (slanted-positive x i) i))) (odd-range 20 sineTable lo hi a b (restOf r) p q t k)
+        subst (Between lo hi) (first-sine (quadrantOf r) (restOf r) (quadrant-is r (turn-in x (tan-range-positive x i) i))) (odd-range 20 sineTable lo hi a b (restOf r) p q t k)
 
-pub cos-on : (lo hi a b x : Float) → T (finite lo) → T (finite hi) → T (fits-in 20 (even-code cosineTable) lo hi a b) → Slanted x → Between a b (restOf (remTauOf x)) → Between lo hi (cosOf x)
+pub cos-on : (lo hi a b x : Float) → T (finite lo) → T (finite hi) → T (fits-in 20 (even-code cosineTable) lo hi a b) → InTanRange x → Between a b (restOf (remTauOf x)) → Between lo hi (cosOf x)
 unfolding cosOf
 cos-on lo hi a b x p q t i k =
     let r = remTauOf x in
-    subst (Between lo hi) (first-cosine (quadrantOf r) (restOf r) (quadrant-is r (turn-in x (slanted-positive x i) i))) (even-range 20 cosineTable lo hi a b (restOf r) p q t k)
+    subst (Between lo hi) (first-cosine (quadrantOf r) (restOf r) (quadrant-is r (turn-in x (tan-range-positive x i) i))) (even-range 20 cosineTable lo hi a b (restOf r) p q t k)
 
-sin-in : (a : Float) → Slanted a → Between sine-least bound (sinOf a)
-sin-in a i = sin-on sine-least bound c1/256 c1·5707 a tt tt sine-test i (rest-in (remTauOf a) (turn-in a (slanted-positive a i) i))
+sin-in : (a : Float) → InTanRange a → Between sine-least bound (sinOf a)
+sin-in a i = sin-on sine-least bound c1/256 c1·5707 a tt tt sine-test i (rest-in (remTauOf a) (turn-in a (tan-range-positive a i) i))
 
-cos-in : (a : Float) → Slanted a → Between cosine-least bound (cosOf a)
-cos-in a i = cos-on cosine-least bound c1/256 c1·5707 a tt tt cosine-test i (rest-in (remTauOf a) (turn-in a (slanted-positive a i) i))
+cos-in : (a : Float) → InTanRange a → Between cosine-least bound (cosOf a)
+cos-in a i = cos-on cosine-least bound c1/256 c1·5707 a tt tt cosine-test i (rest-in (remTauOf a) (turn-in a (tan-range-positive a i) i))
 
 -- ---- the law
 abbrev pub tan-least : Float
@@ -176,6 +176,6 @@ tan-test : T (encloses (over (var 0) (var 1)) (iv sine-least bound ∷ iv cosine
 unfolding div le
 tan-test = tt
 
-pub tan-in : (a : Float) → Slanted a → Between tan-least tan-most (tanOf a)
+pub tan-in : (a : Float) → InTanRange a → Between tan-least tan-most (tanOf a)
 unfolding tanOf
 tan-in a i = enclosed (over (var 0) (var 1)) (iv sine-least bound ∷ iv cosine-least bound ∷ []) (sinOf a ∷ cosOf a ∷ []) tan-least tan-most tan-test (sin-in a i, (cos-in a i, tt))

@@ -2,7 +2,7 @@ use borrow.Author.Needs.{needs}
 use mathlib.Core.Path.{refl}
 use Prim.Native.Nat.{_%_, _^_, _<_}
 use native.Mathlib.Omega.{arith}
-use Rattle.float.proofs.Splitting.{enough, shift-le, split-low, split-normal}
+use Rattle.float.proofs.Decomposing.{enough, shift-le, decompose-low, decompose-normal}
 use Rattle.float.proofs.decompose.Statement.{statement}
 use Rattle.float.proofs.decompose.Tie as tie
 
@@ -26,7 +26,7 @@ sub-t9 : tie.Need-sub-t9
 sub-t9 c = omega (arith, shift-le (c .before .args .b % 2 ^ 52) (some c) (below c))
 
 returns : tie.Need-returns
-returns c = split-low (c .before .args .b % 2 ^ 52) (some c) (below c) (c .before .args .b) (c .if1 .taken) refl
+returns c = decompose-low (c .before .args .b % 2 ^ 52) (some c) (below c) (c .before .args .b) (c .if1 .taken) refl
 
 add-t10 : tie.Need-add-t10
 add-t10 c = search needs
@@ -35,7 +35,7 @@ add-t11 : tie.Need-add-t11
 add-t11 c = search needs
 
 returns-2 : tie.Need-returns-2
-returns-2 c = split-normal (c .before .args .b) (c .before .pre .1) (c .if1 .left)
+returns-2 c = decompose-normal (c .before .args .b) (c .before .pre .1) (c .if1 .left)
 
 pub decompose-spec : {M : Type 1} → statement M
 decompose-spec = tie.close (tie.spec sub-z cast-z shl-t8 sub-t9 returns add-t10 add-t11 returns-2)

@@ -2,7 +2,8 @@
 use mathlib.Core.Path.{_≡_}
 use Prim.Native.Nat.{ℕ, zero, suc, _+_, _*_, _/_, _%_, _^_, _≤_, _<_}
 
--- the value of a finite pattern with the exponent's field f and the digits t, in units of the format's smallest value, 2 ^ -1074
+-- the value of a finite pattern with the exponent's field f and the digits t, in units of the format's smallest value,
+-- 2 ^ -1074
 abbrev pub unitsAt : ℕ → ℕ → ℕ
 unitsAt zero t = t
 unitsAt (suc k) t = (2 ^ 52 + t) * 2 ^ k

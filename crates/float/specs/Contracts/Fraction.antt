@@ -1,4 +1,4 @@
--- A finite pattern with digits on both sides of the point, as the functions that cut it there see it.
+-- A finite pattern with digits on both sides of the point, as the functions that clear its fraction see it.
 use mathlib.Core.Path.{_≡_}
 use mathlib.Core.Bool.{Bool}
 use Prim.Native.Nat.{ℕ, _+_, _-_, _/_, _%_, _^_, _≤_, _<_}
@@ -18,7 +18,7 @@ digitsOf b = 2 ^ 52 + b % 2 ^ 52
 abbrev pub unitOf : ℕ → ℕ
 unitOf b = 2 ^ (1075 - fieldOf b)
 
--- 1 at least, and below 2 ^ 52
+-- the value is at least 1 and below 2 ^ 52 in size
 pub record HasFraction (b : ℕ) : Type 0 where
   pub low : 1023 ≤ fieldOf b
   pub high : fieldOf b < 1075

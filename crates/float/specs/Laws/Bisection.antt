@@ -1,4 +1,5 @@
--- A test on an interval [a, b] that says something of each value in it. Where it fails the interval is cut in the middle, at most n times deep.
+-- A test on an interval [a, b] that says something of each value in it. Where it fails the interval is cut in the
+-- middle, at most n times deep.
 use mathlib.Core.Logic.{_⊎_, inl, inr}
 use mathlib.Core.Bool.{Bool, true, false}
 use Prim.Native.Nat.{ℕ, zero, suc}

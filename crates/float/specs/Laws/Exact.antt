@@ -1,4 +1,5 @@
--- A value of the format is settled by its sign and the number it stands for, and it is its own rounding. Assumes nothing.
+-- A value of the format is settled by its sign and the number it stands for, and it is its own rounding. Assumes
+-- nothing.
 use mathlib.Core.Path.{_≡_, refl, sym, ap, _∙_}
 use mathlib.Core.Bool.{Bool, _&&_, cond}
 use Prim.Native.Nat.{ℕ, zero, suc, _+_, _-_, _*_, _/_, _%_, _^_, _<_}

@@ -1,4 +1,5 @@
--- Patterns of either sign: what number a finite one stands for, and which pattern a number of 53 digits has. Assumes nothing.
+-- Patterns of either sign: what number a finite one stands for, and which pattern a number of 53 digits has. Assumes
+-- nothing.
 use mathlib.Core.Path.{_≡_, refl, sym, ap, _∙_, subst}
 use mathlib.Core.Logic.{_⊎_, inl, inr}
 use mathlib.Core.Bool.{Bool, true, false, not, cond}

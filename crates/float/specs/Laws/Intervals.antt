@@ -1,4 +1,5 @@
--- Intervals of finite values with computed ends: each operation on them holds what the operation gives on their members. `top` says nothing.
+-- Intervals of finite values with computed ends: each operation on them holds what the operation gives on their
+-- members. `top` says nothing.
 use mathlib.Core.Path.{_≡_, refl, sym, subst}
 use mathlib.Core.Logic.{_⊎_, inl, inr}
 use mathlib.Core.List.{List, [], _∷_}
@@ -48,7 +49,7 @@ mk-in (fin s m e) nan x h k = tt
 mk-in (fin s m e) (inf t) x h k = tt
 mk-in (fin s m e) (fin t n d) x h k = record { low = h; high = k; fl = tt; fh = tt }
 
--- the same, with ends that equal lo' and hi' where they are finite
+-- the interval that `mk` makes, with ends that equal lo' and hi' where they are finite
 mk-same : (lo lo' hi hi' x : Float) → (T (finite lo) → Same lo lo') → (T (finite hi) → Same hi hi') → T (le lo' x) → T (le x hi') → In (mk lo hi) x
 mk-same nan lo' hi hi' x p q h k = tt
 mk-same (inf s) lo' hi hi' x p q h k = tt

@@ -1,4 +1,5 @@
--- Magnitudes: x is finite and at most 2 ^ k in size. Sums, differences, products and quotients of such values are such values, and do not overflow.
+-- Magnitudes: x is finite and at most 2 ^ k in size. Sums, differences, products and quotients of such values are such
+-- values, and do not overflow.
 use mathlib.Core.Path.{_≡_, refl, sym, ap, _∙_, subst}
 use mathlib.Core.Logic.{_⊎_, inl, inr}
 use mathlib.Core.Bool.{Bool, true, false, _&&_}
@@ -19,7 +20,7 @@ pub record Within (k : ℕ) (x : Float) : Type 0 where
   pub is-finite : T (finite x)
   pub size : P x + N x ≤ 2 ^ k * D x
 
--- of a literal, by computation
+-- the bound of a literal, by computation
 abbrev pub within? : ℕ → Float → Bool
 within? k x = finite x && leb (P x + N x) (2 ^ k * D x)
 

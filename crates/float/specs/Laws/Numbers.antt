@@ -1,4 +1,5 @@
--- What is rounded is a number; a finite value of the format, halved or more, stays finite; and the remainder by 360 that is not negative. Assumes nothing.
+-- What is rounded is a number; a finite value of the format, halved or more, stays finite; and the remainder by 360
+-- that is not negative. Assumes nothing.
 use mathlib.Core.Path.{_≡_, refl, sym, subst}
 use mathlib.Core.Bool.{Bool, true, false, not}
 use Prim.Native.Nat.{ℕ, _+_, _*_, _^_, _≤_}

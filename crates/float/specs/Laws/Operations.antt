@@ -1,4 +1,5 @@
--- Each operation on finite values is the rounding of a signed fraction (p - n) / c, and the rounding keeps the order: so each operation is monotone.
+-- Each operation on finite values is the rounding of a signed fraction (p - n) / c, and the rounding keeps the order:
+-- so each operation is monotone.
 use mathlib.Core.Path.{_≡_, refl, sym, ap, subst}
 use mathlib.Core.Bool.{Bool, true, false, not, cond}
 use Prim.Native.Nat.{ℕ, _+_, _-_, _*_, _≤_, _<_}
@@ -47,7 +48,7 @@ sum-rounds f true a false b c C = go (ltb a b) (ltb→lt a b) (nltb→le a b) (l
     go false h k true h' k' = let l : b ≤ a = k tt in record { sign = true; size = a - b; is = refl; val = omega arith; den = C }
     go false h k false h' k' = let l : b ≤ a = k tt in let l' : a ≤ b = k' tt in record { sign = false; size = a - b; is = refl; val = omega arith; den = C }
 
--- the same fraction written otherwise
+-- a fraction that equals (p - n) / c, written otherwise
 pub recast : (f : Format) (z : Float) (p n p' n' c : ℕ) → p + n' ≡ p' + n → Rounds f z p n c → Rounds f z p' n' c
 recast f z p n p' n' c h r = let v = r .val in record { sign = r .sign; size = r .size; is = r .is; val = omega arith; den = r .den }
 
@@ -101,21 +102,21 @@ mul-rounds f (fin false m e) (fin true n d) p q = record { sign = true; size = m
 mul-rounds f (fin false m e) (fin false n d) p q = record { sign = false; size = m * up e * (n * up d); is = refl; val = omega arith; den = mul-pos (down-pos e) (down-pos d) }
 
 -- ---- monotone
-spread : (p d q c c' d' : ℕ) → (p * d + q * c) * (c' * d') ≡ p * c' * (d * d') + q * d' * (c * c')
-spread p d q c c' d' = omega arith
+distribute : (p d q c c' d' : ℕ) → (p * d + q * c) * (c' * d') ≡ p * c' * (d * d') + q * d' * (c * c')
+distribute p d q c c' d' = omega arith
 
-spread' : (p d q c c' d' : ℕ) → (p * d + q * c) * (c' * d') ≡ p * c' * (d' * d) + q * d' * (c' * c)
-spread' p d q c c' d' = omega arith
+distribute' : (p d q c c' d' : ℕ) → (p * d + q * c) * (c' * d') ≡ p * c' * (d' * d) + q * d' * (c' * c)
+distribute' p d q c c' d' = omega arith
 
 pub scale : (a b c d k : ℕ) → a + b ≤ c + d → a * k + b * k ≤ c * k + d * k
 scale a b c d k h = omega (arith, mul-le-mul-right k h)
 
-glue : (A B C E A' B' C' E' a b c e : ℕ) → a ≡ A + A' → b ≡ B + B' → c ≡ C + C' → e ≡ E + E' → A + B ≤ C + E → A' + B' ≤ C' + E' → a + b ≤ c + e
-glue A B C E A' B' C' E' a b c e p q r s h k = omega arith
+sum-le : (A B C E A' B' C' E' a b c e : ℕ) → a ≡ A + A' → b ≡ B + B' → c ≡ C + C' → e ≡ E + E' → A + B ≤ C + E → A' + B' ≤ C' + E' → a + b ≤ c + e
+sum-le A B C E A' B' C' E' a b c e p q r s h k = omega arith
 
 add-cross : (p n c p' n' c' q m d q' m' d' : ℕ) → FLe p n c p' n' c' → FLe q m d q' m' d' → FLe (p * d + q * c) (n * d + m * c) (c * d) (p' * d' + q' * c') (n' * d' + m' * c') (c' * d')
 add-cross p n c p' n' c' q m d q' m' d' h k =
-    glue _ _ _ _ _ _ _ _ _ _ _ _ (spread p d q c c' d') (spread' n' d' m' c' c d) (spread' p' d' q' c' c d) (spread n d m c c' d')
+    sum-le _ _ _ _ _ _ _ _ _ _ _ _ (distribute p d q c c' d') (distribute' n' d' m' c' c d) (distribute' p' d' q' c' c d) (distribute n d m c c' d')
     (scale (p * c') (n' * c) (p' * c) (n * c') (d * d') h) (scale (q * d') (m' * d) (q' * d) (m * d') (c * c') k)
 
 pub add-mono : (f : Format) (x x' y y' : Float) → T (finite x) → T (finite x') → T (finite y) → T (finite y') → T (le x x') → T (le y y') → T (le (add f x y) (add f x' y'))

@@ -1,5 +1,6 @@
--- A rounding that computes faster in the checker: it does not write the result with an odd number, and it guesses how many digits to drop and tests the guess.
--- Where the tests fail the result is `nan`. Where it is finite it equals what `round` gives.
+-- A rounding that computes faster in the checker: it does not write the result with an odd number, and it guesses how
+-- many digits to drop and tests the guess. Where the tests fail the result is `nan`. Where it is finite it equals what
+-- `round` gives.
 use mathlib.Core.Path.{_≡_, refl, sym, ap, _∙_, subst}
 use mathlib.Core.Logic.{inl, inr}
 use mathlib.Core.Bool.{Bool, true, false, not, _&&_, _||_, cond, Bool·beq}

@@ -1,4 +1,5 @@
--- `%`: it lies between -y and y, and is not negative where x is not. And whole numbers: what is its own rounding, and a whole number as a float and an integer.
+-- `%`: it lies between -y and y, and is not negative where x is not. And whole numbers: what is its own rounding, and a
+-- whole number as a float and an integer.
 use mathlib.Core.Path.{_≡_, refl, sym, ap, _∙_, subst}
 use mathlib.Core.Bool.{Bool, true, false, _&&_, cond}
 use Prim.Native.Nat.{ℕ, zero, suc, _+_, _-_, _*_, _/_, _%_, _^_, _≤_, _<_}

@@ -1,5 +1,6 @@
--- Whole bounds of either sign: x lies from a - b to c - d. Sums, products with a whole number, quotients by one, means and `round` keep them while
--- a + b + c + d is at most 2 ^ 53: rounding is monotone, and such a number is its own rounding. Assumes nothing.
+-- Whole bounds of either sign: x lies from a - b to c - d. Sums, products with a whole number, quotients by one, means
+-- and `round` keep them while a + b + c + d is at most 2 ^ 53: rounding is monotone, and such a number is its own
+-- rounding. Assumes nothing.
 use mathlib.Core.Path.{_≡_, refl, sym, ap, subst}
 use mathlib.Core.Logic.{inl, inr}
 use mathlib.Core.List.{List, [], _∷_, map}
@@ -22,7 +23,7 @@ use Rattle.float.specs.Laws.Order.{sign-of, div-rounds}
 use Rattle.float.specs.Laws.Magnitude.{Within, has-finite}
 use Rattle.float.specs.Laws.Intervals.{Between, in-finite}
 use Rattle.float.specs.Laws.Remainder.{Whole}
-use Rattle.float.specs.Laws.Whole.{Rule, Cuts, whole-mono, whole-own, has-whole}
+use Rattle.float.specs.Laws.Whole.{Rule, ByRule, whole-mono, whole-own, has-whole}
 
 -- a - b ≤ (p - n) / d
 abbrev pub From : ℕ → ℕ → ℕ → ℕ → ℕ → Type 0
@@ -40,7 +41,7 @@ Few a b c d = a + b + c + d ≤ 2 ^ 53
 through : (a b p n d p' n' d' : ℕ) → 0 < d → From a b p n d → FLe p n d p' n' d' → From a b p' n' d'
 through a b p n d p' n' d' E h k = le-of-mul-le-mul-right (omega (arith, mul-le-mul-right d' h)) E
 
--- and on to a wider bound
+-- from a bound to a wider one
 wider-from : (a b a' b' p n d : ℕ) → a' + b ≤ a + b' → From a b p n d → From a' b' p n d
 wider-from a b a' b' p n d h k = omega (arith, mul-le-mul-right d h)
 
@@ -117,7 +118,7 @@ spans-between a b c d lo hi x p q f g s = record {
   fh = q;
 }
 
--- the same where the ends are c, the whole number k, and its opposite
+-- x between two ends, where those are c, the whole number k, and its opposite
 pub ends-spans : (k : ℕ) (c x : Float) → Whole c k → Between (neg c) c x → Spans 0 k k 0 x
 ends-spans k c x v i = between-spans 0 k k 0 (neg c) c x (rw (neg-P c, neg-N c, neg-D c, v .up-is) (omega arith)) (omega (arith, v .up-is, v .no-minus)) i
 
@@ -182,7 +183,7 @@ div-spans k {a} {b} {c} {d} {x} y K v w s =
     some k d p K E h = rw h (mul-pos K E)
 
 -- trunc, ceil and round
-pub whole-spans : {g : Float → Float} {r : Rule} → Cuts g r → {a b c d : ℕ} {x : Float} → Few a b c d → Spans a b c d x → Spans a b c d (g x)
+pub whole-spans : {g : Float → Float} {r : Rule} → ByRule g r → {a b c d : ℕ} {x : Float} → Few a b c d → Spans a b c d x → Spans a b c d (g x)
 whole-spans {g} R {a} {b} {c} {d} {x} w s =
     let A = end a b (omega arith) in
     let C = end c d (omega arith) in

@@ -1,4 +1,5 @@
--- The patterns of finite values that are not negative: what number each stands for, in units of the format's smallest value, and where they lie. Assumes nothing.
+-- The patterns of finite values that are not negative: what number each stands for, in units of the format's smallest
+-- value, and where they lie. Assumes nothing.
 use mathlib.Core.Path.{_≡_, refl, sym, ap, _∙_, subst}
 use mathlib.Core.Bool.{Bool, true, false, not}
 use Prim.Native.Nat.{ℕ, zero, suc, _+_, _-_, _*_, _/_, _%_, _^_, _≤_, _<_}

@@ -1,5 +1,6 @@
--- trunc, ceil and round on the values of the format: each is exact, monotone, and keeps a whole number as it is. All three take the size of the value, a fraction,
--- to a whole number by a rule that may look at the sign, and the laws hold for any rule that is monotone and keeps whole numbers. Assumes nothing.
+-- trunc, ceil and round on the values of the format: each is exact, monotone, and keeps a whole number as it is. All
+-- three take the size of the value, a fraction, to a whole number by a rule that may look at the sign, and the laws
+-- hold for any rule that is monotone and keeps whole numbers. Assumes nothing.
 use mathlib.Core.Path.{_≡_, refl, sym, ap, _∙_, subst}
 use mathlib.Core.Bool.{Bool, true, false}
 use Prim.Native.Nat.{ℕ, suc, _+_, _-_, _*_, _/_, _^_, _≤_, _<_}
@@ -30,7 +31,7 @@ wholeOf r (inf s) = inf s
 wholeOf r (fin s m e) = wholeAt s (r s (m * up e) (down e))
 
 -- g goes by the rule r, which is monotone and keeps whole numbers
-pub record Cuts (g : Float → Float) (r : Rule) : Type 0 where
+pub record ByRule (g : Float → Float) (r : Rule) : Type 0 where
   pub is : (x : Float) → g x ≡ wholeOf r x
   pub mono : (s : Bool) (a d b c : ℕ) → 0 < d → 0 < c → a * c ≤ b * d → r s a d ≤ r s b c
   pub own : (s : Bool) (w : ℕ) → r s w 1 ≡ w
@@ -46,9 +47,9 @@ upward false a d = (a + (d - 1)) / d
 abbrev pub toNearest : Rule
 toNearest s a d = (2 * a + d) / (2 * d)
 
-pub trunc-cuts : Cuts truncOf toZero
+pub trunc-by-rule : ByRule truncOf toZero
 unfolding truncOf
-trunc-cuts = record { is = is; mono = λ s a d b c D C h. div-mono a d b c D C h; own = λ s w. div-one w }
+trunc-by-rule = record { is = is; mono = λ s a d b c D C h. div-mono a d b c D C h; own = λ s w. div-one w }
   where
     is : (x : Float) → truncOf x ≡ wholeOf toZero x
     is nan = refl
@@ -56,11 +57,11 @@ trunc-cuts = record { is = is; mono = λ s a d b c D C h. div-mono a d b c D C h
     is (fin s m e) = refl
 
 -- a ≤ q * d for the q that a / d goes up to, and for no smaller q
-up-reach : (a d : ℕ) → 0 < d → a ≤ (a + (d - 1)) / d * d
-up-reach a d D = omega (arith, lt-div-mul-add {a = a + (d - 1)} D)
+up-least : (a d : ℕ) → 0 < d → a ≤ (a + (d - 1)) / d * d
+up-least a d D = omega (arith, lt-div-mul-add {a = a + (d - 1)} D)
 
 up-mono : (a d b c : ℕ) → 0 < d → 0 < c → a * c ≤ b * d → (a + (d - 1)) / d ≤ (b + (c - 1)) / c
-up-mono a d b c D C h = le-of-suc-le-suc (div-lt-iff-lt-mul D .1 (room a d ((b + (c - 1)) / c) D (le-of-mul-le-mul-right (cross ((b + (c - 1)) / c) (up-reach b c C)) C)))
+up-mono a d b c D C h = le-of-suc-le-suc (div-lt-iff-lt-mul D .1 (room a d ((b + (c - 1)) / c) D (le-of-mul-le-mul-right (cross ((b + (c - 1)) / c) (up-least b c C)) C)))
   where
     cross : (q : ℕ) → b ≤ q * c → a * c ≤ q * d * c
     cross q k = omega (arith, mul-le-mul-right d k)
@@ -68,9 +69,9 @@ up-mono a d b c D C h = le-of-suc-le-suc (div-lt-iff-lt-mul D .1 (room a d ((b +
     room : (a d q : ℕ) → 0 < d → a ≤ q * d → a + (d - 1) < suc q * d
     room a d q D h = omega arith
 
-pub ceil-cuts : Cuts ceilOf upward
+pub ceil-by-rule : ByRule ceilOf upward
 unfolding ceilOf
-ceil-cuts = record { is = is; mono = mono; own = own }
+ceil-by-rule = record { is = is; mono = mono; own = own }
   where
     is : (x : Float) → ceilOf x ≡ wholeOf upward x
     is nan = refl
@@ -86,9 +87,9 @@ ceil-cuts = record { is = is; mono = mono; own = own }
     own true w = div-one w
     own false w = omega arith
 
-pub round-cuts : Cuts roundOf toNearest
+pub round-by-rule : ByRule roundOf toNearest
 unfolding roundOf
-round-cuts = record { is = is; mono = λ s a d b c D C h. div-mono (2 * a + d) (2 * d) (2 * b + c) (2 * c) (mul-pos (pow-pos 1) D) (mul-pos (pow-pos 1) C) (cross a d b c h); own = λ s w. omega arith }
+round-by-rule = record { is = is; mono = λ s a d b c D C h. div-mono (2 * a + d) (2 * d) (2 * b + c) (2 * c) (mul-pos (pow-pos 1) D) (mul-pos (pow-pos 1) C) (cross a d b c h); own = λ s w. omega arith }
   where
     is : (x : Float) → roundOf x ≡ wholeOf toNearest x
     is nan = refl
@@ -99,7 +100,7 @@ round-cuts = record { is = is; mono = λ s a d b c D C h. div-mono (2 * a + d) (
     cross a d b c h = omega arith
 
 -- ---- the laws
-module _ {g : Float → Float} {r : Rule} (R : Cuts g r) where
+module _ {g : Float → Float} {r : Rule} (R : ByRule g r) where
   same : (s : Bool) (a d b c : ℕ) → 0 < d → 0 < c → a * c ≡ b * d → r s a d ≡ r s b c
   same s a d b c D C h = le-antisymm (R .mono s a d b c D C (le-of-eq h)) (R .mono s b c a d C D (le-of-eq (sym h)))
 

@@ -1,4 +1,5 @@
--- The inverse projection in stages: the longitude of an abscissa, the exponential of an ordinate, and the latitude of that exponential's arc tangent.
+-- The inverse projection in stages: the longitude of an abscissa, the exponential of an ordinate, and the latitude of
+-- that exponential's arc tangent.
 use lib.Ieee.{Float, binary64, sub, mul, div}
 use Rattle.elementary.specs.Constants as K
 use Rattle.elementary.specs.Functions.{toDegreesOf, expOf}

@@ -19,7 +19,7 @@ use Rattle.elementary.specs.Laws.Codes.{encloses, enclosed}
 use Rattle.elementary.specs.Laws.Exponential.{exp-least, exp-in}
 use Rattle.elementary.specs.Laws.Arctangent.{atan-in}
 use Rattle.elementary.specs.Laws.Logarithm.{ln-least, ln-most}
-use Rattle.elementary.specs.Laws.Mercator.{slantOf, latitudeOf, c89·5, m89·5, latitude-in, ln-tan-in}
+use Rattle.elementary.specs.Laws.Mercator.{tanArgumentOf, latitudeOf, c89·5, m89·5, latitude-in, ln-tan-in}
 use Rattle.elementary.specs.Laws.Ordinate.{c85·06, m85·06, c3·1875, m3·1875, ordinate-in}
 use Rattle.geodesy.specs.declared.LonLat.{LonLat}
 use Rattle.geodesy.specs.declared.Metres.{Metres}
@@ -130,7 +130,7 @@ north-test = tt
 
 pub forward-north : (p : LonLat) → Between m85·06 c85·06 (p .lat) → Between low-edge edge (mercatorForwardOf p .y)
 unfolding mercatorForwardOf
-forward-north p i = enclosed north (iv m3·1875 c3·1875 ∷ []) (lnOf (tanOf (slantOf (p .lat))) ∷ []) low-edge edge north-test (ordinate-in (p .lat) i, tt)
+forward-north p i = enclosed north (iv m3·1875 c3·1875 ∷ []) (lnOf (tanOf (tanArgumentOf (p .lat))) ∷ []) low-edge edge north-test (ordinate-in (p .lat) i, tt)
 
 anchor-test : T (encloses north (iv ln-least ln-most ∷ []) (minus2^ 40) (plus2^ 40))
 unfolding ofBits mul le
@@ -140,4 +140,4 @@ pub forward-anchor : (p : LonLat) → Between m89·5 c89·5 (p .lat) → Within 
 unfolding mercatorForwardOf
 forward-anchor p i =
     between-within 40 (mercatorForwardOf p .y)
-    (enclosed north (iv ln-least ln-most ∷ []) (lnOf (tanOf (slantOf (p .lat))) ∷ []) (minus2^ 40) (plus2^ 40) anchor-test (ln-tan-in (slantOf (p .lat)) (latitude-in (p .lat) i), tt))
+    (enclosed north (iv ln-least ln-most ∷ []) (lnOf (tanOf (tanArgumentOf (p .lat))) ∷ []) (minus2^ 40) (plus2^ 40) anchor-test (ln-tan-in (tanArgumentOf (p .lat)) (latitude-in (p .lat) i), tt))

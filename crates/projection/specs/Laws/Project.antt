@@ -10,7 +10,7 @@ use Rattle.float.specs.Laws.Spans.{million, mMillion, plus2^, minus2^, within-b
 use Rattle.float.specs.Laws.Signed.{P, N, D}
 use Rattle.float.specs.Laws.Magnitude.{Within, wider}
 use Rattle.float.specs.Laws.Remainder.{Whole}
-use Rattle.float.specs.Laws.Whole.{round-cuts}
+use Rattle.float.specs.Laws.Whole.{round-by-rule}
 use Rattle.float.specs.Laws.Intervals.{Iv, iv, Between, in-finite}
 use Rattle.float.specs.Laws.Expressions.{Expr, var, minus, plus, less, times, AllIn}
 use Rattle.float.specs.Laws.Numbers.{half-within}
@@ -103,7 +103,7 @@ pub rounded-in : (k : ℕ) (c v : Float) → Whole c k → 2 * (10 ^ 9 * k) ≤ 
 unfolding round9Of
 rounded-in k c v h w i =
     spans-ends k c (round9Of v) h
-    (div-spans (10 ^ 9) billion (lit< tt) billion-whole (omega arith) (whole-spans round-cuts (omega arith) (mul-spans (10 ^ 9) billion billion-whole (omega arith) (ends-spans k c v h i))))
+    (div-spans (10 ^ 9) billion (lit< tt) billion-whole (omega arith) (whole-spans round-by-rule (omega arith) (mul-spans (10 ^ 9) billion billion-whole (omega arith) (ends-spans k c v h i))))
 
 whole-180 : Whole K.c180 180
 unfolding ofBits

@@ -1,10 +1,10 @@
--- `root::settle` meets its contract, by `settled`. Assumes nothing.
+-- `root::correct` meets its contract, by `corrected`. Assumes nothing.
 use Prim.Native.Nat.{ℕ, _-_}
 use native.Mathlib.Omega.{arith}
 use borrow.Author.Needs.{needs}
 use lib.Dec.{ltb}
 use mir.Val.{boolByte}
-use Rattle.root.proofs.Blocks.{Settled, settled}
+use Rattle.root.proofs.Blocks.{Corrected, corrected}
 use Rattle.root.proofs.correct.Statement.{statement}
 use Rattle.root.proofs.correct.Tie as tie
 
@@ -12,8 +12,8 @@ module _ (c : tie.Start) where
   abbrev over : ℕ
   over = boolByte (ltb (c .args .have) (c .args .need))
 
-  facts : Settled (c .args .top) (c .args .have) (c .args .need) over (c .args .top - over)
-  facts = settled (c .args .top) (c .args .have) (c .args .need) (search needs) (search needs)
+  facts : Corrected (c .args .top) (c .args .have) (c .args .need) over (c .args .top - over)
+  facts = corrected (c .args .top) (c .args .have) (c .args .need) (c .pre .not-more) (c .pre .not-less)
 
 cast-over : tie.Need-cast-over
 cast-over c = search needs

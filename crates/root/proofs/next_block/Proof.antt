@@ -42,7 +42,11 @@ mul-correct-3 : tie.Need-mul-correct-3
 mul-correct-3 c = omega (arith, sizes (c .before .pre), need-lt (c .before .pre))
 
 correct-requires : tie.Need-correct-requires
-correct-requires c κs = omega (arith, sizes (c .before .pre), have-lt (c .before .pre), need-lt (c .before .pre))
+correct-requires c κs =
+    let s = sizes (c .before .pre) in
+    let h = have-lt (c .before .pre) in
+    let n = need-lt (c .before .pre) in
+    record { top-small = omega arith; have-small = omega arith; not-more = omega arith; not-less = omega arith }
 
 returns : tie.Need-returns
 returns c = record { is = omega (arith, c .correct .ensures .0, balance (c .before .before .pre)); little = c .correct .ensures .1 }

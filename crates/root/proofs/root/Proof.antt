@@ -1,4 +1,5 @@
--- `root::root` meets its contract: the cases by pattern, and then what `split` and `whole_root` give. Assumes nothing.
+-- `root::root` meets its contract: the cases by pattern, and then what `decompose` and `whole_root` give. Assumes
+-- nothing.
 use borrow.Author.Needs.{needs}
 use mathlib.Core.Path.{_≡_, refl, sym, ap, _∙_, subst}
 use mathlib.Core.Bool.{false, not}
@@ -74,19 +75,19 @@ decompose-requires c κs = search needs
 mul-m : tie.Need-mul-m
 mul-m c = search needs
 
--- what `split` gave, and m after the `if`
+-- what `decompose` gave, and m after the `if`
 module _ (c : tie.Joined5) where
   abbrev start : tie.Start
   start = c .before .before .before .before .before .before .before
 
-  abbrev cut : tie.After-decompose
-  cut = c .before .before
+  abbrev decomposed : tie.After-decompose
+  decomposed = c .before .before
 
-  way : Evened (cut .decompose .result .m) (cut .decompose .result .e) (c .if5 .m)
-  way = ⊎-elim (λ w. inl (w .0 .taken, w .1)) (λ w. inr (w .0 .left, w .1)) (c .if5 .came)
+  even : Evened (decomposed .decompose .result .m) (decomposed .decompose .result .e) (c .if5 .m)
+  even = ⊎-elim (λ w. inl (w .0 .taken, w .1)) (λ w. inr (w .0 .left, w .1)) (c .if5 .came)
 
 whole-root-requires : tie.Need-whole-root-requires
-whole-root-requires c κs = m-in (cut c .decompose .ensures) (way c)
+whole-root-requires c κs = m-in (decomposed c .decompose .ensures) (even c)
 
 sub-result : tie.Need-sub-result
 sub-result c = search needs
@@ -100,7 +101,7 @@ module _ (c : tie.After-struct-known2) where
   joined = c .before .before
 
   small : c .before .whole-root .result < 2 ^ 54
-  small = p-hi (cut joined .decompose .ensures) (way joined) (c .before .whole-root .ensures)
+  small = p-hi (decomposed joined .decompose .ensures) (even joined) (c .before .whole-root .ensures)
 
 add-result : tie.Need-add-result
 add-result c = omega (arith, small c)
@@ -111,12 +112,12 @@ add-result-2 c = search needs
 float-from-bits-result : tie.Need-float-from-bits-result
 float-from-bits-result c =
     let j = joined c in
-    pattern-no-nan (cut j .decompose .ensures) (way j) (c .before .whole-root .ensures)
+    pattern-no-nan (decomposed j .decompose .ensures) (even j) (c .before .whole-root .ensures)
 
 returns-5 : tie.Need-returns-5
 returns-5 c =
     let j = joined c in
-    pattern-read (cut j .decompose .ensures) (way j) (c .before .whole-root .ensures) (omega arith) (cut j .before .if4 .left)
+    pattern-read (decomposed j .decompose .ensures) (even j) (c .before .whole-root .ensures) (omega arith) (decomposed j .before .if4 .left)
     ∙ ap rootOf (read (start j))
 
 pub root-spec : {M : Type 1} → statement M

@@ -1,4 +1,5 @@
--- `root::whole_root` meets its contract: the first block makes the guess exact, and each of the two that follow has a root of enough digits before it. Assumes nothing.
+-- `root::whole_root` meets its contract: the first block makes the guess exact, and each of the two that follow has a
+-- root of enough digits before it. Assumes nothing.
 use Prim.Native.Nat.{ℕ, _/_, _^_}
 use native.Mathlib.Omega.{arith}
 use borrow.Author.Needs.{needs}

@@ -17,6 +17,13 @@ pub record Guess (n root rem : ℕ) : Type 0 where
   pub some : 0 < root
   pub near : Near root rem 1
 
+-- the whole root of top * top + have - need is top or one less, and all that `correct` works out fits 64 bits
+pub record Correctable (top have need : ℕ) : Type 0 where
+  pub top-small : top < 2 ^ 60
+  pub have-small : have < 2 ^ 60
+  pub not-more : have ≤ need + 2 * top
+  pub not-less : need < have + 2 * top
+
 -- a block of digits can follow, b for 2 to their number and d for what comes down, and all fits 64 bits
 pub record BlockInput (root rem b d : ℕ) : Type 0 where
   pub near : Near root rem b

@@ -1,5 +1,5 @@
--- The root in its normal form: for n = a * 4 ^ j with a even and a whole root p of 54 digits, `rootAt n` is (p + 1) / 2 * 2 ^ j of the format's smallest values, whose pattern is
--- j * 2 ^ 52 + (p + 1) / 2. Assumes nothing.
+-- The root in its normal form: for n = a * 4 ^ j with a even and a whole root p of 54 digits, `rootAt n` is (p + 1) / 2
+-- * 2 ^ j of the format's smallest values, whose pattern is j * 2 ^ 52 + (p + 1) / 2. Assumes nothing.
 use mathlib.Core.Path.{_≡_, refl, sym, ap, _∙_, subst}
 use mathlib.Core.Logic.{_⊎_, inl, inr}
 use mathlib.Core.Bool.{Bool, true, false, not, cond}

@@ -1,4 +1,5 @@
--- The root of x lies on the side of `rootOf x` of each middle: first in numbers of units, then in fractions. Assumes nothing.
+-- The root of x lies on the side of `rootOf x` of each middle: first in numbers of units, then in fractions. Assumes
+-- nothing.
 use mathlib.Core.Path.{_≡_, refl, sym, ap, _∙_, subst}
 use mathlib.Core.Logic.{_⊎_, inl, inr}
 use mathlib.Core.Bool.{Bool, true, false, not, true≢false}

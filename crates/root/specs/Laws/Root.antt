@@ -1,4 +1,5 @@
--- Laws of `rootOf` for callers: it is the nearest value to the root, its cases, what the format holds, the order, and bounds. Assumes nothing.
+-- Laws of `rootOf` for callers: it is the nearest value to the root, its cases, what the format holds, the order, and
+-- bounds. Assumes nothing.
 use mathlib.Core.Path.{_≡_, refl, ap, subst}
 use mathlib.Core.Logic.{_⊎_, inl, inr}
 use mathlib.Core.Bool.{Bool, true, false, cond}
@@ -63,7 +64,7 @@ root-fits (fin false (suc m) e) h = rootAt-fits (scaled (suc m) e)
 pub root-nearest : (x : Float) → T (positive x) → T (fits binary64 x) → Nearest x (rootOf x)
 root-nearest = is-nearest
 
--- And whatever value of the format is so near is `rootOf x`.
+-- A value of the format that is nearest to the root of x is `rootOf x`.
 pub the-nearest : (x z : Float) → T (positive x) → T (fits binary64 x) → T (plain z) → T (fits binary64 z) → Nearest x z → z ≡ rootOf x
 the-nearest x z p f q g M = is-only x z p f q g (root-fits x f) M
 

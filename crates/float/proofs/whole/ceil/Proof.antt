@@ -3,8 +3,8 @@ use mathlib.Core.Path.{_≡_, _∙_}
 use mathlib.Core.Bool.{true}
 use lib.Ieee.{binary64, fits, toBits}
 use Rattle.float.specs.Contracts.Fraction.{HasFraction}
-use Rattle.float.specs.Laws.Whole.{ceil-cuts}
-use Rattle.float.proofs.Cutting.{above-number, large-own, small-ceil, cut-ceil, up-to-zero}
+use Rattle.float.specs.Laws.Whole.{ceil-by-rule}
+use Rattle.float.proofs.Fractions.{above-number, large-own, small-ceil, ceil-cleared, up-to-zero}
 use Rattle.float.proofs.whole.ceil.Statement.{statement}
 use Rattle.float.proofs.whole.ceil.Tie as tie
 
@@ -15,16 +15,16 @@ float-to-bits-b : tie.Need-float-to-bits-b
 float-to-bits-b c = above-number (c .before .args .x) (c .if1 .taken)
 
 returns : tie.Need-returns
-returns c = large-own (c .before .before .args .x) (held (c .before .before)) ceil-cuts (c .if2 .taken)
+returns c = large-own (c .before .before .args .x) (held (c .before .before)) ceil-by-rule (c .if2 .taken)
 
 returns-2 : tie.Need-returns-2
 returns-2 c = small-ceil (c .before .before .before .args .x) (held (c .before .before .before)) (c .before .before .if1 .taken) (c .if3 .taken)
 
-point : (c : tie.Else3) → HasFraction (toBits binary64 (c .before .before .before .args .x))
-point c = record { low = c .if3 .left; high = c .before .if2 .left }
+fraction : (c : tie.Else3) → HasFraction (toBits binary64 (c .before .before .before .args .x))
+fraction c = record { low = c .if3 .left; high = c .before .if2 .left }
 
 unit-requires : tie.Need-unit-requires
-unit-requires c κs = point c
+unit-requires c κs = fraction c
 
 sub-clear-fraction : tie.Need-sub-clear-fraction
 sub-clear-fraction c = search needs
@@ -34,7 +34,7 @@ clear-fraction-requires c κs = search needs
 
 returns-3 : tie.Need-returns-3
 returns-3 c =
-    cut-ceil (c .before .before .before .before .before .args .x) (held (c .before .before .before .before .before)) (point (c .before .before)) (c .clear-fraction .result)
+    ceil-cleared (c .before .before .before .before .before .args .x) (held (c .before .before .before .before .before)) (fraction (c .before .before)) (c .clear-fraction .result)
     (c .before .unit .result) (c .before .before .before .before .if1 .taken) (c .before .unit .ensures .is) (c .clear-fraction .ensures)
 
 trunc-requires : tie.Need-trunc-requires

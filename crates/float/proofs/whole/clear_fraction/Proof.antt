@@ -6,7 +6,7 @@ use native.Mathlib.Nat.{mod-le}
 use native.Mathlib.Omega.{arith}
 use lib.Dec.{T}
 use lib.Ieee.{binary64, ofBits, nanBits}
-use Rattle.float.proofs.Cutting.{cut-reads, cut-no-nan}
+use Rattle.float.proofs.Fractions.{cleared-reads, cleared-no-nan}
 use Rattle.float.proofs.whole.clear_fraction.Statement.{statement}
 use Rattle.float.proofs.whole.clear_fraction.Tie as tie
 
@@ -29,13 +29,13 @@ float-from-bits-result : tie.Need-float-from-bits-result
 float-from-bits-result c =
     let b = c .before .args .b in
     let h = c .before .args .h in
-    subst (λ (u : ℕ). T (not (nanBits binary64 (b + h - (b + h) % u)))) (sym (c .unit .ensures .is)) (cut-no-nan b (c .before .pre .0) (wide (c .before)) h (c .before .pre .1))
+    subst (λ (u : ℕ). T (not (nanBits binary64 (b + h - (b + h) % u)))) (sym (c .unit .ensures .is)) (cleared-no-nan b (c .before .pre .0) (wide (c .before)) h (c .before .pre .1))
 
 returns : tie.Need-returns
 returns c =
     let b = c .before .args .b in
     let h = c .before .args .h in
-    ap (λ (u : ℕ). ofBits binary64 (b + h - (b + h) % u)) (c .unit .ensures .is) ∙ cut-reads b (c .before .pre .0) (wide (c .before)) h (c .before .pre .1)
+    ap (λ (u : ℕ). ofBits binary64 (b + h - (b + h) % u)) (c .unit .ensures .is) ∙ cleared-reads b (c .before .pre .0) (wide (c .before)) h (c .before .pre .1)
 
 pub clear-fraction-spec : {M : Type 1} → statement M
 clear-fraction-spec =

@@ -1,5 +1,5 @@
 use borrow.Author.Needs.{needs}
-use Rattle.float.proofs.Cutting.{unit-is}
+use Rattle.float.proofs.Fractions.{unit-is}
 use Rattle.float.proofs.whole.unit.Statement.{statement}
 use Rattle.float.proofs.whole.unit.Tie as tie
 

@@ -1,5 +1,5 @@
--- What `trunc`, `ceil` and `round` make of their argument's pattern, by its exponent's field: below 1023 the value is below 1, from 1075 on it has no fraction, and
--- between those it is cut at the point. Assumes nothing.
+-- What `trunc`, `ceil` and `round` make of their argument's pattern, by its exponent's field: below 1023 the value is
+-- below 1, from 1075 on it has no fraction, and between those its fraction is cleared. Assumes nothing.
 use mathlib.Core.Path.{_≡_, refl, sym, ap, _∙_, subst}
 use mathlib.Core.Logic.{_⊎_, inl, inr}
 use mathlib.Core.Bool.{Bool, true, false, not, cond}
@@ -19,7 +19,7 @@ use Rattle.float.specs.Contracts.Fraction.{HasFraction, IsUnit, signOf, 
 use Rattle.float.specs.Functions.{wholeAt, truncOf, ceilOf, roundOf}
 use Rattle.float.specs.Laws.Tests.{yes, nan-test}
 use Rattle.float.specs.Laws.Fields.{of-fields, pattern-value, pattern-reads}
-use Rattle.float.specs.Laws.Whole.{Rule, Cuts, upward, trunc-cuts, ceil-cuts, round-cuts, whole-at, whole-own}
+use Rattle.float.specs.Laws.Whole.{Rule, ByRule, upward, trunc-by-rule, ceil-by-rule, round-by-rule, whole-at, whole-own}
 
 -- ---- a value and its pattern
 -- k taken out of a fraction, or put in
@@ -84,21 +84,21 @@ module _ (b : ℕ) where
   abbrev n : ℕ
   n = unitsAt (fieldOf b) (b % 2 ^ 52)
 
-  by-units : {g : Float → Float} {r : Rule} → Cuts g r → fieldOf b < 2047 → g (ofBits binary64 b) ≡ wholeAt (signOf b) (r (signOf b) n (2 ^ 1074))
+  by-units : {g : Float → Float} {r : Rule} → ByRule g r → fieldOf b < 2047 → g (ofBits binary64 b) ≡ wholeAt (signOf b) (r (signOf b) n (2 ^ 1074))
   by-units R h = whole-at R (ofBits binary64 b) (signOf b) n (2 ^ 1074) (pow-pos 1074) (pattern-value b h)
 
   trunc-small : fieldOf b < 1023 → truncOf (ofBits binary64 b) ≡ wholeAt (signOf b) 0
-  trunc-small h = by-units trunc-cuts (lt-of-lt-of-le h (lit≤ tt)) ∙ ap (wholeAt (signOf b)) (div-eq-of-lt (units-lt (fieldOf b) (b % 2 ^ 52) 1022 (omega arith) (omega arith)))
+  trunc-small h = by-units trunc-by-rule (lt-of-lt-of-le h (lit≤ tt)) ∙ ap (wholeAt (signOf b)) (div-eq-of-lt (units-lt (fieldOf b) (b % 2 ^ 52) 1022 (omega arith) (omega arith)))
 
   round-small : fieldOf b < 1022 → roundOf (ofBits binary64 b) ≡ wholeAt (signOf b) 0
-  round-small h = by-units round-cuts (lt-of-lt-of-le h (lit≤ tt)) ∙ ap (wholeAt (signOf b)) (under n (2 ^ 1073) (units-lt (fieldOf b) (b % 2 ^ 52) 1021 (omega arith) (omega arith)))
+  round-small h = by-units round-by-rule (lt-of-lt-of-le h (lit≤ tt)) ∙ ap (wholeAt (signOf b)) (under n (2 ^ 1073) (units-lt (fieldOf b) (b % 2 ^ 52) 1021 (omega arith) (omega arith)))
     where
       under : (n p : ℕ) → n < p → (2 * n + 2 * p) / (2 * (2 * p)) ≡ 0
       under n p h = div-eq-of-lt (omega arith)
 
   round-half : fieldOf b ≡ 1022 → roundOf (ofBits binary64 b) ≡ wholeAt (signOf b) 1
   round-half h =
-      by-units round-cuts (lt-of-le-of-lt (le-of-eq h) (lit< tt))
+      by-units round-by-rule (lt-of-le-of-lt (le-of-eq h) (lit< tt))
       ∙ ap (wholeAt (signOf b)) (between n (2 ^ 1073) (subst (λ (f : ℕ). 2 ^ 1073 ≤ unitsAt f (b % 2 ^ 52)) (sym h) (full (b % 2 ^ 52))) (units-lt (fieldOf b) (b % 2 ^ 52) 1022 (omega arith) (le-of-eq h)))
     where
       full : (t : ℕ) → 2 ^ 1073 ≤ (2 ^ 52 + t) * 2 ^ 1021
@@ -124,7 +124,7 @@ normal b c i j P h e g =
     (subst (λ (z : ℕ). HasValue (ofBits binary64 b) (signOf b) (unitsAt (fieldOf b) (b % 2 ^ 52)) z) (sym g) (pattern-value b h)))
 
 -- no fraction, an infinity, or no number
-large : {g : Float → Float} {r : Rule} → Cuts g r → (b : ℕ) → 1075 ≤ fieldOf b → g (ofBits binary64 b) ≡ ofBits binary64 b
+large : {g : Float → Float} {r : Rule} → ByRule g r → (b : ℕ) → 1075 ≤ fieldOf b → g (ofBits binary64 b) ≡ ofBits binary64 b
 large {g} R b l = go (eq-or-lt-of-le (top b))
   where
     top : (b : ℕ) → b / 2 ^ 52 % 2048 ≤ 2047
@@ -151,13 +151,13 @@ module _ (b : ℕ) (p : HasFraction b) where
       sum : (f : ℕ) → 1023 ≤ f → f < 1075 → 1075 - f + (f - 1) ≡ 1074
       sum f l h = omega arith
 
-  pointed-value : HasValue (ofBits binary64 b) (signOf b) (digitsOf b) (unitOf b)
-  pointed-value =
+  fraction-value : HasValue (ofBits binary64 b) (signOf b) (digitsOf b) (unitOf b)
+  fraction-value =
       subst (λ (z : ℕ). HasValue (ofBits binary64 b) (signOf b) z (unitOf b)) (mul-one (digitsOf b))
       (normal b (unitOf b) 0 (fieldOf b - 1) (lt-of-lt-of-le (lit< tt) (p .low)) (lt-of-lt-of-le (p .high) (lit≤ tt)) (omega arith) shift)
 
-  pointed : {g : Float → Float} {r : Rule} → Cuts g r → g (ofBits binary64 b) ≡ wholeAt (signOf b) (r (signOf b) (digitsOf b) (unitOf b))
-  pointed R = whole-at R (ofBits binary64 b) (signOf b) (digitsOf b) (unitOf b) (pow-pos (1075 - fieldOf b)) pointed-value
+  fraction-whole : {g : Float → Float} {r : Rule} → ByRule g r → g (ofBits binary64 b) ≡ wholeAt (signOf b) (r (signOf b) (digitsOf b) (unitOf b))
+  fraction-whole R = whole-at R (ofBits binary64 b) (signOf b) (digitsOf b) (unitOf b) (pow-pos (1075 - fieldOf b)) fraction-value
 
   -- 2 ^ 52 in ones
   v : ℕ
@@ -187,11 +187,11 @@ module _ (b : ℕ) (p : HasFraction b) where
         room : (v u : ℕ) → v * u ≡ 2 ^ 52 → h < u → digitsOf b + h < suc (2 * v) * u
         room v u e k = omega arith
 
-    cut-few : w ≤ 2 ^ 53
-    cut-few = le-trans (le-of-eq (sym (mul-one w))) (le-trans (mul-le-mul-left w unit-pos) most)
+    cleared-few : w ≤ 2 ^ 53
+    cleared-few = le-trans (le-of-eq (sym (mul-one w))) (le-trans (mul-le-mul-left w unit-pos) most)
 
-    cut-is : b + h - (b + h) % unitOf b ≡ cond (signOf b) (2 ^ 63) 0 + (fieldOf b - 1) * 2 ^ 52 + w * unitOf b
-    cut-is =
+    cleared-is : b + h - (b + h) % unitOf b ≡ cond (signOf b) (2 ^ 63) 0 + (fieldOf b - 1) * 2 ^ 52 + w * unitOf b
+    cleared-is =
         ap (λ (z : ℕ). z - z % unitOf b) front
         ∙ ap (λ (z : ℕ). (b / 2 ^ 52 - 1) * v * unitOf b + (digitsOf b + h) - z) (mul-add-mod-self-right ((b / 2 ^ 52 - 1) * v) (unitOf b) (digitsOf b + h))
         ∙ rest ((b / 2 ^ 52 - 1) * v * unitOf b) (digitsOf b + h) (w * unitOf b) ((digitsOf b + h) % unitOf b) (div-add-mod' (digitsOf b + h) (unitOf b))
@@ -212,17 +212,17 @@ module _ (b : ℕ) (p : HasFraction b) where
         fields : (b : ℕ) → 1023 ≤ b / 2 ^ 52 % 2048 → (b / 2 ^ 52 - 1) * 2 ^ 52 ≡ b / 2 ^ 63 * 2 ^ 63 + (b / 2 ^ 52 % 2048 - 1) * 2 ^ 52
         fields b l = omega arith
 
-    pub cut-reads : ofBits binary64 (b + h - (b + h) % unitOf b) ≡ wholeAt (signOf b) ((digitsOf b + h) / unitOf b)
-    cut-reads =
-        ap (ofBits binary64) cut-is
+    pub cleared-reads : ofBits binary64 (b + h - (b + h) % unitOf b) ≡ wholeAt (signOf b) ((digitsOf b + h) / unitOf b)
+    cleared-reads =
+        ap (ofBits binary64) cleared-is
         ∙ pattern-reads (wholeAt (signOf b) w) (signOf b) (w * unitOf b) (fieldOf b - 1) (round-fits binary64 (signOf b) w 1) least most
         (subst (λ (z : ℕ). HasValue (wholeAt (signOf b) w) (signOf b) z (2 ^ 1074)) (ap (λ (z : ℕ). w * z) (sym shift) ∙ sym (mul-assoc w (unitOf b) (2 ^ (fieldOf b - 1))))
-        (expand (wholeAt (signOf b) w) (signOf b) w 1 (2 ^ 1074) (round-whole binary64 (signOf b) w cut-few)))
+        (expand (wholeAt (signOf b) w) (signOf b) w 1 (2 ^ 1074) (round-whole binary64 (signOf b) w cleared-few)))
 
-    pub cut-no-nan : T (not (nanBits binary64 (b + h - (b + h) % unitOf b)))
-    cut-no-nan = whole-no-nan (b + h - (b + h) % unitOf b) (signOf b) w cut-few cut-reads
+    pub cleared-no-nan : T (not (nanBits binary64 (b + h - (b + h) % unitOf b)))
+    cleared-no-nan = whole-no-nan (b + h - (b + h) % unitOf b) (signOf b) w cleared-few cleared-reads
 
--- u / 2 more and cut is the nearest, for an even u
+-- the fraction cleared after u / 2 is added: the nearest whole number, for an even u
 nearest-at : (m k : ℕ) → 0 < k → (m + 2 ^ k / 2) / 2 ^ k ≡ (2 * m + 2 ^ k) / (2 * 2 ^ k)
 nearest-at m zero K = absurd (lt-irrefl 0 K)
 nearest-at m (suc k) K =
@@ -287,7 +287,7 @@ ceil-small : (b : ℕ) → above (ofBits binary64 b) ≡ true → fieldOf b < 10
 ceil-small b h k =
     let F : fieldOf b < 2047 = lt-of-lt-of-le k (lit≤ tt) in
     let v = above-value (ofBits binary64 b) (signOf b) (n b) (2 ^ 1074) h (pow-pos 1074) (pattern-value b F) in
-    by-units b ceil-cuts F
+    by-units b ceil-by-rule F
     ∙ ap (λ (s : Bool). wholeAt s (upward s (n b) (2 ^ 1074))) (v .0)
     ∙ ap (wholeAt false) (one (n b) (2 ^ 1074) (v .1) (units-lt (fieldOf b) (b % 2 ^ 52) 1022 (omega arith) (omega arith)))
     ∙ is-one
@@ -299,7 +299,7 @@ ceil-small b h k =
     is-one = unfold ofBits round in refl
 
 -- ---- the argument and its pattern
-pub nan-own : {g : Float → Float} {r : Rule} → Cuts g r → (x : Float) → ne x x ≡ true → x ≡ g x
+pub nan-own : {g : Float → Float} {r : Rule} → ByRule g r → (x : Float) → ne x x ≡ true → x ≡ g x
 nan-own {g} R x h =
     let e : x ≡ nan = differs-from-itself x (yes _ h) in
     e ∙ sym (R .is nan) ∙ ap g (sym e)
@@ -323,7 +323,7 @@ module _ (x : Float) (held : fits binary64 x ≡ true) where
   pub one-no-nan : T (not (nanBits binary64 (b / 2 ^ 63 * 2 ^ 63 + 0x3ff0000000000000)))
   one-no-nan = whole-no-nan (b / 2 ^ 63 * 2 ^ 63 + 0x3ff0000000000000) (signOf b) 1 (lit≤ tt) (reads-one b wide)
 
-  pub large-own : {g : Float → Float} {r : Rule} → Cuts g r → 1075 ≤ fieldOf b → x ≡ g x
+  pub large-own : {g : Float → Float} {r : Rule} → ByRule g r → 1075 ≤ fieldOf b → x ≡ g x
   large-own {g} R h = subst (λ (v : Float). v ≡ g v) reads (sym (large R b h))
 
   pub small-trunc : fieldOf b < 1023 → ofBits binary64 (b / 2 ^ 63 * 2 ^ 63) ≡ truncOf x
@@ -339,21 +339,21 @@ module _ (x : Float) (held : fits binary64 x ≡ true) where
   small-ceil h k = sym (ceil-small b (ap above reads ∙ h) k) ∙ ap ceilOf reads
 
   module _ (p : HasFraction b) (z : Float) where
-    pub cut-trunc : z ≡ wholeAt (signOf b) ((digitsOf b + 0) / unitOf b) → z ≡ truncOf x
-    cut-trunc e = e ∙ ap (λ (d : ℕ). wholeAt (signOf b) (d / unitOf b)) (add-zero (digitsOf b)) ∙ sym (pointed b p trunc-cuts) ∙ ap truncOf reads
+    pub trunc-cleared : z ≡ wholeAt (signOf b) ((digitsOf b + 0) / unitOf b) → z ≡ truncOf x
+    trunc-cleared e = e ∙ ap (λ (d : ℕ). wholeAt (signOf b) (d / unitOf b)) (add-zero (digitsOf b)) ∙ sym (fraction-whole b p trunc-by-rule) ∙ ap truncOf reads
 
-    pub cut-round : (h : ℕ) → h ≡ unitOf b / 2 → z ≡ wholeAt (signOf b) ((digitsOf b + h) / unitOf b) → z ≡ roundOf x
-    cut-round h f e = e ∙ ap (wholeAt (signOf b)) (ap (λ (k : ℕ). (digitsOf b + k) / unitOf b) f ∙ nearest-at (digitsOf b) (1075 - fieldOf b) (some (fieldOf b) (p .high))) ∙ sym (pointed b p round-cuts) ∙ ap roundOf reads
+    pub round-cleared : (h : ℕ) → h ≡ unitOf b / 2 → z ≡ wholeAt (signOf b) ((digitsOf b + h) / unitOf b) → z ≡ roundOf x
+    round-cleared h f e = e ∙ ap (wholeAt (signOf b)) (ap (λ (k : ℕ). (digitsOf b + k) / unitOf b) f ∙ nearest-at (digitsOf b) (1075 - fieldOf b) (some (fieldOf b) (p .high))) ∙ sym (fraction-whole b p round-by-rule) ∙ ap roundOf reads
       where
         some : (f : ℕ) → f < 1075 → 0 < 1075 - f
         some f h = omega arith
 
-    pub cut-ceil : (u : ℕ) → above x ≡ true → u ≡ unitOf b → z ≡ wholeAt (signOf b) ((digitsOf b + (u - 1)) / unitOf b) → z ≡ ceilOf x
-    cut-ceil u h f e =
-        let s : signOf b ≡ false = above-value (ofBits binary64 b) (signOf b) (digitsOf b) (unitOf b) (ap above reads ∙ h) (pow-pos (1075 - fieldOf b)) (pointed-value b p) .0 in
+    pub ceil-cleared : (u : ℕ) → above x ≡ true → u ≡ unitOf b → z ≡ wholeAt (signOf b) ((digitsOf b + (u - 1)) / unitOf b) → z ≡ ceilOf x
+    ceil-cleared u h f e =
+        let s : signOf b ≡ false = above-value (ofBits binary64 b) (signOf b) (digitsOf b) (unitOf b) (ap above reads ∙ h) (pow-pos (1075 - fieldOf b)) (fraction-value b p) .0 in
         e
         ∙ ap (λ (k : ℕ). wholeAt (signOf b) ((digitsOf b + (k - 1)) / unitOf b)) f
         ∙ ap (λ (t : Bool). wholeAt t ((digitsOf b + (unitOf b - 1)) / unitOf b)) s
         ∙ sym (ap (λ (t : Bool). wholeAt t (upward t (digitsOf b) (unitOf b))) s)
-        ∙ sym (pointed b p ceil-cuts)
+        ∙ sym (fraction-whole b p ceil-by-rule)
         ∙ ap ceilOf reads

@@ -1,4 +1,4 @@
--- How `split` takes a pattern apart. Assumes nothing.
+-- How `decompose` takes a pattern apart. Assumes nothing.
 use mathlib.Core.Path.{_≡_, refl, sym, ap, _∙_, subst}
 use Prim.Native.Nat.{ℕ, zero, suc, _+_, _-_, _*_, _/_, _%_, _^_, _≤_, _<_}
 use native.Mathlib.Nat.{le-trans, le-of-eq, lt-of-lt-of-le, lt-of-not-le, lt-irrefl, mul-assoc, mul-le-mul-right, mul-lt-mul-of-pos-right, mod-eq-of-lt}
@@ -55,8 +55,8 @@ module _ (t : ℕ) (p : 0 < t) (h : t < 2 ^ 52) where
   back : (z : ℕ) → z ≤ 52 → z + (1076 - z) ≡ 1076
   back z l = omega arith
 
-  pub split-low : (b : ℕ) → b / 2 ^ 52 ≡ 0 → b % 2 ^ 52 ≡ t → Decomposition b (t * 2 ^ shift t % 2 ^ 64) (1076 - shift t)
-  split-low b e f = record {
+  pub decompose-low : (b : ℕ) → b / 2 ^ 52 ≡ 0 → b % 2 ^ 52 ≡ t → Decomposition b (t * 2 ^ shift t % 2 ^ 64) (1076 - shift t)
+  decompose-low b e f = record {
     value =
         ap (λ (x : ℕ). unitsAt x (b % 2 ^ 52) * 2 ^ 1076) e
         ∙ ap (λ (x : ℕ). x * 2 ^ 1076) f
@@ -69,8 +69,8 @@ module _ (t : ℕ) (p : 0 < t) (h : t < 2 ^ 52) where
     high = omega arith;
   }
 
-split-high : (b k : ℕ) → b / 2 ^ 52 ≡ suc k → k < 2046 → Decomposition b (2 ^ 52 + b % 2 ^ 52) (1075 + b / 2 ^ 52)
-split-high b k e l = record {
+decompose-high : (b k : ℕ) → b / 2 ^ 52 ≡ suc k → k < 2046 → Decomposition b (2 ^ 52 + b % 2 ^ 52) (1075 + b / 2 ^ 52)
+decompose-high b k e l = record {
   value =
       ap (λ (x : ℕ). unitsAt x (b % 2 ^ 52) * 2 ^ 1076) e
       ∙ mul-assoc (2 ^ 52 + b % 2 ^ 52) (2 ^ k) (2 ^ 1076)
@@ -84,9 +84,9 @@ split-high b k e l = record {
     count : (k f : ℕ) → f ≡ suc k → k + 1076 ≡ 1075 + f
     count k f e = omega arith
 
-pub split-normal : (b : ℕ) → b < 2047 * 2 ^ 52 → (b / 2 ^ 52 ≡ 0 → ⊥) → Decomposition b (2 ^ 52 + b % 2 ^ 52) (1075 + b / 2 ^ 52)
-split-normal b h n = go (b / 2 ^ 52) refl
+pub decompose-normal : (b : ℕ) → b < 2047 * 2 ^ 52 → (b / 2 ^ 52 ≡ 0 → ⊥) → Decomposition b (2 ^ 52 + b % 2 ^ 52) (1075 + b / 2 ^ 52)
+decompose-normal b h n = go (b / 2 ^ 52) refl
   where
     go : (f : ℕ) → b / 2 ^ 52 ≡ f → Decomposition b (2 ^ 52 + b % 2 ^ 52) (1075 + b / 2 ^ 52)
     go zero e = absurd (n e)
-    go (suc k) e = split-high b k e (omega arith)
+    go (suc k) e = decompose-high b k e (omega arith)

@@ -2,11 +2,11 @@ use borrow.Author.Needs.{needs}
 use mathlib.Core.Path.{_≡_, refl, ap, _∙_}
 use Prim.Native.Nat.{min}
 use Rattle.budget.specs.Budget.{grantOf, takeOf}
-use Rattle.budget.proofs.take.Statement.{statement}
-use Rattle.budget.proofs.take.Tie as tie
+use Rattle.budget.proofs.Budget.take.Statement.{statement}
+use Rattle.budget.proofs.Budget.take.Tie as tie
 
 -- the grant, as the calls gave it
-grant : (c : tie.After-lesser) → c .lesser .result ≡ grantOf (c .before .before .args .b .left) (c .before .before .args .wanted) (c .before .before .args .floor)
+grant : (c : tie.After-lesser) → c .lesser .result ≡ grantOf (c .before .before .args .self .left) (c .before .before .args .wanted) (c .before .before .args .floor)
 unfolding grantOf
 grant c = c .lesser .ensures ∙ ap (min (c .before .before .args .wanted)) (c .before .greater .ensures)
 
