@@ -40,7 +40,7 @@ fn repeat_first_position(out: &mut [f64], from: usize, to: usize)
 }
 
 // The points that a polyline left behind `at`, as d tells, become the positions of a line or a ring where they stand: carried to the Earth, and a ring's last the first.
-fn place_positions(
+fn project_and_close(
     t: Projection,
     geometry: u32,
     positions: &mut [f64],
@@ -55,17 +55,17 @@ fn place_positions(
     }
     let end = at + d.at;
     let left = d.budget;
-    let placed = PointCursor {
+    let closed = PointCursor {
         ok: d.ok,
         at: end,
         budget: left,
     };
     project_points(t, positions, at, end);
     if geometry != 2 {
-        return placed;
+        return closed;
     }
     repeat_first_position(positions, at, end);
-    placed
+    closed
 }
 
 // The line of a feature whose positions stand from st.positions to `to`.
@@ -133,17 +133,17 @@ pub fn stroke(
         &mut positions[at..],
         0,
     );
-    let placed = place_positions(cx.projection, geometry, positions, at, d);
-    if !placed.ok {
+    let closed = project_and_close(cx.projection, geometry, positions, at, d);
+    if !closed.ok {
         return out_of_room(st, 16);
     }
     finish(
         p,
         geometry,
         role,
-        placed.at,
-        ((placed.at - at) / 2) as u32,
-        placed.budget,
+        closed.at,
+        ((closed.at - at) / 2) as u32,
+        closed.budget,
         features,
         st,
     )

@@ -142,29 +142,29 @@ repeated-written {q} {q₂ = q₂} {at = at} {m = m} {r = r} one fits some there
 
 -- ---- a polyline's points become the positions of a line or a ring
 module _ (t : Projection) (geometry : ℕ) where
-  abbrev pub placing : List Point → List Point
-  placing ps = positionsOf geometry (map (projectPoint t) ps)
+  abbrev pub projectAndClose : List Point → List Point
+  projectAndClose ps = positionsOf geometry (map (projectPoint t) ps)
 
-  placing-length : (ps : List Point) → length (placing ps) ≡ length ps
-  placing-length ps = go (eqb geometry 2)
+  positions-length : (ps : List Point) → length (projectAndClose ps) ≡ length ps
+  positions-length ps = go (eqb geometry 2)
     where
       go : (x : Bool) → length (cond x (firstRepeated (map (projectPoint t) ps)) (map (projectPoint t) ps)) ≡ length ps
       go true = sealed-length (map (projectPoint t) ps) ∙ length-map ps (projectPoint t)
       go false = length-map ps (projectPoint t)
 
   module _ {q q₁ : List Float} {at : ℕ} {m : Made} {d : PointCursor} (one : Written q q₁ at m d) where
-    pub place-short : (r : PointCursor) → d .ok ≡ false → r .ok ≡ false → Written q q₁ at (onPoints placing m) r
-    place-short r short shut = still-short one (onPoints placing m) r short shut (omega (arith, placing-length (m .points)))
+    pub close-short : (r : PointCursor) → d .ok ≡ false → r .ok ≡ false → Written q q₁ at (onPoints projectAndClose m) r
+    close-short r short shut = still-short one (onPoints projectAndClose m) r short shut (omega (arith, positions-length (m .points)))
 
     module _ {q₂ : List Float} (fits : d .ok ≡ true) (there : q₂ ≡ inPlace (projectPoint t) q₁ at (d .at)) where
       on-earth : Written q q₂ at (onPoints (map (projectPoint t)) m) d
       on-earth = mapped-written (projectPoint t) one fits there
 
-      pub place-line : (geometry ≡ 2 → ⊥) → Written q q₂ at (onPoints placing m) d
-      place-line line = rw (ne-eqb geometry 2 line) on-earth
+      pub close-line : (geometry ≡ 2 → ⊥) → Written q q₂ at (onPoints projectAndClose m) d
+      close-line line = rw (ne-eqb geometry 2 line) on-earth
 
-      pub place-ring : geometry ≡ 2 → at + 2 ≤ d .at → {q₃ : List Float} → q₃ ≡ firstRepeatedIn q₂ at (d .at) → Written q q₃ at (onPoints placing m) d
-      place-ring ring some last = rw (eq-eqb geometry 2 ring) (repeated-written on-earth fits some last)
+      pub close-ring : geometry ≡ 2 → at + 2 ≤ d .at → {q₃ : List Float} → q₃ ≡ firstRepeatedIn q₂ at (d .at) → Written q q₃ at (onPoints projectAndClose m) d
+      close-ring ring some last = rw (eq-eqb geometry 2 ring) (repeated-written on-earth fits some last)
 
 -- ---- how many points a stroke makes
 -- a stroke's points on the canvas, and its positions
@@ -172,7 +172,7 @@ abbrev pub strokePoints : Ctx → List Point → Budget → Made
 strokePoints cx ps b = densifyPolylineOf (cx .step) (cx .projection .registration .scale) ps b
 
 abbrev pub strokeMade : Ctx → ℕ → List Point → Budget → Made
-strokeMade cx geometry ps b = onPoints (placing (cx .projection) geometry) (strokePoints cx ps b)
+strokeMade cx geometry ps b = onPoints (projectAndClose (cx .projection) geometry) (strokePoints cx ps b)
 
 module _ (cx : Ctx) (w : List Float) (from to : ℕ) (b : Budget) where
   abbrev between : List Point
@@ -183,7 +183,7 @@ module _ (cx : Ctx) (w : List Float) (from to : ℕ) (b : Budget) where
 
   pub stroke-few : (geometry : ℕ) → to ≤ longest → b .left ≤ most → length (strokeMade cx geometry between b .points) ≤ most + longest
   stroke-few geometry h left =
-      rw (placing-length (cx .projection) geometry (strokePoints cx between b .points))
+      rw (positions-length (cx .projection) geometry (strokePoints cx between b .points))
       (omega (arith, points-between w from to, densify-sized (cx .step) (cx .projection .registration .scale) between b))
 
 -- ---- a stroke as the code draws it
@@ -193,7 +193,7 @@ module _ (cx : Ctx) (p : Props) (geometry role : ℕ) (ps : List Point) (work : 
   made = strokePoints cx ps (st .budget)
 
   abbrev drawn : List Point
-  drawn = placing (cx .projection) geometry (made .points)
+  drawn = projectAndClose (cx .projection) geometry (made .points)
 
   pub stroke-lacks : {r : State} → d .ok ≡ false → Restated st 16 (st .budget) r
       → Applied (strokeOf cx p geometry role ps (st .budget)) (outputBy work q f v st) (outputBy work q₁ f v r) (r .budget)

@@ -49,20 +49,20 @@ whole c =
     let b = c .before .before .before .before .before .before .before in
     tail-written (b .args .positions .now) (b .args .st .positions) (b .pre .3) {m = sampled b} (c .densify-polyline .ensures)
 
-place-positions-requires : tie.Need-place-positions-requires
-place-positions-requires c κs fits =
+project-and-close-requires : tie.Need-project-and-close-requires
+project-and-close-requires c κs fits =
     let a = c .before .before .before in
     let b = c .before .before .before .before .before .before .before .before .before .before in
     (omega (arith, whole a .next fits, flats-length (sampled b .points), stroke-some (b .args .cx) (b .args .work .now) (b .args .from) (b .args .to) (b .args .st .budget) (b .pre .0)), next-in (whole a) fits)
 
 -- what it then holds
-placed : (c : tie.After-place-positions) → let b = c .before .before .before .before .before .before .before .before .before .before .before in
-    Written (b .args .positions .now) (c .place-positions .last .1 .1 .0) (b .args .st .positions) (made b) (c .place-positions .result)
-placed c = c .place-positions .ensures _ _ (whole (c .before .before .before .before))
+closed : (c : tie.After-project-and-close) → let b = c .before .before .before .before .before .before .before .before .before .before .before in
+    Written (b .args .positions .now) (c .project-and-close .last .1 .1 .0) (b .args .st .positions) (made b) (c .project-and-close .result)
+closed c = c .project-and-close .ensures _ _ (whole (c .before .before .before .before))
 
-size : (c : tie.After-place-positions) → let b = c .before .before .before .before .before .before .before .before .before .before .before in
-    c .place-positions .result .ok ≡ true → c .place-positions .result .at ≡ b .args .st .positions + 2 * length (made b .points)
-size c fits = omega (arith, placed c .next fits, flats-length (made (c .before .before .before .before .before .before .before .before .before .before .before) .points))
+size : (c : tie.After-project-and-close) → let b = c .before .before .before .before .before .before .before .before .before .before .before in
+    c .project-and-close .result .ok ≡ true → c .project-and-close .result .at ≡ b .args .st .positions + 2 * length (made b .points)
+size c fits = omega (arith, closed c .next fits, flats-length (made (c .before .before .before .before .before .before .before .before .before .before .before) .points))
 
 out-of-room-requires : tie.Need-out-of-room-requires
 out-of-room-requires c κs = search needs
@@ -72,7 +72,7 @@ same-length c = search needs
 
 returns-2 : tie.Need-returns-2
 returns-2 c w v h =
-    stroke-lacks _ _ _ _ _ w (c .before .before .before .before .before .before .before .before .before .before .before .if1 .left) h (placed (c .before .before .before .before .before)) (not-true _ (c .before .if2 .taken)) (c .out-of-room .ensures)
+    stroke-lacks _ _ _ _ _ w (c .before .before .before .before .before .before .before .before .before .before .before .if1 .left) h (closed (c .before .before .before .before .before)) (not-true _ (c .before .if2 .taken)) (c .out-of-room .ensures)
 
 sub-finish : tie.Need-sub-finish
 sub-finish c = omega (arith, size (c .before .before .before .before .before) (not-false _ (c .before .if2 .left)))
@@ -87,14 +87,14 @@ finish-requires : tie.Need-finish-requires
 finish-requires c κs = search needs
 
 same-length-2 : tie.Need-same-length-2
-same-length-2 c = placed (c .before .before .before .before .before .before .before .before .before) .kept
+same-length-2 c = closed (c .before .before .before .before .before .before .before .before .before) .kept
 
 same-length-3 : tie.Need-same-length-3
 same-length-3 c = search needs
 
 returns-3 : tie.Need-returns-3
 returns-3 c w v h =
-    stroke-finished _ _ _ _ _ w (c .before .before .before .before .before .before .before .before .before .before .before .before .before .before .before .if1 .left) h (placed (c .before .before .before .before .before .before .before .before .before)) (not-false _ (c .before .before .before .before .before .if2 .left)) (c .before .before .finish .ensures)
+    stroke-finished _ _ _ _ _ w (c .before .before .before .before .before .before .before .before .before .before .before .before .before .before .before .if1 .left) h (closed (c .before .before .before .before .before .before .before .before .before)) (not-false _ (c .before .before .before .before .before .if2 .left)) (c .before .before .finish .ensures)
 
 pub stroke-spec : {M : Type 1} → statement M
 stroke-spec =
@@ -106,7 +106,7 @@ stroke-spec =
     part-densify-polyline-start
     part-densify-polyline-end
     densify-polyline-requires
-    place-positions-requires
+    project-and-close-requires
     out-of-room-requires
     same-length
     returns-2
