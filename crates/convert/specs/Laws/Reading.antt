@@ -5,8 +5,8 @@ use mathlib.Core.Bool.{Bool, true, false}
 use mathlib.Core.List.{List, [], _∷_, _++_, append-assoc}
 use native.Mathlib.Omega.{arith}
 use native.Mathlib.Nat.{add-assoc, add-zero, zero-add}
-use lib.ListN.{length, drop, set, length-append}
-use lib.Seq.{sets, length-sets, drop-append-seam, getD-append-seam, getD-append-add}
+use lib.ListN.{length, drop, length-append}
+use lib.Seq.{drop-append-seam, getD-append-seam, getD-append-add}
 use lib.Dec.{eqb, leb}
 use lib.Ieee.{Float}
 use borrow.Author.Tests.{eqb-true, eqb-false, leb-true}
@@ -14,7 +14,7 @@ use Rattle.values.specs.declared.Point.{Point}
 use Rattle.values.specs.Warnings.{Warning}
 use Rattle.values.specs.Slices.{put}
 use Rattle.values.specs.Points.{flats, pointsOf}
-use Rattle.values.specs.Laws.Put.{put-none, put-length, put-more, sets-put}
+use Rattle.values.specs.Laws.Put.{put-none, put-length, put-more}
 use Rattle.values.specs.Laws.Points.{flats-append, flats-length}
 use Rattle.geojson.specs.declared.Feature.{Feature}
 use Rattle.geojson.specs.Features.{wordsOf}
@@ -42,24 +42,6 @@ unfolding pairsIn
 pairs-length [] = refl
 pairs-length (w ∷ ws) = omega (arith, pairs-length ws)
 
--- ---- words in a slice
-words-none : (w : List ℕ) (at : ℕ) → at ≤ length w → put w at [] ≡ w
-words-none w at h = sym (sets-put [] w at (omega arith))
-
-sets-more : (a b w : List ℕ) (at : ℕ) → sets (sets w at a) (at + length a) b ≡ sets w at (a ++ b)
-sets-more [] b w at = rw add-zero
-sets-more (v ∷ a) b w at =
-    let e : at + suc (length a) ≡ suc at + length a = omega arith in
-    rw e (sets-more a b (set w at v) (suc at))
-
--- one run after another is one run
-words-more : (w : List ℕ) (at : ℕ) (a b : List ℕ) → at + length a + length b ≤ length w
-    → put (put w at a) (at + length a) b ≡ put w at (a ++ b)
-words-more w at a b h =
-    let one = sets-put a w at (omega arith) in
-    rw (← one, ← sets-put b (sets w at a) (at + length a) (rw length-sets h), ← sets-put (a ++ b) w at (rw (length-append, ← add-assoc) h))
-    (sets-more a b w at)
-
 -- ---- what is used lies in the slices
 pub record Room (t : Output) : Type 0 where
   pub positions : t .usedPositions ≤ length (t .positions)
@@ -83,8 +65,8 @@ unfolding positionsIn wordsIn pairsIn flats
 added-none t r =
     record {
       positions = sym (put-none (t .positions) (t .usedPositions));
-      features = sym (words-none (t .features) (t .usedFeatures) (r .features));
-      warnings = sym (words-none (t .warnings) (t .usedWarnings) (r .warnings));
+      features = sym (put-none (t .features) (t .usedFeatures));
+      warnings = sym (put-none (t .warnings) (t .usedWarnings));
       usedPositions = sym (add-zero (t .usedPositions));
       usedFeatures = sym (add-zero (t .usedFeatures));
       usedWarnings = sym (add-zero (t .usedWarnings));
@@ -110,7 +92,7 @@ module _ (f : Feature) (ps : List Point) (t : Output) (here : t .usedPositions +
       let room : u .usedFeatures ≤ length (t .features) = rw lined-length at (a .roomFeatures) in
       record {
         positions = a .positions ∙ rw flats-append (put-more (t .positions) (t .usedPositions) (flats ps) (flats (positionsIn ls)) here);
-        features = a .features ∙ words-more (t .features) (t .usedFeatures) (wordsOf f) (wordsIn ls) (omega (arith, a .usedFeatures));
+        features = a .features ∙ put-more (t .features) (t .usedFeatures) (wordsOf f) (wordsIn ls) line;
         warnings = a .warnings;
         usedPositions = a .usedPositions ∙ rw (flats-append, length-append, ← add-assoc);
         usedFeatures = omega (arith, a .usedFeatures);
@@ -134,7 +116,7 @@ module _ (w : Warning) (t : Output) (here : t .usedWarnings + 2 ≤ length (t .w
       record {
         positions = a .positions;
         features = a .features;
-        warnings = a .warnings ∙ words-more (t .warnings) (t .usedWarnings) (w .kind ∷ w .index ∷ []) (pairsIn ws) (omega (arith, a .usedWarnings));
+        warnings = a .warnings ∙ put-more (t .warnings) (t .usedWarnings) (w .kind ∷ w .index ∷ []) (pairsIn ws) here;
         usedPositions = a .usedPositions;
         usedFeatures = a .usedFeatures;
         usedWarnings = omega (arith, a .usedWarnings);
