@@ -29,7 +29,7 @@ use Rattle.values.specs.Maybe.{isSome}
 use Rattle.register.specs.declared.survey.Survey.{Survey}
 use Rattle.register.specs.Contracts.Survey.{lonsIn, Surveyed}
 use Rattle.register.specs.Contracts.Mentions.{Mention, featureMentions, eventsOf, mentionsAt, moreOf, Follows}
-use Rattle.register.specs.Contracts.Gathered.{numbersIn, Holds, Gathers, Filling, Batch, MarksTell, noName, amongFeatures, KnownCleared, BeforeRead, AfterRead, againOf, partEvents, baseOf, beforeOf, batchEvents, Earlier, firstCursor}
+use Rattle.register.specs.Contracts.Gathered.{numbersIn, Holds, Gathers, Filling, Batch, MarksTell, noName, amongFeatures, KnownCleared, BeforeRead, AfterRead, againOf, partEvents, baseOf, beforeOf, batchEvents, Earlier, firstCursor, ControlRoom}
 use Rattle.register.proofs.Declarations.{along}
 use Rattle.register.proofs.Marks.{in-stays}
 use Rattle.register.proofs.Reading.{controls-append, numbers-append}
@@ -271,6 +271,6 @@ pub none-before-all : (sc : Scene) → Earlier sc false 0 []
 unfolding featureMentions eventsOf controlsIn
 none-before-all sc = omega arith
 
-pub none-held : {flat : List Float} {kept : List ℕ} → length flat ≡ 256 → length kept ≡ 64 → Holds true [] [] (record { n = 0; within = true }) flat kept
+pub none-held : {flat : List Float} {kept : List ℕ} → ControlRoom flat kept → Holds true [] [] (record { n = 0; within = true }) flat kept
 unfolding allWithinLimits foursIn
-none-held f k = record { count = refl; within = refl; controls = λ _ _. refl; numbers = λ _ _. refl; as-many = refl; room-for = f; kept-room = k }
+none-held k = record { count = refl; within = refl; controls = λ _ _. refl; numbers = λ _ _. refl; as-many = refl; room-for = k .flat-room; kept-room = k .kept-room }

@@ -1,21 +1,19 @@
 -- Warnings one after another: what `pushed` and `allPushed` come to by cases, and which warnings events give.
 use mathlib.Core.Path.{_≡_, refl, ap, sym, _∙_}
-use mathlib.Core.Bool.{Bool, true, false, not, _&&_}
+use mathlib.Core.Bool.{Bool, true, false, _&&_}
 use mathlib.Core.List.{List, [], _∷_, _++_}
-use Prim.Native.Nat.{ℕ, zero, suc, _+_, _-_, _≤_, _<_}
+use Prim.Native.Nat.{ℕ, zero, suc}
 use native.Mathlib.Omega.{arith}
-use lib.ListN.{length, set, length-set}
+use lib.ListN.{length}
 use lib.Dec.{leb}
-use borrow.Author.Tests.{le-leb, lt-leb, leb-true, not-true, not-false}
-use Rattle.records.specs.Laws.Tests.{and-right}
+use borrow.Author.Tests.{le-leb}
 use Rattle.scene.specs.Scene.{Scene}
 use Rattle.values.specs.Maybe.{given, isSome}
 use Rattle.register.specs.declared.declared.Declared.{Declared}
-use Rattle.values.specs.declared.WarningCursor.{WarningCursor}
 use Rattle.register.specs.Register.{Event, control, warn, warningsIn, ignored, ignoredWith, anyDeclared, anchorOf}
 use Rattle.values.specs.Warnings.{Warning}
 use Rattle.register.specs.Contracts.Survey.{Declares}
-use Rattle.values.specs.Laws.Warnings.{sliceOf, same-slice, Fits, push-fits, all-kept, pushed-append}
+use Rattle.values.specs.Laws.Warnings.{Fits, push-fits, all-kept, pushed-append}
 use Rattle.values.specs.Contracts.Warnings.{WarningSlice, pushed, allPushed}
 
 -- ---- these warnings are written

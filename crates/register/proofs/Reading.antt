@@ -27,7 +27,7 @@ use Rattle.register.specs.declared.mentions.Mention as code-mention
 use Rattle.register.specs.Register.{Event, control, warn, resolved, eventOf, controlsIn}
 use Rattle.values.specs.Warnings.{Warning}
 use Rattle.register.specs.Contracts.Mentions.{Mention, eventWith, grownBy, eventsOf, mentionsAt, moreOf, mentionBy, Follows, Asked}
-use Rattle.register.specs.Contracts.Gathered.{numbersIn, Holds, among, named, Taken, MarksTell, BeforeRead, againOf, grownAll, AfterRead, pointIn}
+use Rattle.register.specs.Contracts.Gathered.{numbersIn, Holds, among, named, Taken, MarksTell, BeforeRead, againOf, grownAll, AfterRead, pointIn, Readable}
 use Rattle.register.proofs.Marks.{same-self, fewer-trans, in-stays, waits-by, taken-fewer, taken-waits}
 use Rattle.register.proofs.Holding.{holds-as}
 
@@ -313,17 +313,17 @@ pub record Going (s : List ℕ) (lons : Bool) (t₀ : List ℕ) (n : ℕ) (spots
       → AfterRead (payload s) lons (take k (mentionsAt (payload s) lons c)) t₀ t n spots base (h .was) (h .b) (h .cs) (h .js) all flat kept
 
 pub go-begin : {s : List ℕ} {lons : Bool} {t : List ℕ} {n : ℕ} {spots : List Float} {runs : List ℕ} (count base : ℕ) {flat : List Float} {kept : List ℕ} {g : Tally} {c : Cursor}
-    → (base + count < 4294967296) × (length spots ≡ 128) × (length flat ≡ 256) × (length kept ≡ 64) × Follows s lons c runs × Table (moreOf lons) (payload s) t n
+    → (base + count < 4294967296) × Readable s lons t n spots flat kept × Follows s lons c runs
     → Going s lons t n spots runs count base flat kept g c t runs flat kept g c 0
 go-begin count base p =
     record {
       within = omega arith;
       fits = p .0;
-      follows = p .4;
-      table = p .5;
-      spots-room = p .1;
-      flat-room = p .2;
-      kept-room = p .3;
+      follows = p .2;
+      table = p .1 .table;
+      spots-room = p .1 .spots-room;
+      flat-room = p .1 .control-room .flat-room;
+      kept-room = p .1 .control-room .kept-room;
       flat-kept = refl;
       kept-kept = refl;
       t-kept = refl;

@@ -20,7 +20,7 @@ use Rattle.register.specs.declared.mentions.Cursor.{Cursor}
 use Rattle.register.specs.declared.mentions.Mention as code-mention
 use Rattle.register.specs.Register.{Event, control, warn, resolved, mentioned, featureEvent, featureEvents, variableEvents, events, warningsIn, controlsOf, viewWarnings, halfWarnings, ignoredWith, registerWarnings}
 use Rattle.values.specs.Maybe.{isSome}
-use Rattle.register.specs.Contracts.Gathered.{numbersIn, Kept}
+use Rattle.register.specs.Contracts.Gathered.{numbersIn, KeptControls}
 use Rattle.register.specs.Contracts.Mentions.{lonMentions, mentionsAt, mentionBy, Follows, Asked}
 use Rattle.register.specs.Contracts.Warnings.{firstIs, anyNameIs, ResolvedNames, AfterFeatures, kindBy}
 use Rattle.values.specs.Contracts.Warnings.{WarningSlice, pushed, allPushed}
@@ -52,13 +52,16 @@ pub record Told (s kept : List ℕ) (n : ℕ) (heads : List ℕ) (h : ℕ) (t₀
   pub short : i ≤ q
   pub within : q ≤ room s
 
+kept-from : {sc : Scene} {n : ℕ} {kept : List ℕ} → KeptControls sc n kept → take n kept ≡ numbersIn 0 (events sc)
+kept-from h = rw (h .count) (h .numbers)
+
 module _ (s kept : List ℕ) (n : ℕ) (heads : List ℕ) (t : WarningSlice) where
-  pub none-told : Fits t → length heads ≡ 64 → take n kept ≡ numbersIn 0 (events (sceneOf (payload s))) → Told s kept n heads 0 t t 0 0
+  pub none-told : Fits t → length heads ≡ 64 → KeptControls (sceneOf (payload s)) n kept → Told s kept n heads 0 t t 0 0
   unfolding events anyNameIs mentioned
   none-told f k e =
       record {
         all = rw (scene-lists (payload s) .0) refl;
-        left = e ∙ rw (scene-lists (payload s) .0) refl;
+        left = kept-from e ∙ rw (scene-lists (payload s) .0) refl;
         heading = record { stands = record { few = omega arith; within = λ j g. absurd (omega arith) }; names = λ x. sym (and-false (isSome (resolved (sceneOf (payload s)) x))) };
         rest = scene-lists (payload s) .0;
         fits = f;
@@ -75,11 +78,11 @@ module _ {s kept : List ℕ} {n : ℕ} {heads : List ℕ} {h : ℕ} {t₀ t : Wa
   abbrev scene : Scene
   scene = sceneOf (payload s)
 
-  pub all-told : not (r .some) ≡ true → (t ≡ allPushed (warningsIn (featureEvents scene 0 (scene .features))) t₀) × (Fits t × AfterFeatures s kept n heads h i)
+  pub all-told : not (r .some) ≡ true → n ≤ length kept → (t ≡ allPushed (warningsIn (featureEvents scene 0 (scene .features))) t₀) × (Fits t × AfterFeatures s kept n heads h i)
   unfolding allPushed warningsIn featureEvents
-  all-told o =
+  all-told o k =
       let g : featuresAt (payload s) q ≡ [] = rw (e, not-true (r .some) o) refl in
-      (rw (d .all, g) refl, (d .fits, record { heading = rw (take-all i (scene .features) (omega (arith, ap length (d .rest ∙ g), length-drop i (scene .features)))) at (d .heading); left = rw g at (d .left); short = omega (arith, d .short, d .within) }))
+      (rw (d .all, g) refl, (d .fits, record { heading = rw (take-all i (scene .features) (omega (arith, ap length (d .rest ∙ g), length-drop i (scene .features)))) at (d .heading); left = rw g at (d .left); short = omega (arith, d .short, d .within); few = k }))
 
   module _ (o : not (r .some) ≡ false) (w : Within (room s) q (r .at) (r .len + 16) (r .next)) (k : n ≤ length kept) {b : Bool} (is : b ≡ firstIs i (drop h (take n kept))) where
     here : featuresAt (payload s) q ≡ feature ∷ featuresAt (payload s) (r .next)
@@ -207,9 +210,6 @@ module _ {s kept : List ℕ} {n : ℕ} {t₀ t : WarningSlice} {runs runs′ : L
         })
 
 -- ---- features, then variables
-pub kept-from : (sc : Scene) (kept : List ℕ) {n : ℕ} → n ≡ length (controlsOf sc) → Kept sc kept → take n kept ≡ numbersIn 0 (events sc)
-kept-from sc kept e k = rw e k
-
 module _ (sc : Scene) (t : WarningSlice) {features : WarningSlice} (f : features ≡ allPushed (warningsIn (featureEvents sc 0 (sc .features))) t) where
   pub names-told : {all : WarningSlice} → all ≡ allPushed (warningsIn (variableEvents sc 0 (sc .variables))) features → all ≡ allPushed (warningsIn (events sc)) t
   unfolding events

@@ -2,6 +2,7 @@
 pub mod Names
 pub mod Outcomes
 pub mod Kept
+pub mod Registrable
 pub mod Sound
 pub mod Everything
 pub mod Samples

@@ -11,15 +11,14 @@ ghost use lib.Ieee.{nan};
 ghost use Rattle.stream.specs.Payload.{payload};
 ghost use Rattle.stream.specs.Contracts.Payload.{room};
 ghost use Rattle.records.specs.Records.{bytesAt};
-ghost use Rattle.records.specs.Layout.{laidOut};
 ghost use Rattle.scene.specs.Scene.{sceneOf};
 ghost use Rattle.fit.specs.declared.Control.{Control};
 ghost use Rattle.names.specs.Contracts.Table.{Table};
 ghost use Rattle.names.specs.Contracts.Batch.{slotPoint};
-ghost use Rattle.register.specs.Register.{withinLimits, controlsIn};
-ghost use Rattle.register.specs.Contracts.Survey.{Surveyed};
+ghost use Rattle.register.specs.Register.{withinLimits};
+ghost use Rattle.register.specs.Contracts.Survey.{Registrable};
 ghost use Rattle.register.specs.Contracts.Mentions.{mentionsAt, mentionBy, moreOf, Follows, MentionFits};
-ghost use Rattle.register.specs.Contracts.Gathered.{numbersIn, Holds, Gathers, Added, Filling, Batch, Taken, KnownCleared, BeforeRead, AfterRead, pointIn, partEvents, baseOf, beforeOf, batchEvents, Earlier, firstCursor};
+ghost use Rattle.register.specs.Contracts.Gathered.{ControlRoom, Holds, Gathers, TableRoom, Added, Batch, BatchFrom, Taken, KnownCleared, Readable, Reads, pointIn, beforeOf, GathersBatch, GathersPart, firstCursor};
 use crate::mentions::Cursor;
 use crate::mentions::Mention;
 use crate::mentions::next_mention;
@@ -48,7 +47,7 @@ pub fn is_within_limits(lon: f64, lat: f64) -> bool
 
 // One more control point, of the j-th name.
 fn put_control(flat: &mut [f64], kept: &mut [u32], g: Tally, j: usize, c: Control) -> Tally
-    requires { ⌜ (j < 4294967296) × (length (now flat) ≡ 256) × (length (now kept) ≡ 64) ⌝ }
+    requires { ⌜ (j < 4294967296) × ControlRoom (now flat) (now kept) ⌝ }
     ensures { λ r. ⌜ ((b : Bool) (cs : List Control) (js : List ℕ)
         → Holds b cs js g (now (flat .entry)) (now (kept .entry))
         → Holds b (cs ++ c ∷ []) (js ++ j ∷ []) r (now (flat .exit)) (now (kept .exit))) ⌝ }
@@ -85,8 +84,7 @@ pub struct FilledBatch {
 
 // The name of a mention becomes an entry, if there is a latitude.
 fn add_name(s: &[u8], t: &mut [u32], n: usize, m: Mention, more: u64) -> usize
-    requires { ⌜ (room (now s) < 33554432) × (n < length (now t)) × Table more (payload (now s)) (now t) n
-        × MentionFits (now s) more m ⌝ }
+    requires { ⌜ TableRoom more (now s) (now t) n × MentionFits (now s) more m ⌝ }
     ensures { λ r. ⌜ Added more (payload (now (s .entry))) (now (t .entry)) (now (t .exit)) n r
         (mentionBy (payload (now (s .entry))) m) ⌝ }
 {
@@ -193,14 +191,11 @@ fn read_mention(
     kept: &mut [u32],
     g: Tally,
 ) -> Tally
-    requires { ⌜ (j < 4294967296) × (length (now spots) ≡ 128) × (length (now flat) ≡ 256)
-        × (length (now kept) ≡ 64)
-        × Table (moreOf lons) (payload (now s)) (now t) n × MentionFits (now s) (moreOf lons) m ⌝ }
-    ensures { λ r. ⌜ ((h : BeforeRead (payload (now (s .entry))) lons (mentionBy (payload (now (s .entry))) m ∷ [])
-        (now (t .entry)) n (now (spots .entry)) g (now (flat .entry)) (now (kept .entry)))
-        → AfterRead (payload (now (s .entry))) lons (mentionBy (payload (now (s .entry))) m ∷ [])
-        (now (t .entry)) (now (t .exit)) n (now (spots .entry)) j (h .was) (h .b) (h .cs) (h .js) r (now (flat .exit))
-        (now (kept .exit))) ⌝ }
+    requires { ⌜ (j < 4294967296) × Readable (now s) lons (now t) n (now spots) (now flat) (now kept)
+        × MentionFits (now s) (moreOf lons) m ⌝ }
+    ensures { λ r. ⌜ Reads (payload (now (s .entry))) lons (mentionBy (payload (now (s .entry))) m ∷ []) n
+        (now (spots .entry)) j (now (t .entry)) g (now (flat .entry)) (now (kept .entry))
+        (now (t .exit)) r (now (flat .exit)) (now (kept .exit)) ⌝ }
     ensures { λ r. ⌜ Table (moreOf lons) (payload (now (s .entry))) (now (t .exit)) n ⌝ }
 {
     let lat = m.lat;
@@ -229,15 +224,11 @@ fn read_batch(
     kept: &mut [u32],
     g: Tally,
 ) -> Tally
-    requires { ⌜ (base + count < 4294967296) × (length (now spots) ≡ 128) × (length (now flat) ≡ 256)
-        × (length (now kept) ≡ 64) × Follows (now s) lons c (now runs)
-        × Table (moreOf lons) (payload (now s)) (now t) n ⌝ }
-    ensures { λ r. ⌜ ((h : BeforeRead (payload (now (s .entry))) lons
-        (take count (mentionsAt (payload (now (s .entry))) lons c)) (now (t .entry)) n (now (spots .entry)) g
-        (now (flat .entry)) (now (kept .entry)))
-        → AfterRead (payload (now (s .entry))) lons (take count (mentionsAt (payload (now (s .entry))) lons c))
-        (now (t .entry)) (now (t .exit)) n (now (spots .entry)) base (h .was) (h .b) (h .cs) (h .js) r
-        (now (flat .exit)) (now (kept .exit))) ⌝ }
+    requires { ⌜ (base + count < 4294967296) × Readable (now s) lons (now t) n (now spots) (now flat) (now kept)
+        × Follows (now s) lons c (now runs) ⌝ }
+    ensures { λ r. ⌜ Reads (payload (now (s .entry))) lons (take count (mentionsAt (payload (now (s .entry))) lons c)) n
+        (now (spots .entry)) base (now (t .entry)) g (now (flat .entry)) (now (kept .entry))
+        (now (t .exit)) r (now (flat .exit)) (now (kept .exit)) ⌝ }
 {
     let mut all = g;
     let mut at = c;
@@ -295,18 +286,11 @@ fn gather_batch(
     kept: &mut [u32],
     g: Tally,
 ) -> Tally
-    requires { ⌜ (room (now s) < 33554432) × Surveyed (payload (now s)) v × (base + f .count ≤ v .names)
-        × Follows (now s) lons c (now runs) × Filling (now s) lons c f (now t)
-        × (length (now flat) ≡ 256) × (length (now kept) ≡ 64) ⌝ }
-    ensures { λ r. ⌜ ((cs : List Control) (js : List ℕ)
-        → Holds true cs js g (now (flat .entry)) (now (kept .entry))
-        → Earlier (sceneOf (payload (now (s .entry)))) lons base cs
-        → Holds true
-        (cs ++ controlsIn (batchEvents (payload (now (s .entry))) lons base
-        (take (f .count) (mentionsAt (payload (now (s .entry))) lons c))))
-        (js ++ numbersIn base (batchEvents (payload (now (s .entry))) lons base
-        (take (f .count) (mentionsAt (payload (now (s .entry))) lons c))))
-        r (now (flat .exit)) (now (kept .exit))) ⌝ }
+    requires { ⌜ Registrable (now s) v × BatchFrom (now s) v lons c f (now t) (now runs) base
+        × ControlRoom (now flat) (now kept) ⌝ }
+    ensures { λ r. ⌜ GathersBatch (payload (now (s .entry))) lons base
+        (take (f .count) (mentionsAt (payload (now (s .entry))) lons c))
+        g (now (flat .entry)) (now (kept .entry)) r (now (flat .exit)) (now (kept .exit)) ⌝ }
 {
     let mut keys = [0u32; 256];
     let mut spots = [0.0f64; 128];
@@ -330,16 +314,9 @@ fn gather_part(
     kept: &mut [u32],
     g: Tally,
 ) -> Tally
-    requires { ⌜ (room (now s) < 33554432) × (laidOut (payload (now s)) ≡ true) × Surveyed (payload (now s)) v
-        × (1 ≤ length (now t)) × (length (now flat) ≡ 256) × (length (now kept) ≡ 64) ⌝ }
-    ensures { λ r. ⌜ ((cs : List Control) (js : List ℕ)
-        → Holds true cs js g (now (flat .entry)) (now (kept .entry))
-        → Earlier (sceneOf (payload (now (s .entry)))) lons 0 cs
-        → Holds true
-        (cs ++ controlsIn (partEvents lons (sceneOf (payload (now (s .entry))))))
-        (js ++ numbersIn (baseOf lons (sceneOf (payload (now (s .entry)))))
-        (partEvents lons (sceneOf (payload (now (s .entry))))))
-        r (now (flat .exit)) (now (kept .exit))) ⌝ }
+    requires { ⌜ Registrable (now s) v × (1 ≤ length (now t)) × ControlRoom (now flat) (now kept) ⌝ }
+    ensures { λ r. ⌜ GathersPart (sceneOf (payload (now (s .entry)))) lons
+        g (now (flat .entry)) (now (kept .entry)) r (now (flat .exit)) (now (kept .exit)) ⌝ }
 {
     let mut all = g;
     let mut runs = [0usize; 32];
@@ -359,8 +336,7 @@ fn gather_part(
 
 // Host features first, then variables.
 fn gather_names(s: &[u8], v: Survey, t: &mut [u32], flat: &mut [f64], kept: &mut [u32]) -> Tally
-    requires { ⌜ (room (now s) < 33554432) × (laidOut (payload (now s)) ≡ true) × Surveyed (payload (now s)) v
-        × (1 ≤ length (now t)) × (length (now flat) ≡ 256) × (length (now kept) ≡ 64) ⌝ }
+    requires { ⌜ Registrable (now s) v × (1 ≤ length (now t)) × ControlRoom (now flat) (now kept) ⌝ }
     ensures { λ r. ⌜ Gathers (sceneOf (payload (now (s .entry)))) r (now (flat .exit)) (now (kept .exit)) ⌝ }
 {
     let none = Tally { n: 0, within: true };
@@ -374,8 +350,7 @@ fn gather_names(s: &[u8], v: Survey, t: &mut [u32], flat: &mut [f64], kept: &mut
 // All control points, in their order, four numbers each, and the numbers of their names. The lengths of the two tables
 // are how many names a batch has at most.
 pub fn gather(s: &[u8], v: Survey, flat: &mut [f64], kept: &mut [u32]) -> Tally
-    requires { ⌜ (room (now s) < 33554432) × (laidOut (payload (now s)) ≡ true) × Surveyed (payload (now s)) v
-        × (length (now flat) ≡ 256) × (length (now kept) ≡ 64) ⌝ }
+    requires { ⌜ Registrable (now s) v × ControlRoom (now flat) (now kept) ⌝ }
     ensures { λ r. ⌜ Gathers (sceneOf (payload (now (s .entry)))) r (now (flat .exit)) (now (kept .exit)) ⌝ }
 {
     if v.names <= 64 {

@@ -1,13 +1,10 @@
 // Refusals 7 to 14, and the registration.
 ghost use mathlib.Core.Path.{_≡_};
-ghost use mathlib.Core.Bool.{true};
-ghost use Prim.Native.Nat.{_+_, _*_, _≤_, _<_};
+ghost use Prim.Native.Nat.{_+_, _*_, _≤_};
 ghost use lib.ListN.{length};
 ghost use Rattle.stream.specs.Payload.{payload};
-ghost use Rattle.records.specs.Layout.{laidOut};
-ghost use Rattle.stream.specs.Contracts.Payload.{room};
 ghost use Rattle.scene.specs.Scene.{Scene, sceneOf};
-ghost use Rattle.register.specs.Contracts.Survey.{Declares, Surveyed};
+ghost use Rattle.register.specs.Contracts.Survey.{Declares, Registrable};
 ghost use Rattle.register.specs.Contracts.Gathered.{controlIn, controlsBy, Kept};
 ghost use Rattle.register.specs.Contracts.Outcome.{refusedBy, outcomeOf, checkedOf, declaredOutcome, fittedOutcome};
 use crate::controls::gather;
@@ -147,8 +144,7 @@ fn fit_controls(flat: &[f64], n: usize) -> Outcome
 // The registration of a stream that conditions 1 to 6 let pass. Where it is accepted, `kept` has the numbers of the
 // names that are control points.
 pub fn register(s: &[u8], v: Survey, kept: &mut [u32]) -> Outcome
-    requires { ⌜ (room (now s) < 33554432) × (laidOut (payload (now s)) ≡ true) × Surveyed (payload (now s)) v
-        × (length (now kept) ≡ 64) ⌝ }
+    requires { ⌜ Registrable (now s) v × (length (now kept) ≡ 64) ⌝ }
     ensures { λ o. ⌜ o ≡ outcomeOf (sceneOf (payload (now (s .entry)))) ⌝ }
     ensures { λ o. ⌜ (o .number ≡ 0 → Kept (sceneOf (payload (now (s .entry)))) (now (kept .exit))) ⌝ }
 {

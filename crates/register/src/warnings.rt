@@ -1,19 +1,18 @@
 // The warnings of a registration, written once it is accepted.
 ghost use mathlib.Core.Path.{_≡_};
 ghost use mathlib.Core.Bool.{true, false};
-ghost use Prim.Native.Nat.{_+_, _≤_, _<_};
+ghost use Prim.Native.Nat.{_+_, _≤_};
 ghost use lib.ListN.{length, take, drop};
 ghost use Rattle.stream.specs.Payload.{payload};
 ghost use Rattle.stream.specs.Contracts.Payload.{room};
-ghost use Rattle.records.specs.Layout.{laidOut};
 ghost use Rattle.records.specs.Records.{bytesAt};
 ghost use Rattle.scene.specs.Scene.{Scene, sceneOf};
 ghost use Rattle.scene.specs.Contracts.Answers.{maybeFloat};
-ghost use Rattle.register.specs.Register.{featureEvents, variableEvents, events, warningsIn, controlsOf, viewWarnings, halfWarnings, anyDeclared, ignoredWith, registerWarnings};
-ghost use Rattle.register.specs.Contracts.Survey.{Declares, Surveyed};
-ghost use Rattle.register.specs.Contracts.Gathered.{numbersIn, Kept};
-ghost use Rattle.register.specs.Contracts.Warnings.{firstIs, anyNameIs, NamesFit, AfterFeatures, kindBy};
-ghost use Rattle.values.specs.Contracts.Warnings.{pushed, allPushed};
+ghost use Rattle.register.specs.Register.{featureEvents, variableEvents, events, warningsIn, viewWarnings, halfWarnings, anyDeclared, ignoredWith, registerWarnings};
+ghost use Rattle.register.specs.Contracts.Survey.{Declares, Registrable};
+ghost use Rattle.register.specs.Contracts.Gathered.{KeptControls};
+ghost use Rattle.register.specs.Contracts.Warnings.{firstIs, anyNameIs, NamesFit, PositionRoom, AfterFeatures, kindBy};
+ghost use Rattle.values.specs.Contracts.Warnings.{allPushed};
 use crate::declared::Declared;
 use crate::mentions::Cursor;
 use crate::mentions::Mention;
@@ -51,9 +50,8 @@ fn warn_features(
     out: &mut [u32],
     w: WarningCursor,
 ) -> FeatureWarnings
-    requires { ⌜ (room (now s) < 33554432) × (w .used ≤ length (now out)) × (n ≤ 64)
-        × (length (now kept) ≡ 64)
-        × (length (now heads) ≡ 64) × (take n (now kept) ≡ numbersIn 0 (events (sceneOf (payload (now s))))) ⌝ }
+    requires { ⌜ PositionRoom (now s) (now heads) × KeptControls (sceneOf (payload (now s))) n (now kept)
+        × (w .used ≤ length (now out)) ⌝ }
     ensures { λ r. ⌜ record { out = now (out .exit); cursor = r .warned }
         ≡ allPushed (warningsIn (featureEvents (sceneOf (payload (now (s .entry)))) 0
         (sceneOf (payload (now (s .entry))) .features))) (record { out = now (out .entry); cursor = w }) ⌝ }
@@ -129,9 +127,8 @@ fn warn_lons(
     out: &mut [u32],
     w: WarningCursor,
 ) -> WarningCursor
-    requires { ⌜ (room (now s) < 33554432) × (laidOut (payload (now s)) ≡ true) × (w .used ≤ length (now out))
-        × Surveyed (payload (now s)) v × (n ≤ 64) × (length (now kept) ≡ 64)
-        × AfterFeatures (now s) (now kept) n (now heads) h features ⌝ }
+    requires { ⌜ Registrable (now s) v × AfterFeatures (now s) (now kept) n (now heads) h features
+        × (w .used ≤ length (now out)) ⌝ }
     ensures { λ r. ⌜ record { out = now (out .exit); cursor = r }
         ≡ allPushed (warningsIn (variableEvents (sceneOf (payload (now (s .entry)))) 0
         (sceneOf (payload (now (s .entry))) .variables))) (record { out = now (out .entry); cursor = w }) ⌝ }
@@ -164,9 +161,8 @@ fn warn_lons(
 
 // Of all names. Where each has come to one of the n control points, no look is taken.
 fn warn_names(s: &[u8], v: Survey, kept: &[u32], out: &mut [u32], w: WarningCursor, n: u32) -> WarningCursor
-    requires { ⌜ (room (now s) < 33554432) × (laidOut (payload (now s)) ≡ true) × (w .used ≤ length (now out))
-        × Surveyed (payload (now s)) v × (n ≡ length (controlsOf (sceneOf (payload (now s))))) × (n ≤ 64)
-        × (length (now kept) ≡ 64) × Kept (sceneOf (payload (now s))) (now kept) ⌝ }
+    requires { ⌜ Registrable (now s) v × KeptControls (sceneOf (payload (now s))) n (now kept)
+        × (w .used ≤ length (now out)) ⌝ }
     ensures { λ r. ⌜ record { out = now (out .exit); cursor = r }
         ≡ allPushed (warningsIn (events (sceneOf (payload (now (s .entry))))))
         (record { out = now (out .entry); cursor = w }) ⌝ }
@@ -255,9 +251,7 @@ fn warn_ignored(d: Declared, out: &mut [u32], w: WarningCursor, n: u32) -> Warni
 
 // All warnings of the registration of a stream that is laid out, with n control points, of the names that are kept.
 pub fn write_warnings(s: &[u8], v: Survey, kept: &[u32], out: &mut [u32], n: u32) -> WarningCursor
-    requires { ⌜ (room (now s) < 33554432) × (laidOut (payload (now s)) ≡ true) × Surveyed (payload (now s)) v
-        × (n ≡ length (controlsOf (sceneOf (payload (now s))))) × (n ≤ 64) × (length (now kept) ≡ 64)
-        × Kept (sceneOf (payload (now s))) (now kept) ⌝ }
+    requires { ⌜ Registrable (now s) v × KeptControls (sceneOf (payload (now s))) n (now kept) ⌝ }
     ensures { λ r. ⌜ record { out = now (out .exit); cursor = r }
         ≡ allPushed (registerWarnings (sceneOf (payload (now (s .entry)))))
         (record { out = now (out .entry); cursor = record { ok = true; used = 0 } }) ⌝ }

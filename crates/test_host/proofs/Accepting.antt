@@ -1,29 +1,21 @@
 -- What the comparison's answer says of a stream.
 use mathlib.Core.Path.{_≡_, refl, sym, ap, _∙_}
 use mathlib.Core.Bool.{Bool, true, false}
-use mathlib.Core.List.{List, [], _∷_}
+use mathlib.Core.List.{List}
 use Prim.Native.Nat.{ℕ}
 use lib.ListN.{length}
 use lib.Dec.{eqb}
 use borrow.Author.Tests.{eq-eqb, ne-eqb, eqb-true, eqb-false}
 use Rattle.stream.specs.Payload.{payload}
 use Rattle.records.specs.Contracts.Refusals.{refusalOf}
-use Rattle.scene.specs.Scene.{Scene, sceneOf}
-use Rattle.values.specs.declared.Point.{Point}
-use Rattle.values.specs.Maybe.{Maybe}
-use Rattle.fit.specs.declared.Control.{Control}
+use Rattle.scene.specs.Scene.{sceneOf}
 use Rattle.projection.specs.declared.Registration.{Registration}
 use Rattle.register.specs.declared.outcome.Outcome.{Outcome}
-use Rattle.register.specs.Register.{controlsOf, anchorOf, registrationBy, registrationOf, registerWarnings}
+use Rattle.register.specs.Register.{controlsOf, registrationOf, registerWarnings}
 use Rattle.register.specs.Contracts.Outcome.{registerRefusal, accepted, refusedBy, pickOutcome, outcomeOf}
+use Rattle.register.specs.Laws.Kept as registered
 use Rattle.values.specs.Contracts.Warnings.{WarningSlice, allPushed}
 use Rattle.test_host.specs.Contracts.Answer.{answerOf, warnedOf, nothing}
-
-counted : (sc : Scene) (a : Maybe Point) (cs : List Control) → registrationBy sc a cs .controls ≡ length cs
-unfolding registrationBy
-counted sc a [] = refl
-counted sc a (c ∷ []) = refl
-counted sc a (c ∷ d ∷ cs) = refl
 
 -- no number stands, so both tests passed
 both : (b c : Bool) (n m : ℕ) (r : Registration) {o : Outcome} → b ≡ eqb n 0 → c ≡ eqb m 0 → o ≡ pickOutcome b (pickOutcome c (accepted r) (refusedBy m)) (refusedBy n) → o .number ≡ 0 → (n ≡ 0) × (o .registration ≡ r)
@@ -47,8 +39,7 @@ module _ (s : List ℕ) where
       parts = both (eqb (refusalOf s) 0) (eqb (registerRefusal (sceneOf (payload s))) 0) (refusalOf s) (registerRefusal (sceneOf (payload s))) (registrationOf (sceneOf (payload s))) refl refl e h
 
       pub controls-are : o .registration .controls ≡ length (controlsOf (sceneOf (payload s)))
-      unfolding registrationOf
-      controls-are = rw (parts .1) (counted (sceneOf (payload s)) (anchorOf (sceneOf (payload s))) (controlsOf (sceneOf (payload s))))
+      controls-are = registered.controls-are (sceneOf (payload s)) (parts .1)
 
       pub told : (out : List ℕ) {t : WarningSlice} → t ≡ allPushed (registerWarnings (sceneOf (payload s))) (nothing out) → t ≡ warnedOf s out
       unfolding warnedOf

@@ -5,7 +5,7 @@ use mathlib.Core.Bool.{Bool, true, false}
 use mathlib.Core.List.{List, [], _∷_, _++_, append-assoc}
 use native.Mathlib.Omega.{arith}
 use native.Mathlib.Nat.{add-assoc, add-zero, zero-add}
-use lib.ListN.{length, drop, set, length-append}
+use lib.ListN.{length, drop, length-append}
 use lib.Seq.{drop-append-seam, getD-append-seam, getD-append-add}
 use lib.Dec.{eqb, leb}
 use lib.Ieee.{Float}

@@ -136,13 +136,13 @@ div-size p n c q d s t h k = omega (arith, mul-le-mul (part-l p n (s * c) h) k)
 div-pos-within : (j k : ℕ) (x y : Float) → j + k < 1024 → Within k x → Apart j y → N y ≡ 0 → Within (k + j) (div binary64 x y)
 div-pos-within j k x y K v w z =
     let f = ap (λ (i : ℕ). i * (P y * D x)) (pow-add 2 k j) in
-    let d : D y ≤ 2 ^ j * P y = subst (λ (i : ℕ). D y ≤ 2 ^ j * i) (gone (P y) (N y) z) (w .size) in
+    let d : D y ≤ 2 ^ j * P y = subst (λ (i : ℕ). D y ≤ 2 ^ j * i) (plus-none (P y) (N y) z) (w .size) in
     rounds-within (k + j) (div binary64 x y) _ _ _ (omega arith) (div-rounds binary64 x y (v .is-finite) (w .is-finite) (some (P y) (2 ^ j) (D y) (D-pos y) d))
     (weaken _ _ _ _ f (div-size (P x) (N x) (D x) (P y) (D y) (2 ^ k) (2 ^ j) (v .size) d))
     (weaken _ _ _ _ f (div-size (N x) (P x) (D x) (P y) (D y) (2 ^ k) (2 ^ j) (swap (P x) (N x) (2 ^ k * D x) (v .size)) d))
   where
-    gone : (p n : ℕ) → n ≡ 0 → p + n ≡ p
-    gone p n z = omega arith
+    plus-none : (p n : ℕ) → n ≡ 0 → p + n ≡ p
+    plus-none p n z = omega arith
 
     some : (p t d : ℕ) → 0 < d → d ≤ t * p → 0 < p
     some p t d D h = elim (eq-zero-or-pos p) [ inr a ↦ a | inl a ↦ absurd (lt-irrefl 0 (let e : t * p ≡ t * 0 = ap (λ (i : ℕ). t * i) a in omega arith)) ]

@@ -137,15 +137,15 @@ mul-swap f (inf s) y p q = absurd p
 mul-swap f (fin s m e) nan p q = absurd q
 mul-swap f (fin s m e) (inf t) p q = absurd q
 mul-swap f (fin s m e) (fin t n d) p q =
-    ap (λ (u : Bool). round f u (m * up e * (n * up d)) (down e * down d)) (un s t)
+    ap (λ (u : Bool). round f u (m * up e * (n * up d)) (down e * down d)) (unlike-sym s t)
     ∙ ap (λ (k : ℕ). round f (unlike t s) k (down e * down d)) (mul-comm (m * up e) (n * up d))
     ∙ ap (λ (k : ℕ). round f (unlike t s) (n * up d * (m * up e)) k) (mul-comm (down e) (down d))
   where
-    un : (s t : Bool) → unlike s t ≡ unlike t s
-    un true true = refl
-    un true false = refl
-    un false true = refl
-    un false false = refl
+    unlike-sym : (s t : Bool) → unlike s t ≡ unlike t s
+    unlike-sym true true = refl
+    unlike-sym true false = refl
+    unlike-sym false true = refl
+    unlike-sym false false = refl
 
 -- ---- the quotient by a positive value
 pub div-rounds : (f : Format) (x y : Float) → T (finite x) → T (finite y) → 0 < P y → Rounds f (div f x y) (P x * D y) (N x * D y) (P y * D x)

@@ -161,14 +161,14 @@ times-from k a b p n d q e h f = rw h (omega (arith, mul-le-mul-right (k * e) f)
 pub mul-spans : (k : ℕ) {a b c d : ℕ} {x : Float} (y : Float) → Whole y k → Few (k * a) (k * b) (k * c) (k * d) → Spans a b c d x → Spans (k * a) (k * b) (k * c) (k * d) (mul binary64 x y)
 mul-spans k {a} {b} {c} {d} {x} y v w s =
     rounds-spans (k * a) (k * b) (k * c) (k * d) (mul binary64 x y) _ _ _ w (mul-rounds binary64 x y (s .is-finite) (v .is-finite))
-    (bare (P x) (N x) (P y) (N y) (k * a) (k * b) (D x * D y) (v .no-minus) (times-from k a b (P x) (N x) (D x) (P y) (D y) (v .up-is) (s .low)))
-    (bare' (P x) (N x) (P y) (N y) (k * d) (k * c) (D x * D y) (v .no-minus) (times-from k d c (N x) (P x) (D x) (P y) (D y) (v .up-is) (s .high)))
+    (none-added (P x) (N x) (P y) (N y) (k * a) (k * b) (D x * D y) (v .no-minus) (times-from k a b (P x) (N x) (D x) (P y) (D y) (v .up-is) (s .low)))
+    (none-added' (P x) (N x) (P y) (N y) (k * d) (k * c) (D x * D y) (v .no-minus) (times-from k d c (N x) (P x) (D x) (P y) (D y) (v .up-is) (s .high)))
   where
-    bare : (p n q m a b d : ℕ) → m ≡ 0 → From a b (p * q) (n * q) d → From a b (p * q + n * m) (p * m + n * q) d
-    bare p n q m a b d z h = rw z (omega arith)
+    none-added : (p n q m a b d : ℕ) → m ≡ 0 → From a b (p * q) (n * q) d → From a b (p * q + n * m) (p * m + n * q) d
+    none-added p n q m a b d z h = rw z (omega arith)
 
-    bare' : (p n q m a b d : ℕ) → m ≡ 0 → From a b (n * q) (p * q) d → From a b (p * m + n * q) (p * q + n * m) d
-    bare' p n q m a b d z h = rw z (omega arith)
+    none-added' : (p n q m a b d : ℕ) → m ≡ 0 → From a b (n * q) (p * q) d → From a b (p * m + n * q) (p * q + n * m) d
+    none-added' p n q m a b d z h = rw z (omega arith)
 
 over-from : (k a b p n d q e : ℕ) → q ≡ k * e → From (k * a) (k * b) p n d → From a b (p * e) (n * e) (q * d)
 over-from k a b p n d q e h f = rw h (omega (arith, mul-le-mul-right e f))

@@ -1,7 +1,7 @@
 use borrow.Author.Needs.{needs}
 use mathlib.Core.Path.{sym, _∙_}
 use native.Mathlib.Omega.{arith}
-use Rattle.records.specs.Laws.Refusals.{is-short, is-laid-out}
+use Rattle.register.specs.Laws.Registrable.{is-registrable}
 use Rattle.geopic.specs.Laws.Calls.{stream-opens, registration-opens, registered-opens}
 use Rattle.geopic.proofs.open_stream.Statement.{statement}
 use Rattle.geopic.proofs.open_stream.Tie as tie
@@ -18,7 +18,7 @@ survey-stream-requires c κs = search needs
 register-requires : tie.Need-register-requires
 register-requires c κs =
     let h = sym (c .before .before .before .refusal .ensures) ∙ c .before .before .if1 .left in
-    (omega (arith, is-short (c .before .before .before .before .before .before .args .s .now) h), is-laid-out (c .before .before .before .before .before .before .args .s .now) h, c .before .survey-stream .ensures, c .before .before .before .before .before .before .pre)
+    (is-registrable (c .before .before .before .before .before .before .args .s .now) h (c .before .survey-stream .ensures), c .before .before .before .before .before .before .pre)
 
 same-length : tie.Need-same-length
 same-length c = search needs

@@ -8,13 +8,9 @@ use mathlib.Core.Logic.{⊎-elim}
 use native.Mathlib.Omega.{arith}
 use borrow.Author.Needs.{needs}
 use borrow.Author.Tests.{not-true, not-false}
-use Rattle.records.specs.Laws.Refusals.{is-short, is-laid-out}
-use Rattle.stream.specs.Payload.{payload}
-use Rattle.scene.specs.Scene.{sceneOf}
-use Rattle.register.specs.Laws.Kept.{kept-few}
 use Rattle.geopic.specs.Geopic.{Buffers, early}
 use Rattle.geopic.specs.Laws.Conditions.{early-none}
-use Rattle.geopic.specs.Laws.Calls.{controls-are, begun, drawn}
+use Rattle.geopic.specs.Laws.Calls.{begun, drawn}
 use Rattle.geopic.proofs.write_output.Statement.{statement}
 use Rattle.geopic.proofs.write_output.Tie as tie
 
@@ -34,10 +30,7 @@ short j =
 write-warnings-requires : tie.Need-write-warnings-requires
 write-warnings-requires c κs =
     let a = c .before .before .before .before .before .before .before in
-    let s = a .args .s .now in
-    let h = read s (a .pre .none) in
-    let n = controls-are s (a .pre .is) in
-    (omega (arith, is-short s h), is-laid-out s h, a .pre .surveyed, n, omega (arith, n, kept-few (sceneOf (payload s)) (a .args .kept .now) (a .pre .room-kept) (a .pre .kept-so)), a .pre .room-kept, a .pre .kept-so)
+    (a .pre .registrable, a .pre .controls)
 
 projection-of-requires : tie.Need-projection-of-requires
 projection-of-requires c κs = search needs
@@ -49,7 +42,7 @@ convert-requires : tie.Need-convert-requires
 convert-requires c κs =
     let a = c .before .before .before .before .before .before .before .before .before .before .before .before .before .before .before .before .before .before in
     let s = a .args .s .now in
-    (omega (arith, is-short s (read s (a .pre .none))), begun s (lent a) (c .before .before .before .before .before .before .before .before .before .before .write-warnings .ensures) (short (c .before .before .before .before .before .before)) .fits, a .pre .surveyed .labels)
+    (omega (arith, a .pre .registrable), begun s (lent a) (c .before .before .before .before .before .before .before .before .before .before .write-warnings .ensures) (short (c .before .before .before .before .before .before)) .fits, a .pre .registrable .surveyed .labels)
 
 same-length : tie.Need-same-length
 same-length c = search needs

@@ -2,15 +2,14 @@
 use Prim.Native.Nat.{ℕ}
 use mathlib.Core.Path.{_≡_}
 use mathlib.Core.List.{List}
-use lib.ListN.{length}
 use Rattle.stream.specs.Conditions.{firstOf}
 use Rattle.stream.specs.Payload.{payload}
 use Rattle.scene.specs.Scene.{sceneOf}
 use Rattle.projection.specs.declared.Registration.{Registration}
 use Rattle.register.specs.declared.survey.Survey.{Survey}
 use Rattle.register.specs.Register.{registrationOf}
-use Rattle.register.specs.Contracts.Survey.{Surveyed}
-use Rattle.register.specs.Contracts.Gathered.{Kept}
+use Rattle.register.specs.Contracts.Survey.{Registrable}
+use Rattle.register.specs.Contracts.Gathered.{KeptControls}
 use Rattle.geopic.specs.declared.Opened.{Opened}
 use Rattle.geopic.specs.declared.Opened.the-variants.{Refused, Registered}
 use Rattle.geopic.specs.Geopic.{early}
@@ -23,9 +22,8 @@ numberBy (Registered v r) = 0
 pub record Registers (s : List ℕ) (v : Survey) (r : Registration) (kept : List ℕ) : Type 0 where
   pub none : firstOf (early s) ≡ 0
   pub is : r ≡ registrationOf (sceneOf (payload s))
-  pub surveyed : Surveyed (payload s) v
-  pub room-kept : length kept ≡ 64
-  pub kept-so : Kept (sceneOf (payload s)) kept
+  pub registrable : Registrable s v
+  pub controls : KeptControls (sceneOf (payload s)) (r .controls) kept
 
 abbrev pub OpenedAs : List ℕ → List ℕ → Opened → Type 0
 OpenedAs s kept (Refused n) = n ≡ 0 → ⊥

@@ -12,11 +12,8 @@ use Rattle.stream.specs.Conditions.{firstOf}
 use Rattle.stream.specs.Payload.{payload}
 use Rattle.records.specs.Contracts.Refusals.{refusalOf}
 use Rattle.scene.specs.Scene.{Scene, sceneOf}
-use Rattle.values.specs.declared.Point.{Point}
-use Rattle.values.specs.Maybe.{Maybe}
 use Rattle.scene.specs.Contracts.Answers.{itemsAt}
 use Rattle.scene.specs.Laws.Answers.{scene-lists}
-use Rattle.fit.specs.declared.Control.{Control}
 use Rattle.projection.specs.declared.Projection.{Projection}
 use Rattle.projection.specs.declared.Registration.{Registration}
 use Rattle.projection.specs.Projection.{projectionOf}
@@ -25,11 +22,12 @@ use Rattle.register.specs.declared.outcome.Outcome.{Outcome}
 use Rattle.register.specs.declared.survey.Survey.{Survey}
 use Rattle.register.specs.Contracts.Survey.{Surveyed}
 use Rattle.register.specs.Contracts.Gathered.{Kept}
-use Rattle.register.specs.Register.{f0, controlsOf, anchorOf, registrationBy, registrationOf, registerWarnings}
+use Rattle.register.specs.Register.{f0, registrationOf, registerWarnings}
 use Rattle.values.specs.Warnings.{Warning}
 use Rattle.register.specs.Contracts.Outcome.{registerRefusal, accepted, refusedBy, pickOutcome, outcomeOf}
-use Rattle.values.specs.Contracts.Warnings.{pushed, allPushed}
-use Rattle.register.specs.Contracts.Warnings as register
+use Rattle.register.specs.Laws.Kept.{controls-are}
+use Rattle.register.specs.Laws.Registrable.{is-registrable}
+use Rattle.values.specs.Contracts.Warnings.{WarningSlice, pushed, allPushed}
 use Rattle.budget.specs.declared.Budget.{Budget}
 use Rattle.values.specs.Slices.{put}
 use Rattle.values.specs.Laws.Put.{pair-put}
@@ -47,7 +45,7 @@ use Rattle.geopic.specs.Laws.Conditions.{number-is, early-stream, early-
 
 -- ---- the registration's warnings: what `register` pushes is what is played
 abbrev Pushed : Type 0
-Pushed = register.WarningSlice
+Pushed = WarningSlice
 
 abbrev pushing : List ℕ → Bool → ℕ → Pushed
 pushing out ok n = record { out = out; cursor = record { ok = ok; used = n } }
@@ -112,16 +110,6 @@ all-told (w ∷ ws) b t start h = one-told w ws b (all-told ws b) t start h
 module _ (s : List ℕ) where
   abbrev sc : Scene
   sc = sceneOf (payload s)
-
-  counted : (a : Maybe Point) (cs : List Control) → registrationBy sc a cs .controls ≡ length cs
-  unfolding registrationBy
-  counted a [] = refl
-  counted a (c ∷ []) = refl
-  counted a (c ∷ d ∷ cs) = refl
-
-  pub controls-are : {r : Registration} → r ≡ registrationOf sc → r .controls ≡ length (controlsOf sc)
-  unfolding registrationOf
-  controls-are e = rw e (counted (anchorOf sc) (controlsOf sc))
 
   module _ (t : Buffers) {v : List ℕ} {w : WarningCursor} {number : ℕ} (told : record { out = v; cursor = w } ≡ allPushed (registerWarnings sc) (pushing (t .warnings) true 0))
       (short : number ≡ cond (w .ok) 0 18) where
@@ -230,7 +218,9 @@ module _ (s : List ℕ) where
     pub registered-opens : {v : Survey} {kept : List ℕ} → o .number ≡ 0 → Surveyed (payload s) v → length kept ≡ 64 → Kept (sceneOf (payload s)) kept → Opens s kept (Registered v (o .registration))
     registered-opens z w n k =
         let none = sym number ∙ z in
-        record { number = sym none; comes = record { none = none; is = outcome-is (sc s) is z; surveyed = w; room-kept = n; kept-so = k } }
+        let r = outcome-is (sc s) is z in
+        let controls = record { count = controls-are (sc s) r; kept-room = n; numbers = k } in
+        record { number = sym none; comes = record { none = none; is = r; registrable = is-registrable s read w; controls = controls } }
 
   -- the same by the answer's case
   module _ {kept : List ℕ} {o : Opened} (h : Opens s kept o) where

@@ -20,6 +20,7 @@ use Rattle.names.specs.Contracts.Batch.{slotPoint}
 use Rattle.register.specs.declared.controls.Tally.{Tally}
 use Rattle.register.specs.declared.controls.FilledBatch as code-filled
 use Rattle.register.specs.declared.mentions.Cursor.{Cursor}
+use Rattle.register.specs.declared.survey.Survey.{Survey}
 use Rattle.register.specs.Register.{Event, control, warn, allWithinLimits, resolved, mentioned, featureEvents, variableEvents, controlsIn, controlsOf, events}
 use Rattle.register.specs.Contracts.Mentions.{Mention, featureMentions, grownBy, eventsOf, mentionsAt, moreOf, Follows}
 
@@ -42,6 +43,11 @@ controlIn = fourIn controlBy
 abbrev pub controlsBy : List Float → ℕ → List Control
 controlsBy = foursIn controlBy
 
+-- room for 64 control points, four numbers each, and for the numbers of their names
+pub record ControlRoom (flat : List Float) (kept : List ℕ) : Type 0 where
+  pub flat-room : length flat ≡ 256
+  pub kept-room : length kept ≡ 64
+
 -- cs are gathered, of the names js; where b is false, only how many there are is known, and whether all are placed
 pub record Holds (b : Bool) (cs : List Control) (js : List ℕ) (g : Tally) (flat : List Float) (kept : List ℕ) : Type 0 where
   pub count : g .n ≡ upTo65 (length cs)
@@ -59,7 +65,19 @@ Gathers sc g flat kept = Holds true (controlsOf sc) (numbersIn 0 (events sc)) g 
 abbrev pub Kept : Scene → List ℕ → Type 0
 Kept sc kept = take (length (controlsOf sc)) kept ≡ numbersIn 0 (events sc)
 
+-- n is how many control points a scene has, and `kept`, which has room for 64, has the numbers of their names
+pub record KeptControls (sc : Scene) (n : ℕ) (kept : List ℕ) : Type 0 where
+  pub count : n ≡ length (controlsOf sc)
+  pub kept-room : length kept ≡ 64
+  pub numbers : Kept sc kept
+
 -- ---- a batch of names
+-- a table of n names of a stream can take one more
+pub record TableRoom (more : ℕ) (s t : List ℕ) (n : ℕ) : Type 0 where
+  pub small : room s < 33554432
+  pub free : n < length t
+  pub table : Table more (payload s) t n
+
 -- the mention has the name x and a latitude
 abbrev pub named : List ℕ → Mention → Maybe Float → Bool
 named x m none = false
@@ -97,6 +115,12 @@ pub record Batch (s : List ℕ) (lons : Bool) (c : Cursor) (r : code-filled.Fill
   pub onward : c .q ≤ r .next .q
   pub more : r .n ≡ 0 ⊎ (c .q < r .next .q)
   pub fits : r .n ≡ 0 ⊎ (c .q < room s)
+
+-- a batch is filled from c on, and its first name is the base-th of all names that were surveyed
+pub record BatchFrom (s : List ℕ) (v : Survey) (lons : Bool) (c : Cursor) (f : code-filled.FilledBatch) (t runs : List ℕ) (base : ℕ) : Type 0 where
+  pub counted : base + f .count ≤ v .names
+  pub follows : Follows s lons c runs
+  pub filling : Filling s lons c f t
 
 -- ---- marks
 -- the name x is known: its entry, if there is one, had the mark r and has none now
@@ -164,6 +188,18 @@ pub record AfterRead (l : List ℕ) (lons : Bool) (ms : List Mention) (t t′ : 
   -- each mark that is gone was a control point
   pub counted : marked t n ≤ marked t′ n + length (controlsIn (eventsOf (sceneOf l) (againOf lons) was ms))
 
+-- what was known before the mentions ms are read is known after it too
+abbrev pub Reads : List ℕ → Bool → List Mention → ℕ → List Float → ℕ → List ℕ → Tally → List Float → List ℕ → List ℕ → Tally → List Float → List ℕ → Type 0
+Reads l lons ms n spots j t g flat kept t′ r flat′ kept′ =
+    (h : BeforeRead l lons ms t n spots g flat kept)
+    → AfterRead l lons ms t t′ n spots j (h .was) (h .b) (h .cs) (h .js) r flat′ kept′
+
+-- a batch can be read: its table has n names, a mark stands for one of 64 points, and control points have room
+pub record Readable (s : List ℕ) (lons : Bool) (t : List ℕ) (n : ℕ) (spots flat : List Float) (kept : List ℕ) : Type 0 where
+  pub table : Table (moreOf lons) (payload s) t n
+  pub spots-room : length spots ≡ 128
+  pub control-room : ControlRoom flat kept
+
 -- the point of a control point
 abbrev pub pointIn : Control → Point
 pointIn c = record { x = c .x; y = c .y }
@@ -191,6 +227,20 @@ batchEvents l lons base ms =
 abbrev pub Earlier : Scene → Bool → ℕ → List Control → Type 0
 Earlier sc lons base cs =
     length (controlsIn (eventsOf sc 2 noName (featureMentions 0 (take (beforeOf lons (length (sc .features)) base) (sc .features))))) ≤ length cs
+
+-- control points that are held stay; those of the events es come behind them, the first event being the j-th
+abbrev pub Appends : (List Control → Type 0) → ℕ → List Event → Tally → List Float → List ℕ → Tally → List Float → List ℕ → Type 0
+Appends P j es g flat kept r flat′ kept′ =
+    (cs : List Control) (js : List ℕ) → Holds true cs js g flat kept → P cs
+    → Holds true (cs ++ controlsIn es) (js ++ numbersIn j es) r flat′ kept′
+
+-- the mentions ms of a batch are gathered, the first of them being the base-th name
+abbrev pub GathersBatch : List ℕ → Bool → ℕ → List Mention → Tally → List Float → List ℕ → Tally → List Float → List ℕ → Type 0
+GathersBatch l lons base ms = Appends (Earlier (sceneOf l) lons base) base (batchEvents l lons base ms)
+
+-- a whole part of the names is gathered
+abbrev pub GathersPart : Scene → Bool → Tally → List Float → List ℕ → Tally → List Float → List ℕ → Type 0
+GathersPart sc lons = Appends (Earlier sc lons 0) (baseOf lons sc) (partEvents lons sc)
 
 abbrev pub firstCursor : Bool → ℕ → Cursor
 firstCursor true vars = record { q = vars; i = 0; at = 0; len = 0 }

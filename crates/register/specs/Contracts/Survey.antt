@@ -1,11 +1,14 @@
 -- What one walk over host features and variables tells: what is declared, how many names of control points there are,
 -- and where variables and labels stand.
 use mathlib.Core.Path.{_≡_}
-use mathlib.Core.Bool.{cond}
+use mathlib.Core.Bool.{true, cond}
 use mathlib.Core.List.{List, [], _∷_}
-use Prim.Native.Nat.{ℕ, suc, _+_, _≤_}
+use Prim.Native.Nat.{ℕ, suc, _+_, _≤_, _<_}
 use lib.ListN.{length}
 use lib.Ieee.{Float}
+use Rattle.stream.specs.Payload.{payload}
+use Rattle.stream.specs.Contracts.Payload.{room}
+use Rattle.records.specs.Layout.{laidOut}
 use Rattle.scene.specs.declared.fields.OptionalFloat.{OptionalFloat}
 use Rattle.scene.specs.Scene.{NamedValue, Scene, sceneOf}
 use Rattle.scene.specs.Labels.{sameBytes, pick, variableOf}
@@ -66,6 +69,12 @@ pub record Surveyed (l : List ℕ) (v : Survey) : Type 0 where
   pub few : v .names ≤ length l
   pub vars : VariablesFrom l (v .vars)
   pub labels : LabelsFrom l (v .labels)
+
+-- a stream that can be registered: not too long, laid out, and surveyed
+pub record Registrable (s : List ℕ) (v : Survey) : Type 0 where
+  pub small : room s < 33554432
+  pub laid-out : laidOut (payload s) ≡ true
+  pub surveyed : Surveyed (payload s) v
 
 -- the host features are counted, and what follows them stands from `end` on
 pub record Numbered (l : List ℕ) (n end : ℕ) : Type 0 where

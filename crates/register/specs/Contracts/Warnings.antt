@@ -1,10 +1,10 @@
 -- Warnings as the code writes them into a lent slice, two numbers each, up to the first that lacks room, and of which names.
 use Prim.Native.Nat.{ℕ, _+_, _≤_, _<_}
 use mathlib.Core.Path.{_≡_}
-use mathlib.Core.Bool.{Bool, true, false, _&&_, _||_, cond}
+use mathlib.Core.Bool.{Bool, false, _&&_, _||_, cond}
 use mathlib.Core.List.{List, [], _∷_}
-use lib.ListN.{length, take, drop, getD, set}
-use lib.Dec.{leb, eqb}
+use lib.ListN.{length, take, drop, getD}
+use lib.Dec.{eqb}
 use lib.Ieee.{Float}
 use Rattle.stream.specs.Payload.{payload}
 use Rattle.stream.specs.Contracts.Payload.{room}
@@ -12,9 +12,7 @@ use Rattle.records.specs.Records.{bytesAt}
 use Rattle.scene.specs.Scene.{NamedFeature, sceneOf}
 use Rattle.values.specs.Maybe.{Maybe, none, some, isSome}
 use Rattle.scene.specs.Labels.{sameBytes}
-use Rattle.values.specs.declared.WarningCursor.{WarningCursor}
 use Rattle.register.specs.Register.{resolved, mentioned, variableEvents}
-use Rattle.values.specs.Warnings.{Warning}
 use Rattle.register.specs.Contracts.Gathered.{numbersIn}
 
 -- ---- numbers of names that are control points
@@ -40,12 +38,18 @@ pub record ResolvedNames (s heads : List ℕ) (h : ℕ) (fs : List NamedFeature)
   pub names : (x : List ℕ) → anyNameIs (payload s) (take h heads) x
       ≡ (isSome (resolved (sceneOf (payload s)) x) && mentioned x fs)
 
+-- where each of 64 names of a stream stands can be kept as 32 bits
+pub record PositionRoom (s heads : List ℕ) : Type 0 where
+  pub small : room s < 33554432
+  pub sized : length heads ≡ 64
+
 -- what is known behind the host features: their heads, and which of n kept numbers are left for the variables
 pub record AfterFeatures (s kept : List ℕ) (n : ℕ) (heads : List ℕ) (h features : ℕ) : Type 0 where
   pub heading : ResolvedNames s heads h (sceneOf (payload s) .features)
   pub left : drop h (take n kept)
       ≡ numbersIn features (variableEvents (sceneOf (payload s)) 0 (sceneOf (payload s) .variables))
   pub short : features ≤ room s
+  pub few : n ≤ length kept
 
 -- the warning of a mention that is no control point, where b says that a host feature which resolves has its name
 unfoldable pub kindBy : Maybe Float → Bool → ℕ

@@ -34,7 +34,7 @@ returns : tie.Need-returns Inv-loop μ-loop
 returns c = fills-ends (c .before .before .before .before .before .before .before .before .loop .inv .0) _ _ (c .before .before .before .before .before .next-mention .ensures) (not-true _ (c .if1 .taken))
 
 add-name-requires : tie.Need-add-name-requires Inv-loop μ-loop
-add-name-requires c κs = rw (c .before .before .before .before .before .before .before .before .before .before .more-of .ensures) (c .before .before .before .before .before .before .before .before .before .before .before .before .before .before .pre .0, search needs, c .before .before .before .before .before .before .before .before .before .loop .inv .0 .table, c .before .before .before .before .before .before .next-mention .ensures .heads (not-false _ (c .before .if1 .left)))
+add-name-requires c κs = rw (c .before .before .before .before .before .before .before .before .before .before .more-of .ensures) (record { small = c .before .before .before .before .before .before .before .before .before .before .before .before .before .before .pre .0; free = search needs; table = c .before .before .before .before .before .before .before .before .before .loop .inv .0 .table }, c .before .before .before .before .before .before .next-mention .ensures .heads (not-false _ (c .before .if1 .left)))
 
 add-count : tie.Need-add-count Inv-loop μ-loop
 add-count c = omega (arith, c .before .before .before .before .before .before .before .before .before .before .before .before .before .before .before .before .before .pre .0, fills-few (c .before .before .before .before .before .before .before .before .before .before .before .before .loop .inv .0) _ _ (c .before .before .before .before .before .before .before .before .before .next-mention .ensures) (not-false _ (c .before .before .before .before .if1 .left)))

@@ -22,7 +22,7 @@ match-labels-requires : tie.Need-match-labels-requires
 match-labels-requires c κs =
     let pre = c .before .before .before .before .before .before .before .before .before .pre in
     let e = c .before .before .before .more-of .ensures in
-    (pre .0, more-few (c .before .before .before .before .before .before .before .before .before .args .lons) e, rw e (pre .4 .table), pre .4 .unmarked, search needs, search needs)
+    (pre .0 .small, more-few (c .before .before .before .before .before .before .before .before .before .args .lons) e, rw e (pre .1 .filling .table), pre .1 .filling .unmarked, search needs, search needs)
 
 -- src/controls.rt:307:9
 same-length : tie.Need-same-length
@@ -33,7 +33,7 @@ returns : tie.Need-returns
 returns c =
     let pre = c .before .before .before .before .before .before .before .before .before .before .before .before .before .before .before .pre in
     let d = rw (c .before .before .before .before .before .before .before .before .before .more-of .ensures) at (c .before .before .before .before .before .match-labels .ensures) in
-    λ cs js h o. batch-lost _ _ _ _ _ (pre .4) d (pre .1 .labels) h (c .if1 .taken)
+    λ cs js h o. batch-lost _ _ _ _ _ (pre .1 .filling) d (pre .0 .surveyed .labels) h (c .if1 .taken)
 
 -- src/controls.rt:309:43
 sub-features-before : tie.Need-sub-features-before
@@ -57,7 +57,7 @@ slice-aggregate-read-batch c = search needs
 read-batch-requires : tie.Need-read-batch-requires
 read-batch-requires c κs =
     let pre = c .before .before .before .before .before .before .before .before .before .before .before .before .before .before .before .before .before .before .before .before .before .before .before .before .before .before .pre in
-    (omega (arith, pre .0, pre .1 .few, pre .2, payload-length (c .before .before .before .before .before .before .before .before .before .before .before .before .before .before .before .before .before .before .before .before .before .before .before .before .before .before .args .s .now)), search needs, search needs, search needs, pre .3, rw (← (c .before .before .before .before .before .before .before .before .before .before .before .before .before .before .before .before .before .before .before .before .more-of .ensures)) (c .before .before .before .before .before .before .before .clear-known .ensures .table))
+    (omega (arith, pre .0 .small, pre .0 .surveyed .few, pre .1 .counted, payload-length (c .before .before .before .before .before .before .before .before .before .before .before .before .before .before .before .before .before .before .before .before .before .before .before .before .before .before .args .s .now)), record { table = rw (← (c .before .before .before .before .before .before .before .before .before .before .before .before .before .before .before .before .before .before .before .before .more-of .ensures)) (c .before .before .before .before .before .before .before .clear-known .ensures .table); spots-room = search needs; control-room = pre .2 }, pre .1 .follows)
 
 -- src/controls.rt:278:1
 same-length-2 : tie.Need-same-length-2
@@ -80,8 +80,8 @@ returns-2 : tie.Need-returns-2
 returns-2 c =
     let pre = c .before .before .before .before .before .before .before .before .before .before .before .before .before .before .before .before .before .before .before .before .before .before .before .before .before .before .before .before .before .before .before .before .before .before .before .pre in
     let d = rw (c .before .before .before .before .before .before .before .before .before .before .before .before .before .before .before .before .before .before .before .before .before .before .before .before .before .before .before .before .before .more-of .ensures) at (c .before .before .before .before .before .before .before .before .before .before .before .before .before .before .before .before .before .before .before .before .before .before .before .before .before .match-labels .ensures) in
-    let o = rw (c .before .before .before .before .before .before .before .before .before .before .before .before .before .before .before .before .before .before .before .before .before .before .before .before .before .before .before .before .before .more-of .ensures, c .before .before .before .before .before .before .before .before .before .before .before .before .before .before .before .before .before .features-before .ensures, surveyed-features (pre .1)) at (c .before .before .before .before .before .before .before .before .before .before .before .before .before .before .before .before .clear-known .ensures) in
-    λ cs js h q. batch-read _ _ _ _ _ (pre .4) d (pre .1 .labels) h o q (c .before .before .before .before .before .before .before .before .read-batch .ensures (ready _ _ _ _ _ (pre .4) d (pre .1 .labels) h o))
+    let o = rw (c .before .before .before .before .before .before .before .before .before .before .before .before .before .before .before .before .before .before .before .before .before .before .before .before .before .before .before .before .before .more-of .ensures, c .before .before .before .before .before .before .before .before .before .before .before .before .before .before .before .before .before .features-before .ensures, surveyed-features (pre .0 .surveyed)) at (c .before .before .before .before .before .before .before .before .before .before .before .before .before .before .before .before .clear-known .ensures) in
+    λ cs js h q. batch-read _ _ _ _ _ (pre .1 .filling) d (pre .0 .surveyed .labels) h o q (c .before .before .before .before .before .before .before .before .read-batch .ensures (ready _ _ _ _ _ (pre .1 .filling) d (pre .0 .surveyed .labels) h o))
 
 pub gather-batch-spec : {M : Type 1} → statement M
 gather-batch-spec =

@@ -28,12 +28,12 @@ returns : tie.Need-returns
 returns c =
     let pre = c .before .before .before .before .before .before .before .before .before .before .before .before .before .before .before .before .pre in
     let sc = sceneOf (payload (c .before .before .before .before .before .before .before .before .before .before .before .before .before .before .before .before .args .s .now)) in
-    let h = c .before .before .before .before .before .before .before .before .gather-part .ensures [] [] (none-held (pre .4) (pre .5)) (none-before-all sc) in
-    features-alone sc (only-features (pre .2) (c .if1 .taken)) h
+    let h = c .before .before .before .before .before .before .before .before .gather-part .ensures [] [] (none-held (pre .2)) (none-before-all sc) in
+    features-alone sc (only-features (pre .0 .surveyed) (c .if1 .taken)) h
 
 -- src/controls.rt:354:5
 gather-part-requires-2 : tie.Need-gather-part-requires-2
-gather-part-requires-2 c κs = search needs
+gather-part-requires-2 c κs = (search needs, search needs, record { flat-room = search needs; kept-room = search needs })
 
 -- src/controls.rt:341:1
 same-length-4 : tie.Need-same-length-4
@@ -52,7 +52,7 @@ returns-2 : tie.Need-returns-2
 returns-2 c =
     let pre = c .before .before .before .before .before .before .before .before .before .before .before .before .before .before .before .before .before .before .before .before .before .before .before .before .before .before .pre in
     let sc = sceneOf (payload (c .before .before .before .before .before .before .before .before .before .before .before .before .before .before .before .before .before .before .before .before .before .before .before .before .before .before .args .s .now)) in
-    let h = c .before .before .before .before .before .before .before .before .before .before .before .before .before .before .before .before .before .before .gather-part .ensures [] [] (none-held (pre .4) (pre .5)) (none-before-all sc) in
+    let h = c .before .before .before .before .before .before .before .before .before .before .before .before .before .before .before .before .before .before .gather-part .ensures [] [] (none-held (pre .2)) (none-before-all sc) in
     both-parts sc (c .before .before .before .before .before .before .gather-part2 .ensures _ _ h (features-first sc))
 
 pub gather-names-spec : {M : Type 1} → statement M

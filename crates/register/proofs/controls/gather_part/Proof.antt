@@ -27,7 +27,7 @@ first-of-requires c κs = search needs
 
 -- src/controls.rt:327:42
 sub-features-before : tie.Need-sub-features-before Inv-loop μ-loop
-sub-features-before c = omega (arith, c .before .before .before .before .before .before .pre .2 .names, c .before .before .before .before .before .before .pre .2 .lons)
+sub-features-before c = omega (arith, c .before .before .before .before .before .before .pre .0 .surveyed .names, c .before .before .before .before .before .before .pre .0 .surveyed .lons)
 
 -- src/controls.rt:327:9
 features-before-requires : tie.Need-features-before-requires Inv-loop μ-loop
@@ -35,7 +35,7 @@ features-before-requires c κs = search needs
 
 -- src/controls.rt:328:5
 loop-holds : tie.Need-loop-holds Inv-loop μ-loop
-loop-holds c = (part-start _ _ (c .before .before .before .before .before .before .before .pre .2) (c .before .before .before .before .before .before .before .pre .1) (c .before .before .first-of .ensures) (c .features-before .ensures), refl, refl, refl, refl)
+loop-holds c = (part-start _ _ (c .before .before .before .before .before .before .before .pre .0 .surveyed) (c .before .before .before .before .before .before .before .pre .0 .laid-out) (c .before .before .first-of .ensures) (c .features-before .ensures), refl, refl, refl, refl)
 
 -- src/controls.rt:330:37
 slice-aggregate-fill-batch : tie.Need-slice-aggregate-fill-batch Inv-loop μ-loop
@@ -43,7 +43,7 @@ slice-aggregate-fill-batch c = search needs
 
 -- src/controls.rt:330:13
 fill-batch-requires : tie.Need-fill-batch-requires Inv-loop μ-loop
-fill-batch-requires c κs = (c .before .before .before .before .before .before .before .before .before .before .pre .0, c .before .before .loop .inv .0 .follows)
+fill-batch-requires c κs = (c .before .before .before .before .before .before .before .before .before .before .pre .0 .small, c .before .before .loop .inv .0 .follows)
 
 -- src/controls.rt:332:13
 same-length : tie.Need-same-length Inv-loop μ-loop
@@ -60,7 +60,7 @@ same-length-3 c = c .before .before .before .before .before .before .before .bef
 -- src/controls.rt:332:13
 returns : tie.Need-returns Inv-loop μ-loop
 returns c =
-    part-end (c .before .before .before .before .before .before .before .before .loop .inv .0) (c .before .before .before .before .before .fill-batch .ensures) (c .if1 .taken) (omega (arith, c .before .before .before .before .before .before .before .before .before .before .before .before .before .before .before .before .pre .3, c .before .before .before .before .before .before .before .before .loop .inv .1, c .before .before .before .before .t .given))
+    part-end (c .before .before .before .before .before .before .before .before .loop .inv .0) (c .before .before .before .before .before .fill-batch .ensures) (c .if1 .taken) (omega (arith, c .before .before .before .before .before .before .before .before .before .before .before .before .before .before .before .before .pre .1, c .before .before .before .before .before .before .before .before .loop .inv .1, c .before .before .before .before .t .given))
 
 -- src/controls.rt:334:49
 slice-aggregate-gather-batch : tie.Need-slice-aggregate-gather-batch Inv-loop μ-loop
@@ -71,14 +71,14 @@ gather-batch-requires : tie.Need-gather-batch-requires Inv-loop μ-loop
 gather-batch-requires c κs =
     let pre = c .before .before .before .before .before .before .before .before .before .before .before .before .before .before .before .before .before .before .before .before .pre in
     let d = c .before .before .before .before .before .before .before .before .before .fill-batch .ensures in
-    (pre .0, pre .2, omega (arith, left (c .before .before .before .before .before .before .before .before .before .before .before .before .loop .inv .0), d .filling .enough, part-total (pre .2) (c .before .before .before .before .before .before .before .before .before .before .before .before .before .before .before .before .before .before .before .before .args .lons)), c .before .before .before .before .before .before .before .before .before .before .before .before .loop .inv .0 .follows, d .filling, omega (arith, pre .4, c .before .before .before .before .before .before .before .before .before .before .before .before .loop .inv .2), omega (arith, pre .5, c .before .before .before .before .before .before .before .before .before .before .before .before .loop .inv .3))
+    (pre .0, record { counted = omega (arith, left (c .before .before .before .before .before .before .before .before .before .before .before .before .loop .inv .0), d .filling .enough, part-total (pre .0 .surveyed) (c .before .before .before .before .before .before .before .before .before .before .before .before .before .before .before .before .before .before .before .before .args .lons)); follows = c .before .before .before .before .before .before .before .before .before .before .before .before .loop .inv .0 .follows; filling = d .filling }, record { flat-room = omega (arith, pre .2 .flat-room, c .before .before .before .before .before .before .before .before .before .before .before .before .loop .inv .2); kept-room = omega (arith, pre .2 .kept-room, c .before .before .before .before .before .before .before .before .before .before .before .before .loop .inv .3) })
 
 -- src/controls.rt:336:9
 add-base : tie.Need-add-base Inv-loop μ-loop
 add-base c =
     let pre = c .before .before .before .before .before .before .before .before .before .before .before .before .before .before .before .before .before .before .before .before .before .before .before .before .before .before .before .before .before .before .pre in
     let d = c .before .before .before .before .before .before .before .before .before .before .before .before .before .before .before .before .before .before .before .fill-batch .ensures in
-    omega (arith, left (c .before .before .before .before .before .before .before .before .before .before .before .before .before .before .before .before .before .before .before .before .before .before .loop .inv .0), d .filling .enough, part-total (pre .2) (c .before .before .before .before .before .before .before .before .before .before .before .before .before .before .before .before .before .before .before .before .before .before .before .before .before .before .before .before .before .before .args .lons), pre .2 .few, pre .0, payload-length (c .before .before .before .before .before .before .before .before .before .before .before .before .before .before .before .before .before .before .before .before .before .before .before .before .before .before .before .before .before .before .args .s .now))
+    omega (arith, left (c .before .before .before .before .before .before .before .before .before .before .before .before .before .before .before .before .before .before .before .before .before .before .loop .inv .0), d .filling .enough, part-total (pre .0 .surveyed) (c .before .before .before .before .before .before .before .before .before .before .before .before .before .before .before .before .before .before .before .before .before .before .before .before .before .before .before .before .before .before .args .lons), pre .0 .surveyed .few, pre .0 .small, payload-length (c .before .before .before .before .before .before .before .before .before .before .before .before .before .before .before .before .before .before .before .before .before .before .before .before .before .before .before .before .before .before .args .s .now))
 
 -- src/controls.rt:328:5
 loop-less : tie.Need-loop-less Inv-loop μ-loop

@@ -41,7 +41,7 @@ add-read-mention c =
 read-mention-requires : tie.Need-read-mention-requires Inv-loop μ-loop
 read-mention-requires c κs =
     let d = c .before .before .before .before .before .before .before .before .before .before .loop .inv in
-    (omega (arith, c .before .before .before .before .before .before .before .before .before .loop-test), d .spots-room, d .flat-room, d .kept-room, d .table, c .before .before .before .before .before .before .before .next-mention .ensures .heads (not-false _ (c .before .before .before .if1 .left)))
+    (omega (arith, c .before .before .before .before .before .before .before .before .before .loop-test), record { table = d .table; spots-room = d .spots-room; control-room = record { flat-room = d .flat-room; kept-room = d .kept-room } }, c .before .before .before .before .before .before .before .next-mention .ensures .heads (not-false _ (c .before .before .before .if1 .left)))
 
 add-k : tie.Need-add-k Inv-loop μ-loop
 add-k c =

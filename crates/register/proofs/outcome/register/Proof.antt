@@ -24,7 +24,7 @@ module _ (c : tie.After-gather) where
   d = c .before .before .before .before .before .before .before .before .args .v .declared
 
   declares : Declares sc d
-  declares = c .before .before .before .before .before .before .before .before .pre .2 .declares
+  declares = c .before .before .before .before .before .before .before .before .pre .0 .surveyed .declares
 
   mercator : isMercator (sc .frame) (var sc geoFrame) ≡ true
   mercator = sym (declares .mercator) ∙ not-false _ (c .before .before .before .if1 .left)
@@ -57,13 +57,13 @@ refuse-requires c κs = search needs
 returns : tie.Need-returns
 returns c =
     let start = c .before .before .before .before .before .before in
-    refused 7 (c .refuse .ensures) (omega arith) (not-mercator (sceneOf (payload (start .args .s .now))) (sym (start .pre .2 .declares .mercator) ∙ not-true _ (c .before .if1 .taken)))
+    refused 7 (c .refuse .ensures) (omega arith) (not-mercator (sceneOf (payload (start .args .s .now))) (sym (start .pre .0 .surveyed .declares .mercator) ∙ not-true _ (c .before .if1 .taken)))
 
 slice-aggregate-gather : tie.Need-slice-aggregate-gather
 slice-aggregate-gather c = search needs
 
 gather-requires : tie.Need-gather-requires
-gather-requires c κs = search needs
+gather-requires c κs = (search needs, record { flat-room = search needs; kept-room = search needs })
 
 refuse-requires-2 : tie.Need-refuse-requires-2
 refuse-requires-2 c κs = search needs

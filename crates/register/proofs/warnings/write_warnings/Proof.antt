@@ -20,8 +20,8 @@ same-length c = search needs
 
 returns : tie.Need-returns
 returns c =
-    let d = c .before .before .before .before .before .before .before .before .before .before .before .before .before .before .before .before .before .before .before .before .pre .2 .declares in
-    all-warned _ _ (c .before .before .before .before .before .before .before .before .before .before .before .before .before .before .before .before .before .before .before .before .pre .3) (c .before .before .before .before .before .before .before .before .before .before .before .before .before .before .warn-view .ensures .0 _ d) (c .before .before .before .before .before .before .before .before .before .before .warn-names .ensures .0) (c .before .before .before .before .before .before .warn-half .ensures .0 _ d) (c .before .before .warn-ignored .ensures .0 _ d)
+    let d = c .before .before .before .before .before .before .before .before .before .before .before .before .before .before .before .before .before .before .before .before .pre .0 .surveyed .declares in
+    all-warned _ _ (c .before .before .before .before .before .before .before .before .before .before .before .before .before .before .before .before .before .before .before .before .pre .1 .count) (c .before .before .before .before .before .before .before .before .before .before .before .before .before .before .warn-view .ensures .0 _ d) (c .before .before .before .before .before .before .before .before .before .before .warn-names .ensures .0) (c .before .before .before .before .before .before .warn-half .ensures .0 _ d) (c .before .before .warn-ignored .ensures .0 _ d)
 
 pub write-warnings-spec : {M : Type 1} → statement M
 write-warnings-spec =

@@ -1,7 +1,6 @@
 use borrow.Author.Needs.{needs}
 use mathlib.Core.Path.{sym, _∙_}
-use native.Mathlib.Omega.{arith}
-use Rattle.records.specs.Laws.Refusals.{is-short, is-laid-out}
+use Rattle.register.specs.Laws.Registrable.{is-registrable}
 use Rattle.test_host.proofs.Accepting.{refused, passed}
 use Rattle.test_host.proofs.register_calls.register_stream.Statement.{statement}
 use Rattle.test_host.proofs.register_calls.register_stream.Tie as tie
@@ -24,7 +23,7 @@ slice-aggregate-register c = search needs
 register-requires : tie.Need-register-requires
 register-requires c κs =
     let h = sym (c .before .before .before .refusal .ensures) ∙ c .before .before .if1 .left in
-    (omega (arith, is-short _ h), is-laid-out _ h, c .before .survey-stream .ensures, search needs)
+    (is-registrable _ h (c .before .survey-stream .ensures), search needs)
 
 returns-2 : tie.Need-returns-2
 returns-2 c = passed _ (sym (c .before .before .before .before .before .refusal .ensures) ∙ c .before .before .before .before .if1 .left) (c .before .register .ensures .0)

@@ -1,11 +1,7 @@
 use borrow.Author.Needs.{needs}
 use mathlib.Core.Path.{refl, sym, _∙_}
-use native.Mathlib.Omega.{arith}
-use Rattle.stream.specs.Payload.{payload}
-use Rattle.records.specs.Laws.Refusals.{is-short, is-laid-out}
-use Rattle.scene.specs.Scene.{sceneOf}
 use Rattle.register.specs.Contracts.Outcome.{refusedBy}
-use Rattle.register.specs.Laws.Kept.{kept-few}
+use Rattle.register.specs.Laws.Registrable.{is-registrable}
 use Rattle.test_host.proofs.Accepting.{refused, passed, controls-are, told, untold}
 use Rattle.test_host.proofs.register_calls.register_warnings.Statement.{statement}
 use Rattle.test_host.proofs.register_calls.register_warnings.Tie as tie
@@ -27,7 +23,7 @@ slice-aggregate-register c = search needs
 register-requires : tie.Need-register-requires
 register-requires c κs =
     let h = sym (c .before .before .before .refusal .ensures) ∙ c .before .before .if1 .left in
-    (omega (arith, is-short (c .before .before .before .before .before .before .args .s .now) h), is-laid-out (c .before .before .before .before .before .before .args .s .now) h, c .before .survey-stream .ensures, search needs)
+    (is-registrable (c .before .before .before .before .before .before .args .s .now) h (c .before .survey-stream .ensures), search needs)
 
 returns-2 : tie.Need-returns-2
 returns-2 c =
@@ -44,7 +40,7 @@ write-warnings-requires c κs =
     let n = controls-are s (passed s h (c .before .before .before .before .before .before .register .ensures .0)) (c .before .before .before .if2 .left) in
     let k = c .before .before .before .before .before .before .register .ensures .1 (c .before .before .before .if2 .left) in
     let m = c .before .before .before .before .before .kept2 .given in
-    (omega (arith, is-short s h), is-laid-out s h, c .before .before .before .before .before .before .before .before .survey-stream .ensures, n, omega (arith, n, kept-few (sceneOf (payload s)) _ m k), m, k)
+    (is-registrable s h (c .before .before .before .before .before .before .before .before .survey-stream .ensures), record { count = n; kept-room = m; numbers = k })
 
 same-length : tie.Need-same-length
 same-length c = search needs
