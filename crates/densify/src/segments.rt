@@ -5,9 +5,9 @@ ghost use lib.ListN.{length};
 ghost use Rattle.densify.specs.Densify.{withoutDraws, segmentWant, alongOf, samplesTo, densifyPolylineOf};
 ghost use Rattle.densify.specs.Contracts.Written.{Written};
 ghost use Rattle.values.specs.Contracts.Points.{pointIn, pointsIn};
-use crate::counts::segment_parts;
 use crate::append::PointCursor;
 use crate::append::put_point;
+use crate::counts::segment_parts;
 use budget::Budget;
 use elementary::hypot;
 

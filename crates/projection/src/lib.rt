@@ -10,11 +10,11 @@ use elementary::to_radians;
 use float::round;
 use geodesy::LonLat;
 use geodesy::Metres;
+use geodesy::exp_ordinate;
+use geodesy::latitude;
 use geodesy::longitude;
 use geodesy::mercator_forward;
 use geodesy::mercator_inverse;
-use geodesy::latitude;
-use geodesy::exp_ordinate;
 
 mod project;
 

@@ -21,10 +21,10 @@ use densify::densify_polyline;
 use densify::ellipse_ring;
 use densify::path_points;
 use densify::segment_want;
-use scene::Path;
 use projection::Registration;
 use projection::project_points;
 use projection::projection_of;
+use scene::Path;
 
 // Whether the points had room, where they end, and the budget after them.
 #[repr(C)]

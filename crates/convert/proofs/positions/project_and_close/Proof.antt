@@ -47,4 +47,3 @@ project-and-close-spec =
     repeat-first-position-requires
     same-length-2
     returns-3)
-

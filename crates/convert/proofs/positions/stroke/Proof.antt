@@ -116,4 +116,3 @@ stroke-spec =
     same-length-2
     same-length-3
     returns-3)
-

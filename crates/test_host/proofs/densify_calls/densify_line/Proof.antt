@@ -47,4 +47,3 @@ densify-line-spec =
     drawing-of-requires-2
     same-length-2
     returns-2)
-
