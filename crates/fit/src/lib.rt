@@ -201,10 +201,11 @@ fn put_projected(projected: &mut [f64], k: usize, c: Control)
     projected[4 * k + 3] = m.n;
 }
 
-// The projected of the control points from i on: each is projected once.
+// The control points from i on, with their positions projected: each is projected once.
 pub fn project_from(controls: &[Control], i: usize, projected: &mut [f64])
     requires { ⌜ (length (now controls) ≤ 64) × (4 * length (now controls) ≤ length (now projected)) ⌝ }
-    ensures { λ _. ⌜ now (projected .exit) ≡ projectedFrom (now (projected .entry)) i (drop i (now (controls .entry))) ⌝ }
+    ensures { λ _. ⌜ now (projected .exit)
+        ≡ projectedFrom (now (projected .entry)) i (drop i (now (controls .entry))) ⌝ }
 {
     if i < controls.len() {
         let c = controls[i];
