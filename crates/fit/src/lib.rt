@@ -189,7 +189,7 @@ fn projected_at(projected: &[f64], k: usize) -> ProjectedControl
     }
 }
 
-// The point's mark, as the k-th.
+// The control point c with its position projected, as the k-th.
 fn put_projected(projected: &mut [f64], k: usize, c: Control)
     requires { ⌜ 4 * k + 4 ≤ length (now projected) ⌝ }
     ensures { λ _. ⌜ now (projected .exit) ≡ withProjected (now (projected .entry)) k (projectedOf c) ⌝ }
