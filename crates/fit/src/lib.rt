@@ -22,7 +22,7 @@ pub struct Control {
     pub lat: f64,
 }
 
-// The same with its position projected: east and north. Sums and means of such take this form too.
+// A control point with its position projected: east and north. Sums and means of these take this form too.
 pub struct ProjectedControl {
     pub x: f64,
     pub y: f64,
@@ -176,7 +176,7 @@ fn no_moments() -> Moments
     }
 }
 
-// The k-th of the projected in a slice, which are four numbers each.
+// The k-th projected control point in a slice, four numbers each.
 fn projected_at(projected: &[f64], k: usize) -> ProjectedControl
     requires { ⌜ 4 * k + 4 ≤ length (now projected) ⌝ }
     ensures { λ r. ⌜ r ≡ projectedIn (now (projected .entry)) k ⌝ }
@@ -189,7 +189,7 @@ fn projected_at(projected: &[f64], k: usize) -> ProjectedControl
     }
 }
 
-// The point's mark, as the k-th.
+// The control point c with its position projected, as the k-th.
 fn put_projected(projected: &mut [f64], k: usize, c: Control)
     requires { ⌜ 4 * k + 4 ≤ length (now projected) ⌝ }
     ensures { λ _. ⌜ now (projected .exit) ≡ withProjected (now (projected .entry)) k (projectedOf c) ⌝ }
@@ -201,10 +201,11 @@ fn put_projected(projected: &mut [f64], k: usize, c: Control)
     projected[4 * k + 3] = m.n;
 }
 
-// The projected of the control points from i on: each is projected once.
+// The control points from i on, with their positions projected: each is projected once.
 pub fn project_from(controls: &[Control], i: usize, projected: &mut [f64])
     requires { ⌜ (length (now controls) ≤ 64) × (4 * length (now controls) ≤ length (now projected)) ⌝ }
-    ensures { λ _. ⌜ now (projected .exit) ≡ projectedFrom (now (projected .entry)) i (drop i (now (controls .entry))) ⌝ }
+    ensures { λ _. ⌜ now (projected .exit)
+        ≡ projectedFrom (now (projected .entry)) i (drop i (now (controls .entry))) ⌝ }
 {
     if i < controls.len() {
         let c = controls[i];
@@ -216,7 +217,7 @@ pub fn project_from(controls: &[Control], i: usize, projected: &mut [f64])
     }
 }
 
-// The projected of the first n of an array of control points.
+// The first n of an array of control points, with their positions projected.
 fn project_controls(at: [Control; 64], n: usize, projected: &mut [f64])
     requires { ⌜ (n ≤ 64) × (4 * n ≤ length (now projected)) ⌝ }
     ensures { λ _. ⌜ now (projected .exit) ≡ projectedFrom (now (projected .entry)) 0 (take n at) ⌝ }
@@ -224,7 +225,7 @@ fn project_controls(at: [Control; 64], n: usize, projected: &mut [f64])
     project_from(&at[..n], 0, projected)
 }
 
-// The centroids of n projected, about the anchor a.
+// The centroids of n projected control points, about the anchor a.
 fn means_of(a: Metres, projected: &[f64], n: usize) -> ProjectedControl
     requires { ⌜ (n ≤ 64) × (4 * n ≤ length (now projected)) ⌝ }
     ensures { λ r. ⌜ r ≡ meansOf a (allProjectedIn (now (projected .entry)) n) ⌝ }
@@ -238,7 +239,7 @@ fn means_of(a: Metres, projected: &[f64], n: usize) -> ProjectedControl
     divide(s, n as f64)
 }
 
-// The moments of n projected, about the anchor a and the centroids c.
+// The moments of n projected control points, about the anchor a and the centroids c.
 fn moments_of(a: Metres, c: ProjectedControl, projected: &[f64], n: usize) -> Moments
     requires { ⌜ 4 * n ≤ length (now projected) ⌝ }
     ensures { λ r. ⌜ r ≡ momentsOf a c (allProjectedIn (now (projected .entry)) n) noMoments ⌝ }

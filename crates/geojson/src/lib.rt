@@ -5,7 +5,8 @@ ghost use lib.ListN.{length};
 ghost use lib.Dec.{leb};
 ghost use Rattle.geojson.specs.Contracts.Features.{FeatureWritten};
 
-// A feature line. Geometry: 0 a point, 1 a line, 2 a polygon. Role: 1 a separate fill. Placement: 1 on the screen. Part: 0, or 1 and the path's index. Count: its positions.
+// A feature line. Geometry: 0 a point, 1 a line, 2 a polygon. Role: 1 a separate fill. Placement: 1 on the screen.
+// Part: 0, or 1 and the path's index. Count: its positions.
 pub struct Feature {
     pub item: u32,
     pub geometry: u32,

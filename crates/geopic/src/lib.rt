@@ -27,7 +27,8 @@ const MAX_STEP_M: f64 = 100.0;
 // The vertices that one scene may draw.
 const MAX_VERTICES: usize = 2000000;
 
-// `number` is 0, or the refusal's, with zero for everything else. Counts are whole positions, feature lines and warnings.
+// `number` is 0, or the refusal's, with zero for everything else. Counts are whole positions, feature lines and
+// warnings.
 #[repr(C)]
 pub struct Answer {
     pub number: u32,
@@ -120,7 +121,8 @@ fn write_output(
 ) -> State
     requires { ⌜ Registers (now s) v r (now kept) ⌝ }
     ensures { λ st. ⌜ Applied (traceOf (sceneOf (payload (now (s .entry)))))
-        (unused (buffersBy (now (work .entry)) (now (positions .entry)) (now (features .entry)) (now (warnings .entry))))
+        (unused
+        (buffersBy (now (work .entry)) (now (positions .entry)) (now (features .entry)) (now (warnings .entry))))
         (outputBy (length (now (work .exit))) (now (positions .exit)) (now (features .exit)) (now (warnings .exit)) st)
         (st .budget) ⌝ }
 {

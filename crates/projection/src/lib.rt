@@ -20,7 +20,8 @@ mod project;
 
 pub use project::project_points;
 
-// A canvas point p goes to the anchor's plane: p less the origin, times the scale, turned so that the canvas's y axis points to the bearing.
+// A canvas point p goes to the anchor's plane: p less the origin, times the scale, turned so that the canvas's y axis
+// points to the bearing.
 #[repr(C)]
 pub struct Registration {
     // the anchor, in degrees
@@ -106,7 +107,8 @@ pub fn geo(p: Projection, x: f64, y: f64) -> LonLat
     }
 }
 
-// `geo` in stages, for a line of points: the longitude that is given out, and the exponential of the ordinate where the latitude will stand.
+// The first stage of `geo`, for a line of points: the longitude that is given out, and the exponential of the ordinate
+// where the latitude will stand.
 pub fn exp_stage(p: Projection, x: f64, y: f64) -> LonLat
     ensures { λ r. ⌜ r ≡ expStageOf p x y ⌝ }
 {

@@ -1,5 +1,6 @@
-// A line of canvas points carried to the Earth where it stands. Each pass does one stage for all points: within a point the stages wait for each other, between points they do not.
-// A value that went in just before, as the ordinate of a line that runs east, gives what it gave then.
+// A line of canvas points carried to the Earth where it stands. Each pass does one stage for all points: within a point
+// the stages wait for each other, between points they do not. A value that equals the one before it, as the ordinate of
+// a line that runs east, is not worked out again.
 ghost use mathlib.Core.Path.{_≡_};
 ghost use mathlib.Core.Bool.{true, false};
 ghost use Prim.Native.Nat.{_≤_};

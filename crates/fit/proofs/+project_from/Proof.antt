@@ -1,4 +1,4 @@
--- `fit::project_from` meets its contract: a walk of its MIR, by hand. Where i is below the length the slice of points is looked into for element i, `put_projected` writes its mark, and the function calls itself at i + 1;
+-- `fit::project_from` meets its contract: a walk of its MIR, by hand. Where i is below the length the slice of points is looked into for element i, `put_projected` writes it, and the function calls itself at i + 1;
 -- else the numbers are as they were. The measure is what is left of the length. All that the proof knows of `put_projected` is that it meets its contract.
 -- The numbers are lent again to `put_projected`, for a lifetime that is made for the call, and come back (`Again.antt`). They are given up for good to the call of itself, at their own lifetime, share and ghost name: what it says of the last list is what is said at exit.
 -- What a `&[Control]` owns is had twice: one copy for the look and then for the call, and one for the exit. Numbers and structs of plain data own nothing: `owned` makes what a callee asks.

@@ -2,7 +2,7 @@ use mathlib.Core.Path.{_≡_}
 use native.Mathlib.Omega.{arith}
 use lib.ListN.{length, take, length-take}
 use borrow.Author.Needs.{needs}
-use Rattle.fit.specs.Laws.Projected.{marked-fit}
+use Rattle.fit.specs.Laws.Projected.{projected-fit}
 use Rattle.fit.proofs.fit_points.Statement.{statement}
 use Rattle.fit.proofs.fit_points.Tie as tie
 
@@ -23,7 +23,7 @@ returns c =
     let a = c .before .before .before .before .before .args in
     let full : length (a .at) ≡ 64 = search needs in
     let n : length (take (a .n) (a .at)) ≡ a .n = simp length-take (omega arith) in
-    marked-fit _ (take (a .n) (a .at)) n (omega arith) (c .before .before .before .project-controls .ensures) (c .fit-projected .ensures)
+    projected-fit _ (take (a .n) (a .at)) n (omega arith) (c .before .before .before .project-controls .ensures) (c .fit-projected .ensures)
 
 pub fit-points-spec : {M : Type 1} → statement M
 fit-points-spec =

@@ -22,7 +22,7 @@ allProjectedIn = foursIn projectedBy
 unfoldable pub withProjected : List Float → ℕ → ProjectedControl → List Float
 withProjected w k m = withFour w k (m .x) (m .y) (m .e) (m .n)
 
--- w with the marks of control points from the i-th on
+-- w with the projected control points from the i-th on
 unfoldable pub projectedFrom : List Float → ℕ → List Control → List Float
 projectedFrom w i [] = w
 projectedFrom w i (c ∷ cs) = projectedFrom (withProjected w i (projectedOf c)) (i + 1) cs

@@ -33,7 +33,7 @@ use Rattle.fit.specs.declared.ProjectedControl.{ProjectedControl}
 use Rattle.fit.specs.Fit.{projectedOf, noSums, added, sumsOf, dividedBy, meansOf, noMoments, momentsOf, degenerate, pickFit, fitAt, solvedOf, roundOf, again, fitProjected, fitOf}
 use Rattle.fit.specs.Laws.Bearing.{hypot-parts, bearing-in}
 
--- ---- control points, and their marks
+-- ---- control points, and their projected positions
 pub record Placed (c : Control) : Type 0 where
   pub x : Between mMillion million (c .x)
   pub y : Between mMillion million (c .y)
@@ -44,7 +44,7 @@ pub record Placed (c : Control) : Type 0 where
 abbrev Sized : ℕ → Float → Type 0
 Sized k v = Spans 0 k k 0 v
 
-record Marked (m : ProjectedControl) : Type 0 where
+record ProjectedIn (m : ProjectedControl) : Type 0 where
   x : Sized 1000000 (m .x)
   y : Sized 1000000 (m .y)
   e : Sized (2 ^ 25) (m .e)
@@ -53,9 +53,9 @@ record Marked (m : ProjectedControl) : Type 0 where
 whole-edge : Whole edge 20330312
 whole-edge = record { is-finite = tt; up-is = refl; no-minus = refl }
 
-marked : (c : Control) → Placed c → Marked (projectedOf c)
+projected : (c : Control) → Placed c → ProjectedIn (projectedOf c)
 unfolding projectedOf
-marked c h =
+projected c h =
     let p : LonLat = record { lon = c .lon; lat = c .lat } in
     let m = mercatorForwardOf p in
     record {
@@ -89,11 +89,11 @@ means-are a ms = rw (sums-are a ms noSums)
 record Some (ms : List ProjectedControl) : Type 0 where
   least : 0 < length ms
   most : length ms ≤ 64
-  marks : Each Marked ms
+  each : Each ProjectedIn ms
 
-mean-in : (a b c d : ℕ) (f : ProjectedControl → Float) (ms : List ProjectedControl) → Some ms → 64 * (a + b + c + d) ≤ 2 ^ 53 → ((m : ProjectedControl) → Marked m → Spans a b c d (f m)) → Spans a b c d (meanOf f ms)
+mean-in : (a b c d : ℕ) (f : ProjectedControl → Float) (ms : List ProjectedControl) → Some ms → 64 * (a + b + c + d) ≤ 2 ^ 53 → ((m : ProjectedControl) → ProjectedIn m → Spans a b c d (f m)) → Spans a b c d (meanOf f ms)
 mean-in a b c d f ms S w g =
-    mean-spans a b c d (map f ms) (length ms) (sym (length-map ms f)) (S .least) (few (length ms) (S .most)) (all (length ms) (S .most)) (each-map f Marked (Spans a b c d) g ms (S .marks))
+    mean-spans a b c d (map f ms) (length ms) (sym (length-map ms f)) (S .least) (few (length ms) (S .most)) (all (length ms) (S .most)) (each-map f ProjectedIn (Spans a b c d) g ms (S .each))
   where
     few : (n : ℕ) → n ≤ 64 → n ≤ 2 ^ 53
     few n h = omega arith
@@ -219,11 +219,11 @@ again-in f ms S k = go (f .some) k
     go true k h = round-in (mercatorForwardOf p) ms (near (k refl)) S h
     go false k h = some-no h
 
-marks-in : (ms : List ProjectedControl) → length ms ≤ 64 → Each Marked ms → fitProjected ms .some ≡ true → Fitted (fitProjected ms)
+projected-in : (ms : List ProjectedControl) → length ms ≤ 64 → Each ProjectedIn ms → fitProjected ms .some ≡ true → Fitted (fitProjected ms)
 unfolding fitProjected
-marks-in [] l h k = some-no k
-marks-in (m ∷ ms) l h k =
-    let S : Some (m ∷ ms) = record { least = zero-lt-suc (length ms); most = l; marks = h } in
+projected-in [] l h k = some-no k
+projected-in (m ∷ ms) l h k =
+    let S : Some (m ∷ ms) = record { least = zero-lt-suc (length ms); most = l; each = h } in
     let a : Metres = record { x = m .e; y = m .n } in
     let N : Near a = record {
       x = spans-within 40 (m .e) (looser 0 (2 ^ 40) (2 ^ 40) 0 (lit≤ tt) (lit≤ tt) (h .0 .e));
@@ -233,4 +233,4 @@ marks-in (m ∷ ms) l h k =
 
 pub fit-in : (cs : List Control) → length cs ≤ 64 → Each Placed cs → fitOf cs .some ≡ true → Fitted (fitOf cs)
 unfolding fitOf
-fit-in cs l h k = marks-in (map projectedOf cs) (subst (λ (n : ℕ). n ≤ 64) (sym (length-map cs projectedOf)) l) (each-map projectedOf Placed Marked marked cs h) k
+fit-in cs l h k = projected-in (map projectedOf cs) (subst (λ (n : ℕ). n ≤ 64) (sym (length-map cs projectedOf)) l) (each-map projectedOf Placed ProjectedIn projected cs h) k

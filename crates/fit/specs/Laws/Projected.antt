@@ -1,4 +1,4 @@
--- The marks in a slice: their sums and moments one by one, and those of control points. Assumes nothing.
+-- Projected control points in a slice: their sums and moments one by one, and those of the control points themselves. Assumes nothing.
 use mathlib.Core.Path.{_≡_, refl, sym, _∙_, ap}
 use mathlib.Core.Bool.{true, false}
 use mathlib.Core.List.{List, [], _∷_, _++_, map, append-nil, append-assoc}
@@ -20,7 +20,7 @@ use Rattle.fit.specs.Contracts.Fours.{foursIn}
 use Rattle.fit.specs.Contracts.Projected.{projectedBy, projectedIn, allProjectedIn, withProjected, projectedFrom}
 use Rattle.fit.specs.Laws.Fours.{fours-length, four-length, four-more}
 
--- what a loop over the marks has after one more
+-- what a loop over them has after one more
 pub one-more : {S : Type 0} (F : List ProjectedControl → S) (step : S → ProjectedControl → S) → ((ms : List ProjectedControl) (m : ProjectedControl) → F (ms ++ m ∷ []) ≡ step (F ms) m)
     → (w : List Float) (k : ℕ) {s t : S} {m : ProjectedControl} → s ≡ F (allProjectedIn w k) → m ≡ projectedIn w k → t ≡ step s m → t ≡ F (allProjectedIn w (k + 1))
 unfolding foursIn
@@ -40,7 +40,7 @@ pub means-all : (a : Metres) (w : List Float) (n : ℕ) {s t : ProjectedControl}
 unfolding meansOf
 means-all a w n e d = rw (d, e, fours-length projectedBy w n) refl
 
--- the first round is about the first mark's position
+-- the first round is about the first control point's position
 abbrev position : ProjectedControl → Metres
 position m = record { x = m .e; y = m .n }
 
@@ -49,10 +49,10 @@ unfolding fitProjected
 about-first [] d h = absurd (not-suc-le-zero h)
 about-first (m ∷ ms) d h = refl
 
-first-mark : (w : List Float) (n : ℕ) (d : ProjectedControl) → getD (allProjectedIn w (suc n)) 0 d ≡ projectedIn w 0
+first-projected : (w : List Float) (n : ℕ) (d : ProjectedControl) → getD (allProjectedIn w (suc n)) 0 d ≡ projectedIn w 0
 unfolding foursIn
-first-mark w zero d = refl
-first-mark w (suc n) d = first-append (allProjectedIn w (suc n)) (projectedIn w (suc n)) d ∙ first-mark w n (projectedIn w (suc n))
+first-projected w zero d = refl
+first-projected w (suc n) d = first-append (allProjectedIn w (suc n)) (projectedIn w (suc n)) d ∙ first-projected w n (projectedIn w (suc n))
   where
     first-append : (ms : List ProjectedControl) (m d : ProjectedControl) → getD (ms ++ m ∷ []) 0 d ≡ getD ms 0 m
     first-append [] m d = refl
@@ -62,9 +62,9 @@ fit-first : (w : List Float) (n : ℕ) → 1 ≤ n → fitProjected (allProjecte
 fit-first w zero h = absurd (not-suc-le-zero h)
 fit-first w (suc n) h =
     about-first (allProjectedIn w (suc n)) (projectedIn w 0) (omega (arith, fours-length projectedBy w (suc n)))
-    ∙ ap (λ (m : ProjectedControl). again (roundOf (position m) (allProjectedIn w (suc n))) (allProjectedIn w (suc n))) (first-mark w n (projectedIn w 0))
+    ∙ ap (λ (m : ProjectedControl). again (roundOf (position m) (allProjectedIn w (suc n))) (allProjectedIn w (suc n))) (first-projected w n (projectedIn w 0))
 
--- ---- the fit: of no mark, by a first round that finds none, by both
+-- ---- the fit: of none, by a first round that finds none, by both
 pub fit-none : (w : List Float) {n : ℕ} {r : Fit} → n ≡ 0 → r ≡ degenerate → r ≡ fitProjected (allProjectedIn w n)
 unfolding foursIn fitProjected
 fit-none w e d = rw (e, d) refl
@@ -81,7 +81,7 @@ module _ (w : List Float) (n : ℕ) {m : ProjectedControl} {f : Fit} (some : 1 �
   unfolding again
   fit-twice e d h = h ∙ sym (at-last ∙ rw (e, d) refl)
 
--- ---- the marks of control points
+-- ---- control points, projected
 with-length : (w : List Float) (k : ℕ) (m : ProjectedControl) → length (withProjected w k m) ≡ length w
 unfolding withProjected
 with-length w k m = four-length w k (m .x) (m .y) (m .e) (m .n)
@@ -90,20 +90,20 @@ with-more : (w : List Float) (k : ℕ) (m : ProjectedControl) → 4 * k + 3 < le
 unfolding withProjected
 with-more w k m h = ap (allProjectedIn (withProjected w k m)) (add-one k) ∙ four-more w k (m .x) (m .y) (m .e) (m .n) h projectedBy
 
-marked-more : (w : List Float) (i : ℕ) (cs : List Control) → 4 * (i + length cs) ≤ length w → allProjectedIn (projectedFrom w i cs) (i + length cs) ≡ allProjectedIn w i ++ map projectedOf cs
+projected-more : (w : List Float) (i : ℕ) (cs : List Control) → 4 * (i + length cs) ≤ length w → allProjectedIn (projectedFrom w i cs) (i + length cs) ≡ allProjectedIn w i ++ map projectedOf cs
 unfolding projectedFrom
-marked-more w i [] h =
+projected-more w i [] h =
     let e : i + length {A = Control} [] ≡ i = omega arith in
     ap (allProjectedIn w) e ∙ sym (append-nil (allProjectedIn w i))
-marked-more w i (c ∷ cs) h =
+projected-more w i (c ∷ cs) h =
     let m = projectedOf c in
     let w′ = withProjected w i m in
     let e : i + length (c ∷ cs) ≡ (i + 1) + length cs = omega arith in
     let l : length w′ ≡ length w = with-length w i m in
-    ap (allProjectedIn (projectedFrom w′ (i + 1) cs)) e ∙ marked-more w′ (i + 1) cs (omega arith) ∙ ap (_++ map projectedOf cs) (with-more w i m (omega arith)) ∙ append-assoc (allProjectedIn w i) (m ∷ []) (map projectedOf cs)
+    ap (allProjectedIn (projectedFrom w′ (i + 1) cs)) e ∙ projected-more w′ (i + 1) cs (omega arith) ∙ ap (_++ map projectedOf cs) (with-more w i m (omega arith)) ∙ append-assoc (allProjectedIn w i) (m ∷ []) (map projectedOf cs)
 
-pub marked-fit : (w : List Float) (cs : List Control) {n : ℕ} {w′ : List Float} {r : Fit} → length cs ≡ n → 4 * n ≤ length w → w′ ≡ projectedFrom w 0 cs → r ≡ fitProjected (allProjectedIn w′ n) → r ≡ fitOf cs
+pub projected-fit : (w : List Float) (cs : List Control) {n : ℕ} {w′ : List Float} {r : Fit} → length cs ≡ n → 4 * n ≤ length w → w′ ≡ projectedFrom w 0 cs → r ≡ fitProjected (allProjectedIn w′ n) → r ≡ fitOf cs
 unfolding fitOf foursIn
-marked-fit w cs {n} l h d e =
+projected-fit w cs {n} l h d e =
     let z : n ≡ 0 + length cs = omega arith in
-    rw (e, d, z) (ap fitProjected (marked-more w 0 cs (omega arith)))
+    rw (e, d, z) (ap fitProjected (projected-more w 0 cs (omega arith)))
