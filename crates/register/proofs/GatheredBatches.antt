@@ -29,7 +29,7 @@ use Rattle.values.specs.Maybe.{isSome}
 use Rattle.register.specs.declared.survey.Survey.{Survey}
 use Rattle.register.specs.Contracts.Survey.{lonsIn, Surveyed}
 use Rattle.register.specs.Contracts.Mentions.{Mention, featureMentions, eventsOf, mentionsAt, moreOf, Follows}
-use Rattle.register.specs.Contracts.Gathered.{numbersIn, Holds, Gathers, Filling, Batch, MarksTell, noName, amongFeatures, KnownCleared, BeforeRead, AfterRead, againOf, partEvents, baseOf, beforeOf, batchEvents, Earlier, firstCursor, ControlRoom}
+use Rattle.register.specs.Contracts.Gathered.{numbersIn, Holds, Gathers, Filling, Batch, MarksTell, noName, amongFeatures, KnownCleared, BeforeRead, AfterRead, againOf, partEvents, baseOf, beforeOf, batchEvents, Earlier, firstCursor, ControlRoom, Appends, GathersBatch, GathersPart}
 use Rattle.register.proofs.VariableTurns.{along}
 use Rattle.register.proofs.Marks.{in-stays}
 use Rattle.register.proofs.ReadMentions.{controls-append, numbers-append}
@@ -151,9 +151,8 @@ pub record Parted (s : List ℕ) (lons : Bool) (g : Tally) (flat₀ : List Float
   pub enough : a ≤ length (partMentions lons (sceneOf (payload s)))
   pub rest : mentionsAt (payload s) lons c ≡ drop a (partMentions lons (sceneOf (payload s)))
   pub follows : Follows s lons c starts
-  pub so-far : (cs : List Control) (js : List ℕ) → Holds true cs js g flat₀ kept₀ → Earlier (sceneOf (payload s)) lons 0 cs
-      → Holds true (cs ++ controlsIn (soFar lons (sceneOf (payload s)) (take a (partMentions lons (sceneOf (payload s))))))
-      (js ++ numbersIn (baseOf lons (sceneOf (payload s))) (soFar lons (sceneOf (payload s)) (take a (partMentions lons (sceneOf (payload s)))))) all flat kept
+  pub so-far : Appends (Earlier (sceneOf (payload s)) lons 0) (baseOf lons (sceneOf (payload s)))
+      (soFar lons (sceneOf (payload s)) (take a (partMentions lons (sceneOf (payload s))))) g flat₀ kept₀ all flat kept
 
 module _ {s : List ℕ} {lons : Bool} {g : Tally} {flat₀ : List Float} {kept₀ : List ℕ} {c : Cursor} {starts : List ℕ} {base : ℕ} {all : Tally} {flat : List Float} {kept : List ℕ}
     (h : Parted s lons g flat₀ kept₀ c starts base all flat kept) where
@@ -169,10 +168,8 @@ module _ {s : List ℕ} {lons : Bool} {g : Tally} {flat₀ : List Float} {kept�
 
   -- k more are done
   more-done : (k : ℕ) (all′ : Tally) (flat′ : List Float) (kept′ : List ℕ)
-      → ((cs : List Control) (js : List ℕ) → Holds true cs js all flat kept → Earlier scene lons base cs
-      → Holds true (cs ++ controlsIn (batchEvents (payload s) lons base (take k (mentionsAt (payload s) lons c)))) (js ++ numbersIn base (batchEvents (payload s) lons base (take k (mentionsAt (payload s) lons c)))) all′ flat′ kept′)
-      → (cs : List Control) (js : List ℕ) → Holds true cs js g flat₀ kept₀ → Earlier scene lons 0 cs
-      → Holds true (cs ++ controlsIn (soFar lons scene (take (h .a + k) whole))) (js ++ numbersIn (baseOf lons scene) (soFar lons scene (take (h .a + k) whole))) all′ flat′ kept′
+      → GathersBatch (payload s) lons base (take k (mentionsAt (payload s) lons c)) all flat kept all′ flat′ kept′
+      → Appends (Earlier scene lons 0) (baseOf lons scene) (soFar lons scene (take (h .a + k) whole)) g flat₀ kept₀ all′ flat′ kept′
   more-done k all′ flat′ kept′ f cs js p q =
       let done = soFar lons scene (take (h .a) whole) in
       let new = batchEvents (payload s) lons base (take k (mentionsAt (payload s) lons c)) in
@@ -182,8 +179,7 @@ module _ {s : List ℕ} {lons : Bool} {g : Tally} {flat₀ : List Float} {kept�
       rw (e, controls-append done new, numbers-append (baseOf lons scene) done new, n, ← (append-assoc cs (controlsIn done) (controlsIn new)), ← (append-assoc js (numbersIn (baseOf lons scene) done) (numbersIn base new))) z
 
   pub part-on : {f : code-filled.FilledBatch} {t : List ℕ} {starts′ : List ℕ} → Batch s lons c f t starts′ → (all′ : Tally) (flat′ : List Float) (kept′ : List ℕ)
-      → ((cs : List Control) (js : List ℕ) → Holds true cs js all flat kept → Earlier scene lons base cs
-      → Holds true (cs ++ controlsIn (batchEvents (payload s) lons base (take (f .count) (mentionsAt (payload s) lons c)))) (js ++ numbersIn base (batchEvents (payload s) lons base (take (f .count) (mentionsAt (payload s) lons c)))) all′ flat′ kept′)
+      → GathersBatch (payload s) lons base (take (f .count) (mentionsAt (payload s) lons c)) all flat kept all′ flat′ kept′
       → Parted s lons g flat₀ kept₀ (f .next) starts′ (base + f .count) all′ flat′ kept′
   part-on {f} d all′ flat′ kept′ k =
       record {
@@ -197,8 +193,7 @@ module _ {s : List ℕ} {lons : Bool} {g : Tally} {flat₀ : List Float} {kept�
 
   -- no name is left that has a latitude
   pub part-end : {f : code-filled.FilledBatch} {t : List ℕ} {starts′ : List ℕ} → Batch s lons c f t starts′ → f .n ≡ 0 → 1 ≤ length t
-      → (cs : List Control) (js : List ℕ) → Holds true cs js g flat₀ kept₀ → Earlier scene lons 0 cs
-      → Holds true (cs ++ controlsIn (partEvents lons scene)) (js ++ numbersIn (baseOf lons scene) (partEvents lons scene)) all flat kept
+      → GathersPart scene lons g flat₀ kept₀ all flat kept
   part-end {f} {t} d e m cs js p q =
       let y : drop (f .count) (mentionsAt (payload s) lons c) ≡ [] = sym (d .rest) ∙ d .ends (omega arith) in
       let n : length whole ≤ h .a + f .count = omega (arith, h .enough, ap length y, length-drop (f .count) (mentionsAt (payload s) lons c), ap length (h .rest), length-drop (h .a) whole) in

@@ -27,7 +27,7 @@ use Rattle.register.specs.declared.mentions.Mention as code-mention
 use Rattle.register.specs.Register.{Event, control, warn, resolved, eventOf, controlsIn}
 use Rattle.values.specs.Warnings.{Warning}
 use Rattle.register.specs.Contracts.Mentions.{Mention, eventWith, grownBy, eventsOf, mentionsAt, moreOf, mentionBy, Follows, Asked}
-use Rattle.register.specs.Contracts.Gathered.{numbersIn, Holds, among, named, Taken, MarksTell, BeforeRead, againOf, grownAll, AfterRead, pointIn, Readable}
+use Rattle.register.specs.Contracts.Gathered.{numbersIn, Holds, among, named, Taken, MarksTell, BeforeRead, againOf, grownAll, AfterRead, pointIn, Readable, Reads}
 use Rattle.register.proofs.Marks.{same-self, fewer-trans, in-stays, waits-by, taken-fewer, taken-waits}
 use Rattle.register.proofs.TallyLaws.{holds-as}
 
@@ -334,24 +334,21 @@ go-begin count base p =
 
 module _ {s : List ℕ} {lons : Bool} {t₀ : List ℕ} {n : ℕ} {spots : List Float} {starts₀ : List ℕ} {count base : ℕ} {flat₀ : List Float} {kept₀ : List ℕ} {g : Tally} {c : Cursor} {t starts : List ℕ} {flat : List Float} {kept : List ℕ} {all : Tally} {at : Cursor} {k : ℕ}
     (d : Going s lons t₀ n spots starts₀ count base flat₀ kept₀ g c t starts flat kept all at k) where
-  pub go-end : count ≤ k → (h : BeforeRead (payload s) lons (take count (mentionsAt (payload s) lons c)) t₀ n spots g flat₀ kept₀)
-      → AfterRead (payload s) lons (take count (mentionsAt (payload s) lons c)) t₀ t n spots base (h .was) (h .b) (h .cs) (h .js) all flat kept
+  pub go-end : count ≤ k → Reads (payload s) lons (take count (mentionsAt (payload s) lons c)) n spots base t₀ g flat₀ kept₀ t all flat kept
   go-end e h =
       let f : k ≡ count = omega (arith, d .within) in
       rw f at (d .so-far h)
 
   module _ (m : code-mention.Mention) {starts′ : List ℕ} (a : Asked s lons at m starts′) where
     -- no mention is left
-    pub go-none : not (m .some) ≡ true → (h : BeforeRead (payload s) lons (take count (mentionsAt (payload s) lons c)) t₀ n spots g flat₀ kept₀)
-        → AfterRead (payload s) lons (take count (mentionsAt (payload s) lons c)) t₀ t n spots base (h .was) (h .b) (h .cs) (h .js) all flat kept
+    pub go-none : not (m .some) ≡ true → Reads (payload s) lons (take count (mentionsAt (payload s) lons c)) n spots base t₀ g flat₀ kept₀ t all flat kept
     go-none e h =
         let f : drop k (mentionsAt (payload s) lons c) ≡ [] = d .rest ∙ a .lists ∙ rw (not-true (m .some) e) refl in
         rw (none-left (mentionsAt (payload s) lons c) k count f (d .within)) at (d .so-far h)
 
     -- one more
     pub go-on : not (m .some) ≡ false → k < count → {t′ : List ℕ} {flat′ : List Float} {kept′ : List ℕ} {all′ : Tally}
-        → ((h : BeforeRead (payload s) lons (mentionBy (payload s) m ∷ []) t n spots all flat kept)
-        → AfterRead (payload s) lons (mentionBy (payload s) m ∷ []) t t′ n spots (base + k) (h .was) (h .b) (h .cs) (h .js) all′ flat′ kept′)
+        → Reads (payload s) lons (mentionBy (payload s) m ∷ []) n spots (base + k) t all flat kept t′ all′ flat′ kept′
         → Table (moreOf lons) (payload s) t′ n
         → length t′ ≡ length t → length starts′ ≡ length starts → length flat′ ≡ length flat → length kept′ ≡ length kept
         → Going s lons t₀ n spots starts₀ count base flat₀ kept₀ g c t′ starts′ flat′ kept′ all′ (m .next) (k + 1)

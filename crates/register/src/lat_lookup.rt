@@ -1,7 +1,7 @@
 // The `_lat` variable of a `_lon` variable, without a search of all of them for each.
 //
-// Names rise, and `<L>_lat` stands before `<L>_lon` with only names between them that begin with `<L>_l`. So it is looked
-// for from the first variable that shares these bytes with the current one, up to that.
+// Names rise, and `<L>_lat` stands before `<L>_lon` with only names between them that begin with `<L>_l`. So it is
+// looked for from the first variable that shares these bytes with the current one, up to that.
 ghost use mathlib.Core.Path.{_≡_};
 ghost use mathlib.Core.List.{[], _++_};
 ghost use Prim.Native.Nat.{_+_, _≤_, _<_};
@@ -27,7 +27,8 @@ const PREFIX_STARTS: usize = 32;
 // How many bytes two names begin with alike.
 pub fn common_prefix(s: &[u8], p: usize, n: usize, q: usize, m: usize) -> usize
     requires { ⌜ (p + n ≤ room (now s)) × (q + m ≤ room (now s)) ⌝ }
-    ensures { λ r. ⌜ (r ≡ commonPrefix (bytesAt (payload (now (s .entry))) p n) (bytesAt (payload (now (s .entry))) q m))
+    ensures { λ r. ⌜ (r
+        ≡ commonPrefix (bytesAt (payload (now (s .entry))) p n) (bytesAt (payload (now (s .entry))) q m))
         × (r ≤ n) ⌝ }
 {
     let mut i = 0usize;
