@@ -147,7 +147,7 @@ fn write_output(
         step: MAX_STEP_M,
         flatten: scene::flatten(s),
     };
-    convert(s, v.labels, cx, work, positions, features, warnings, st)
+    convert(s, v.places_at, cx, work, positions, features, warnings, st)
 }
 
 fn accept(r: Registration, st: State) -> Answer

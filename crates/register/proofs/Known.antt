@@ -26,9 +26,9 @@ use Rattle.names.specs.Contracts.Table.{nameOf, markOf, marked, Table, Gap}
 use Rattle.register.specs.Register.{Event, resolved, eventOf, mentioned, controlsIn}
 use Rattle.register.specs.Contracts.Mentions.{Mention, featureMentions, eventsOf}
 use Rattle.register.specs.Contracts.Gathered.{Taken, MarksTell, noName, amongFeatures, KnownCleared, grownAll}
-use Rattle.register.proofs.Filling.{next-take, next-drop}
-use Rattle.register.proofs.Order.{before-differs}
-use Rattle.register.proofs.Reading.{controls-append, events-append, none-left}
+use Rattle.register.proofs.TableEntries.{next-take, next-drop}
+use Rattle.register.proofs.NameOrder.{before-differs}
+use Rattle.register.proofs.ReadMentions.{controls-append, events-append, none-left}
 use Rattle.register.proofs.Marks.{fewer-trans, waits-by, taken-fewer, taken-waits}
 
 -- ---- how many entries have a mark

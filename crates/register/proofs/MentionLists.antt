@@ -22,30 +22,30 @@ use Rattle.register.specs.declared.mentions.Mention as code-mention
 use Rattle.register.specs.Register.{suffixLat, var, stem, isLon}
 use Rattle.register.specs.Contracts.LatLookup.{Along}
 use Rattle.register.specs.Contracts.Mentions.{lonMention, featureMentions, lonMentions, mentionsAt, Follows, Asked}
-use Rattle.register.proofs.Declarations.{Turn, hereOf, is-here, turned, is-other, is-lon, stem-is, same-run, long}
+use Rattle.register.proofs.VariableTurns.{Turn, hereOf, is-here, turned, is-other, is-lon, stem-is, start-finds, long}
 
 -- what is asked only of an answer, where there is none
 nothing : {A : Type 0} {b : Bool} → b ≡ false → b ≡ true → A
 nothing e h = let z : _≡_ {A = Bool} false true = sym e ∙ h in let y : _≡_ {A = ℕ} 0 1 = cc in absurd (omega arith)
 
 -- ---- host features
-featured : (s runs : List ℕ) (c : Cursor) → c .i ≤ c .q → Follows s false c runs
-featured s runs c h = record { short = h; along = nothing refl }
+featured : (s starts : List ℕ) (c : Cursor) → c .i ≤ c .q → Follows s false c starts
+featured s starts c h = record { short = h; along = nothing refl }
 
 module _ (s : List ℕ) (c : Cursor) (h : c .i ≤ c .q) (f : Feature) (e : featuresAt (payload s) (c .q) ≡ featuresBy (payload s) f) where
-  pub no-feature : not (f .some) ≡ true → {r : code-mention.Mention} → r .some ≡ false → r .next ≡ c → (runs : List ℕ) → Asked s false c r runs
+  pub no-feature : not (f .some) ≡ true → {r : code-mention.Mention} → r .some ≡ false → r .next ≡ c → (starts : List ℕ) → Asked s false c r starts
   unfolding featureMentions
-  no-feature n {r} a b runs =
+  no-feature n {r} a b starts =
       let z : mentionsAt (payload s) false c ≡ [] = rw (e, not-true (f .some) n) refl in
       record {
         lists = z ∙ rw a refl;
         ends = λ _. rw b z;
-        follows = rw b (featured s runs c h);
+        follows = rw b (featured s starts c h);
         onward = rw b (omega arith);
         more = nothing a;
         fits = nothing a;
         index = nothing a;
-        heads = nothing a;
+        mention-fits = nothing a;
       }
 
   -- the mention of a feature
@@ -61,29 +61,29 @@ module _ (s : List ℕ) (c : Cursor) (h : c .i ≤ c .q) (f : Feature) (e : feat
         next = record { q = f .next; i = c .i + 1; at = 0; len = 0 };
       }
 
-  pub one-feature : not (f .some) ≡ false → Within (room s) (c .q) (f .at) (f .len) (f .next) → LengthPrefixed (payload s) (f .at) (f .len) → (runs : List ℕ) → Asked s false c featureAnswer runs
+  pub one-feature : not (f .some) ≡ false → Within (room s) (c .q) (f .at) (f .len) (f .next) → LengthPrefixed (payload s) (f .at) (f .len) → (starts : List ℕ) → Asked s false c featureAnswer starts
   unfolding featureMentions
-  one-feature n w d runs =
+  one-feature n w d starts =
       record {
         lists = rw (e, not-false (f .some) n, add-one) refl;
         ends = λ z. nothing z refl;
-        follows = featured s runs (featureAnswer .next) (omega arith);
+        follows = featured s starts (featureAnswer .next) (omega arith);
         onward = omega arith;
         more = λ _. w .more;
         fits = λ _. w .fits;
         index = λ _. refl;
-        heads = λ _. record { behind = d .behind; prefix = d .prefix ∙ omega arith; few = omega arith; within = omega (arith, payload-length s) };
+        mention-fits = λ _. record { behind = d .behind; prefix = d .prefix ∙ omega arith; few = omega arith; within = omega (arith, payload-length s) };
       }
 
 -- ---- variables
 -- those from q₀ on have the same mentions as those from q on, the first of them the i-th
-pub record Looking (s : List ℕ) (q₀ i₀ : ℕ) (runs : List ℕ) (at len q i : ℕ) : Type 0 where
-  pub along : Along s runs at len q
+pub record Looking (s : List ℕ) (q₀ i₀ : ℕ) (starts : List ℕ) (at len q i : ℕ) : Type 0 where
+  pub along : Along s starts at len q
   pub short : i ≤ q
   pub onward : q₀ ≤ q
   pub rest : lonMentions (sceneOf (payload s)) i₀ (variablesAt (payload s) q₀) ≡ lonMentions (sceneOf (payload s)) i (variablesAt (payload s) q)
 
-pub looking : {s runs : List ℕ} {c : Cursor} → Follows s true c runs → Looking s (c .q) (c .i) runs (c .at) (c .len) (c .q) (c .i)
+pub looking : {s starts : List ℕ} {c : Cursor} → Follows s true c starts → Looking s (c .q) (c .i) starts (c .at) (c .len) (c .q) (c .i)
 looking f = record { along = f .along refl; short = f .short; onward = omega arith; rest = refl }
 
 lon-next : (sc : Scene) (i : ℕ) (v : NamedValue) (vs : List NamedValue) → isLon (v .name) ≡ true → lonMentions sc i (v ∷ vs) ≡ lonMention sc i v ∷ lonMentions sc (i + 1) vs
@@ -94,8 +94,8 @@ other-next : (sc : Scene) (i : ℕ) (v : NamedValue) (vs : List NamedValue) → 
 unfolding lonMentions
 other-next sc i v vs e = rw (e, add-one) refl
 
-pub on-other : {s : List ℕ} {q₀ i₀ : ℕ} {runs : List ℕ} {at len q i : ℕ} → Looking s q₀ i₀ runs at len q i
-    → {v : Variable} {to : List ℕ} {t : Bool} → Turn s runs at len q v to t → t ≡ false → Looking s q₀ i₀ to (v .at) (v .len) (v .next) (i + 1)
+pub on-other : {s : List ℕ} {q₀ i₀ : ℕ} {starts : List ℕ} {at len q i : ℕ} → Looking s q₀ i₀ starts at len q i
+    → {v : Variable} {to : List ℕ} {t : Bool} → Turn s starts at len q v to t → t ≡ false → Looking s q₀ i₀ to (v .at) (v .len) (v .next) (i + 1)
 on-other {s} {i = i} d {v} p h =
     record {
       along = turned p;
@@ -117,9 +117,9 @@ lonAnswer v i lat =
       next = record { q = v .next; i = i + 1; at = v .at; len = v .len };
     }
 
-module _ {s : List ℕ} {c : Cursor} {runs : List ℕ} {at len q i : ℕ} (d : Looking s (c .q) (c .i) runs at len q i) where
+module _ {s : List ℕ} {c : Cursor} {starts : List ℕ} {at len q i : ℕ} (d : Looking s (c .q) (c .i) starts at len q i) where
   pub no-lon : (v : Variable) → variablesAt (payload s) q ≡ variablesBy (payload s) v → not (v .some) ≡ true
-      → {r : code-mention.Mention} → r .some ≡ false → r .next ≡ record { q = q; i = i; at = at; len = len } → Asked s true c r runs
+      → {r : code-mention.Mention} → r .some ≡ false → r .next ≡ record { q = q; i = i; at = at; len = len } → Asked s true c r starts
   unfolding lonMentions
   no-lon v e n {r} a b =
       let z : lonMentions (sceneOf (payload s)) i (variablesAt (payload s) q) ≡ [] = rw (e, not-true (v .some) n) refl in
@@ -131,15 +131,15 @@ module _ {s : List ℕ} {c : Cursor} {runs : List ℕ} {at len q i : ℕ} (d : L
         more = nothing a;
         fits = nothing a;
         index = nothing a;
-        heads = nothing a;
+        mention-fits = nothing a;
       }
 
-  pub one-lon : {v : Variable} {to : List ℕ} {t : Bool} → Turn s runs at len q v to t → t ≡ true → (lat : OptionalFloat)
+  pub one-lon : {v : Variable} {to : List ℕ} {t : Bool} → Turn s starts at len q v to t → t ≡ true → (lat : OptionalFloat)
       → maybeFloat lat ≡ variableOf (bytesAt (payload s) (v .at) (v .len - 4) ++ suffixLat) (variablesAt (payload s) (getD to (v .len - 2) 0))
       → Asked s true c (lonAnswer v i lat) to
   one-lon {v} p h lat e =
       let l = long p h in
-      let z : var (sceneOf (payload s)) (stem (hereOf s v .name) ++ suffixLat) ≡ maybeFloat lat = sym (same-run p h) ∙ rw (stem-is p h) (sym e) in
+      let z : var (sceneOf (payload s)) (stem (hereOf s v .name) ++ suffixLat) ≡ maybeFloat lat = sym (start-finds p h) ∙ rw (stem-is p h) (sym e) in
       record {
         lists = d .rest ∙ rw (is-here p) (lon-next (sceneOf (payload s)) i (hereOf s v) (variablesAt (payload s) (v .next)) (is-lon p h) ∙ rw (z, stem-is p h) refl);
         ends = λ y. nothing y refl;
@@ -148,11 +148,11 @@ module _ {s : List ℕ} {c : Cursor} {runs : List ℕ} {at len q i : ℕ} (d : L
         more = λ _. omega (arith, d .onward, p .within .more);
         fits = λ _. p .within .fits;
         index = λ _. refl;
-        heads = λ _.
+        mention-fits = λ _.
             record {
-              behind = p .headed .behind;
-              prefix = p .headed .prefix ∙ omega arith;
-              few = omega (arith, p .headed .short);
-              within = omega (arith, p .headed .fits, payload-length s);
+              behind = p .prefixed .behind;
+              prefix = p .prefixed .prefix ∙ omega arith;
+              few = omega (arith, p .prefixed .short);
+              within = omega (arith, p .prefixed .fits, payload-length s);
             };
       }

@@ -142,17 +142,17 @@ module _ {l : List ℕ} {geo : Geo} {n m q : ℕ} (d : Surveying l geo n m q) (v
   pub all-agree : not (v .some) ≡ true → Agrees (variablesAt l 0) geo
   all-agree s = each-last (variablesAt l 0) (rw (none-left s) at (d .agrees))
 
-  pub surveyed : {x : Declared} {vars : ℕ} → Declares (sceneOf l) x → VariablesFrom l vars → not (v .some) ≡ true → Surveyed l (record { declared = x; names = n; lons = m; vars = vars; labels = v .next })
+  pub surveyed : {x : Declared} {vars : ℕ} → Declares (sceneOf l) x → VariablesFrom l vars → not (v .some) ≡ true → Surveyed l (record { declared = x; «name_count» = n; «lon_count» = m; «variables_at» = vars; «places_at» = v .next })
   unfolding lonsIn
   surveyed x vs s =
       let z : lonsIn (variablesAt l q) ≡ 0 = rw (none-left s) refl in
       record {
         declares = x;
-        names = omega (arith, d .names);
-        lons = omega (arith, d .lons);
+        name-count = omega (arith, d .names);
+        lon-count = omega (arith, d .lons);
         few = omega (arith, d .short, d .fits);
-        vars = vs;
-        labels = labels-on;
+        variables-at = vs;
+        places-at = labels-on;
       }
 
   module _ (s : not (v .some) ≡ false) {geo′ : Geo} (g : geo′ ≡ recordedGeo (bytesAt l (v .at) (v .len)) (v .value) geo) {t : Bool} (b : t ≡ isLon (bytesAt l (v .at) (v .len))) (more : q < v .next) (end : v .next ≤ length l) where

@@ -24,11 +24,11 @@ use Rattle.register.specs.Contracts.Gathered.{numbersIn, KeptControls}
 use Rattle.register.specs.Contracts.Mentions.{lonMentions, mentionsAt, mentionBy, Follows, Asked}
 use Rattle.register.specs.Contracts.Warnings.{firstIs, anyNameIs, ResolvedNames, AfterFeatures, kindBy}
 use Rattle.values.specs.Contracts.Warnings.{WarningSlice, pushed, allPushed}
-use Rattle.register.proofs.Declarations.{along}
-use Rattle.register.proofs.Parting.{eventAt, eventsAt, mention-events}
-use Rattle.register.proofs.Keeping.{isControl, kept-is, kept-fits, kept-control, kept-warn, taken-more, feature-warns, heading-same, heading-more, lon-warns}
+use Rattle.register.proofs.VariableTurns.{along}
+use Rattle.register.proofs.PartEvents.{eventAt, eventsAt, mention-events}
+use Rattle.register.proofs.KeptNumbers.{isControl, kept-is, kept-fits, kept-control, kept-warn, taken-more, feature-warns, names-same, names-more, lon-warns}
 use Rattle.values.specs.Laws.Warnings.{Fits, push-fits, one-kept, pushed-append}
-use Rattle.register.proofs.Pushing.{warnings-append}
+use Rattle.register.proofs.PushedWarnings.{warnings-append}
 
 -- ---- one event more
 control-next : (e : Event) (es : List Event) (t : WarningSlice) → isControl e ≡ true → allPushed (warningsIn (e ∷ es)) t ≡ allPushed (warningsIn es) t
@@ -41,28 +41,28 @@ unfolding allPushed warningsIn
 warn-next e es t h = rw h refl
 
 -- ---- the first i features are done, which lie before q; h of them are control points
-pub record Told (s kept : List ℕ) (n : ℕ) (heads : List ℕ) (h : ℕ) (t₀ t : WarningSlice) (q i : ℕ) : Type 0 where
+pub record Told (s kept : List ℕ) (n : ℕ) (positions : List ℕ) (h : ℕ) (t₀ t : WarningSlice) (q i : ℕ) : Type 0 where
   pub all : allPushed (warningsIn (featureEvents (sceneOf (payload s)) 0 (sceneOf (payload s) .features))) t₀ ≡ allPushed (warningsIn (featureEvents (sceneOf (payload s)) i (featuresAt (payload s) q))) t
   pub left : drop h (take n kept) ≡ numbersIn i (featureEvents (sceneOf (payload s)) i (featuresAt (payload s) q) ++ variableEvents (sceneOf (payload s)) 0 (sceneOf (payload s) .variables))
-  pub heading : ResolvedNames s heads h (take i (sceneOf (payload s) .features))
+  pub resolved-names : ResolvedNames s positions h (take i (sceneOf (payload s) .features))
   pub rest : drop i (sceneOf (payload s) .features) ≡ featuresAt (payload s) q
   pub fits : Fits t
   pub as-long : length (t .out) ≡ length (t₀ .out)
-  pub sized : length heads ≡ 64
+  pub sized : length positions ≡ 64
   pub short : i ≤ q
   pub within : q ≤ room s
 
 kept-from : {sc : Scene} {n : ℕ} {kept : List ℕ} → KeptControls sc n kept → take n kept ≡ numbersIn 0 (events sc)
 kept-from h = rw (h .count) (h .numbers)
 
-module _ (s kept : List ℕ) (n : ℕ) (heads : List ℕ) (t : WarningSlice) where
-  pub none-told : Fits t → length heads ≡ 64 → KeptControls (sceneOf (payload s)) n kept → Told s kept n heads 0 t t 0 0
+module _ (s kept : List ℕ) (n : ℕ) (positions : List ℕ) (t : WarningSlice) where
+  pub none-told : Fits t → length positions ≡ 64 → KeptControls (sceneOf (payload s)) n kept → Told s kept n positions 0 t t 0 0
   unfolding events anyNameIs mentioned
   none-told f k e =
       record {
         all = rw (scene-lists (payload s) .0) refl;
         left = kept-from e ∙ rw (scene-lists (payload s) .0) refl;
-        heading = record { stands = record { few = omega arith; within = λ j g. absurd (omega arith) }; names = λ x. sym (and-false (isSome (resolved (sceneOf (payload s)) x))) };
+        resolved-names = record { stands = record { few = omega arith; within = λ j g. absurd (omega arith) }; names = λ x. sym (and-false (isSome (resolved (sceneOf (payload s)) x))) };
         rest = scene-lists (payload s) .0;
         fits = f;
         as-long = refl;
@@ -71,18 +71,18 @@ module _ (s kept : List ℕ) (n : ℕ) (heads : List ℕ) (t : WarningSlice) whe
         within = omega arith;
       }
 
-module _ {s kept : List ℕ} {n : ℕ} {heads : List ℕ} {h : ℕ} {t₀ t : WarningSlice} {q i : ℕ} (d : Told s kept n heads h t₀ t q i) (r : FeatureName) (e : featuresAt (payload s) q ≡ featuresBy (payload s) (featureBy (payload s) r)) where
+module _ {s kept : List ℕ} {n : ℕ} {positions : List ℕ} {h : ℕ} {t₀ t : WarningSlice} {q i : ℕ} (d : Told s kept n positions h t₀ t q i) (r : FeatureName) (e : featuresAt (payload s) q ≡ featuresBy (payload s) (featureBy (payload s) r)) where
   abbrev feature : NamedFeature
   feature = record { name = bytesAt (payload s) (r .at) (r .len); lon = floatValueAt (payload s) (r .at + r .len); lat = floatValueAt (payload s) (r .at + r .len + 8) }
 
   abbrev scene : Scene
   scene = sceneOf (payload s)
 
-  pub all-told : not (r .some) ≡ true → n ≤ length kept → (t ≡ allPushed (warningsIn (featureEvents scene 0 (scene .features))) t₀) × (Fits t × AfterFeatures s kept n heads h i)
+  pub all-told : not (r .some) ≡ true → n ≤ length kept → (t ≡ allPushed (warningsIn (featureEvents scene 0 (scene .features))) t₀) × (Fits t × AfterFeatures s kept n positions h i)
   unfolding allPushed warningsIn featureEvents
   all-told o k =
       let g : featuresAt (payload s) q ≡ [] = rw (e, not-true (r .some) o) refl in
-      (rw (d .all, g) refl, (d .fits, record { heading = rw (take-all i (scene .features) (omega (arith, ap length (d .rest ∙ g), length-drop i (scene .features)))) at (d .heading); left = rw g at (d .left); short = omega (arith, d .short, d .within); few = k }))
+      (rw (d .all, g) refl, (d .fits, record { resolved-names = rw (take-all i (scene .features) (omega (arith, ap length (d .rest ∙ g), length-drop i (scene .features)))) at (d .resolved-names); left = rw g at (d .left); short = omega (arith, d .short, d .within); few = k }))
 
   module _ (o : not (r .some) ≡ false) (w : Within (room s) q (r .at) (r .len + 16) (r .next)) (k : n ≤ length kept) {b : Bool} (is : b ≡ firstIs i (drop h (take n kept))) where
     here : featuresAt (payload s) q ≡ feature ∷ featuresAt (payload s) (r .next)
@@ -105,28 +105,28 @@ module _ {s kept : List ℕ} {n : ℕ} {heads : List ℕ} {h : ℕ} {t₀ t : Wa
     pub one-fits : b ≡ true → h < n
     one-fits c = omega (arith, kept-fits (take n kept) h i _ _ left (event ∙ c), length-take-le n kept k)
 
-    pub one-control : n ≤ 64 → LengthPrefixed (payload s) (r .at) (r .len) → b ≡ true → {t′ : WarningSlice} {heads′ : List ℕ} {h′ : ℕ} → t′ ≡ t → heads′ ≡ set heads h (r .at - 1) → h′ ≡ h + 1 → Told s kept n heads′ h′ t₀ t′ (r .next) (i + 1)
+    pub one-control : n ≤ 64 → LengthPrefixed (payload s) (r .at) (r .len) → b ≡ true → {t′ : WarningSlice} {positions′ : List ℕ} {h′ : ℕ} → t′ ≡ t → positions′ ≡ set positions h (r .at - 1) → h′ ≡ h + 1 → Told s kept n positions′ h′ t₀ t′ (r .next) (i + 1)
     one-control m a c u v z =
         rw (u, v, z, add-one i)
         (record {
           all = all ∙ control-next _ _ t (event ∙ c);
           left = kept-control (take n kept) h i _ _ left (event ∙ c);
-          heading = heading-more i feature _ rest (d .heading) refl a (omega (arith, w .name)) (omega (arith, one-fits c, d .sized)) (event ∙ c);
+          resolved-names = names-more i feature _ rest (d .resolved-names) refl a (omega (arith, w .name)) (omega (arith, one-fits c, d .sized)) (event ∙ c);
           rest = taken-more _ i _ _ rest .1;
           fits = d .fits;
           as-long = d .as-long;
-          sized = length-set heads h (r .at - 1) ∙ d .sized;
+          sized = length-set positions h (r .at - 1) ∙ d .sized;
           short = omega (arith, d .short, w .more);
           within = w .fits;
         })
 
-    pub one-warned : b ≡ false → {t′ : WarningSlice} {heads′ : List ℕ} {h′ : ℕ} → t′ ≡ pushed (record { kind = 2; index = i }) t → heads′ ≡ heads → h′ ≡ h → Told s kept n heads′ h′ t₀ t′ (r .next) (i + 1)
+    pub one-warned : b ≡ false → {t′ : WarningSlice} {positions′ : List ℕ} {h′ : ℕ} → t′ ≡ pushed (record { kind = 2; index = i }) t → positions′ ≡ positions → h′ ≡ h → Told s kept n positions′ h′ t₀ t′ (r .next) (i + 1)
     one-warned c u v z =
         rw (u, v, z, add-one i)
         (record {
           all = all ∙ warn-next _ _ t (feature-warns scene i feature (event ∙ c));
           left = kept-warn (take n kept) h i _ _ left (event ∙ c);
-          heading = heading-same i feature _ rest (d .heading) (event ∙ c);
+          resolved-names = names-same i feature _ rest (d .resolved-names) (event ∙ c);
           rest = taken-more _ i _ _ rest .1;
           fits = push-fits _ t refl (d .fits);
           as-long = one-kept _ t _ refl ∙ d .as-long;
@@ -137,8 +137,8 @@ module _ {s kept : List ℕ} {n : ℕ} {heads : List ℕ} {h : ℕ} {t₀ t : Wa
 
 -- ---- variables, by their mentions
 -- those before the cursor c are done, behind f host features; j is the number of the next
-pub record Telling (s kept : List ℕ) (n : ℕ) (t₀ t : WarningSlice) (runs : List ℕ) (c : Cursor) (k f j : ℕ) : Type 0 where
-  pub follows : Follows s true c runs
+pub record Telling (s kept : List ℕ) (n : ℕ) (t₀ t : WarningSlice) (starts : List ℕ) (c : Cursor) (k f j : ℕ) : Type 0 where
+  pub follows : Follows s true c starts
   pub all : allPushed (warningsIn (variableEvents (sceneOf (payload s)) 0 (sceneOf (payload s) .variables))) t₀ ≡ allPushed (warningsIn (eventsAt (sceneOf (payload s)) (mentionsAt (payload s) true c))) t
   pub left : drop k (take n kept) ≡ numbersIn j (eventsAt (sceneOf (payload s)) (mentionsAt (payload s) true c))
   pub fits : Fits t
@@ -160,7 +160,7 @@ telling s kept n t {q} k e r g =
     from : variableEvents (sceneOf (payload s)) 0 (sceneOf (payload s) .variables) ≡ eventsAt (sceneOf (payload s)) (lonMentions (sceneOf (payload s)) 0 (variablesAt (payload s) q))
     from = ap (variableEvents (sceneOf (payload s)) 0) (scene-lists (payload s) .1 ∙ e .all) ∙ (mention-events (sceneOf (payload s)) 0 (variablesAt (payload s) q))
 
-module _ {s kept : List ℕ} {n : ℕ} {t₀ t : WarningSlice} {runs runs′ : List ℕ} {c : Cursor} {k f j : ℕ} (d : Telling s kept n t₀ t runs c k f j) (m : code-mention.Mention) (a : Asked s true c m runs′) where
+module _ {s kept : List ℕ} {n : ℕ} {t₀ t : WarningSlice} {starts starts′ : List ℕ} {c : Cursor} {k f j : ℕ} (d : Telling s kept n t₀ t starts c k f j) (m : code-mention.Mention) (a : Asked s true c m starts′) where
   abbrev lons : Scene
   lons = sceneOf (payload s)
 
@@ -184,7 +184,7 @@ module _ {s kept : List ℕ} {n : ℕ} {t₀ t : WarningSlice} {runs runs′ : L
     pub lon-fits : b ≡ true → k < n
     lon-fits y = omega (arith, kept-fits (take n kept) k j _ _ lons-left (lon-event ∙ y), length-take-le n kept z)
 
-    pub lon-control : b ≡ true → {t′ : WarningSlice} {k′ : ℕ} → t′ ≡ t → k′ ≡ k + 1 → Telling s kept n t₀ t′ runs′ (m .next) k′ f (j + 1)
+    pub lon-control : b ≡ true → {t′ : WarningSlice} {k′ : ℕ} → t′ ≡ t → k′ ≡ k + 1 → Telling s kept n t₀ t′ starts′ (m .next) k′ f (j + 1)
     lon-control y u v =
         rw (u, v, add-one j)
         (record {
@@ -196,8 +196,8 @@ module _ {s kept : List ℕ} {n : ℕ} {t₀ t : WarningSlice} {runs runs′ : L
           short = omega (arith, d .short, a .more (not-false _ o));
         })
 
-    pub lon-warned : {heads : List ℕ} {h : ℕ} → ResolvedNames s heads h (lons .features) → b ≡ false → {t′ : WarningSlice} {k′ kind : ℕ} → kind ≡ kindBy (maybeFloat (m .lat)) (anyNameIs (payload s) (take h heads) (bytesAt (payload s) (m .at) (m .len)))
-        → t′ ≡ pushed (record { kind = kind; index = m .index }) t → k′ ≡ k → Telling s kept n t₀ t′ runs′ (m .next) k′ f (j + 1)
+    pub lon-warned : {positions : List ℕ} {h : ℕ} → ResolvedNames s positions h (lons .features) → b ≡ false → {t′ : WarningSlice} {k′ kind : ℕ} → kind ≡ kindBy (maybeFloat (m .lat)) (anyNameIs (payload s) (take h positions) (bytesAt (payload s) (m .at) (m .len)))
+        → t′ ≡ pushed (record { kind = kind; index = m .index }) t → k′ ≡ k → Telling s kept n t₀ t′ starts′ (m .next) k′ f (j + 1)
     lon-warned g y x u v =
         rw (u, v, x, add-one j)
         (record {

@@ -18,7 +18,9 @@ ghost use Rattle.names.specs.Contracts.Batch.{slotPoint};
 ghost use Rattle.register.specs.Register.{withinLimits};
 ghost use Rattle.register.specs.Contracts.Survey.{Registrable};
 ghost use Rattle.register.specs.Contracts.Mentions.{mentionsAt, mentionBy, moreOf, Follows, MentionFits};
-ghost use Rattle.register.specs.Contracts.Gathered.{ControlRoom, Holds, Gathers, TableRoom, Added, Batch, BatchFrom, Taken, KnownCleared, Readable, Reads, pointIn, beforeOf, GathersBatch, GathersPart, firstCursor};
+ghost use Rattle.register.specs.Contracts.Gathered.{ControlRoom, Holds, Gathers, TableRoom, Added, Batch};
+ghost use Rattle.register.specs.Contracts.Gathered.{BatchFrom, Taken, KnownCleared, Readable, Reads, pointIn};
+ghost use Rattle.register.specs.Contracts.Gathered.{beforeOf, GathersBatch, GathersPart, firstCursor};
 use crate::mentions::Cursor;
 use crate::mentions::Mention;
 use crate::mentions::next_mention;
@@ -31,18 +33,27 @@ use names::unmark;
 use scene::next_name;
 use fit::Control;
 
+// The most control points that a registration has: `kept` has a place for each, and `flat` four.
+pub const MAX_CONTROLS: usize = 64;
+// How many a tally counts at most.
+const TOO_MANY_CONTROLS: usize = 65;
+// Condition 8's limits, in degrees.
+const MAX_LATITUDE: f64 = 85.06;
+const MAX_LONGITUDE: f64 = 180.0;
+
+// How many control points there are.
 pub struct Tally {
-    // how many there are, 65 for more than 64
+    // TOO_MANY_CONTROLS for more than MAX_CONTROLS
     pub n: usize,
     // whether all of them are within condition 8's limits
     pub within: bool,
 }
 
-// Condition 8's limits.
+// Whether a position is within condition 8's limits.
 pub fn is_within_limits(lon: f64, lat: f64) -> bool
     ensures { λ r. ⌜ r ≡ withinLimits lon lat ⌝ }
 {
-    abs(lat) <= 85.06 && abs(lon) <= 180.0
+    abs(lat) <= MAX_LATITUDE && abs(lon) <= MAX_LONGITUDE
 }
 
 // One more control point, of the j-th name.
@@ -54,8 +65,11 @@ fn put_control(flat: &mut [f64], kept: &mut [u32], g: Tally, j: usize, c: Contro
 {
     let ok = g.within && is_within_limits(c.lon, c.lat);
     let n = g.n;
-    if n >= 64 {
-        return Tally { n: 65, within: ok };
+    if n >= MAX_CONTROLS {
+        return Tally {
+            n: TOO_MANY_CONTROLS,
+            within: ok,
+        };
     }
     kept[n] = j as u32;
     flat[4 * n] = c.x;
@@ -68,7 +82,7 @@ fn put_control(flat: &mut [f64], kept: &mut [u32], g: Tally, j: usize, c: Contro
     }
 }
 
-// By how much the lengths of names are too great.
+// How many bytes the length before a name counts that the name lacks: those of `_lon`.
 fn more_of(lons: bool) -> u64
     ensures { λ r. ⌜ r ≡ moreOf lons ⌝ }
 {
@@ -96,21 +110,21 @@ fn add_name(s: &[u8], t: &mut [u32], n: usize, m: Mention, more: u64) -> usize
 }
 
 // The names from c on, up to as many as the table holds.
-fn fill_batch(s: &[u8], lons: bool, t: &mut [u32], c: Cursor, runs: &mut [usize]) -> FilledBatch
-    requires { ⌜ (room (now s) < 33554432) × Follows (now s) lons c (now runs) ⌝ }
-    ensures { λ r. ⌜ Batch (now (s .entry)) lons c r (now (t .exit)) (now (runs .exit)) ⌝ }
+fn fill_batch(s: &[u8], lons: bool, t: &mut [u32], c: Cursor, starts: &mut [usize]) -> FilledBatch
+    requires { ⌜ (room (now s) < 33554432) × Follows (now s) lons c (now starts) ⌝ }
+    ensures { λ r. ⌜ Batch (now (s .entry)) lons c r (now (t .exit)) (now (starts .exit)) ⌝ }
 {
     let more = more_of(lons);
     let mut n = 0usize;
     let mut count = 0usize;
     let mut at = c;
     while n < t.len() {
-        let m = next_mention(s, lons, at, runs);
+        let m = next_mention(s, lons, at, starts);
         at = m.next;
         if !m.some {
             return FilledBatch {
-                n: n,
-                count: count,
+                n,
+                count,
                 next: at,
             };
         }
@@ -118,8 +132,8 @@ fn fill_batch(s: &[u8], lons: bool, t: &mut [u32], c: Cursor, runs: &mut [usize]
         count += 1;
     }
     FilledBatch {
-        n: n,
-        count: count,
+        n,
+        count,
         next: at,
     }
 }
@@ -162,19 +176,19 @@ fn control_of(spots: &[f64], mark: usize, lon: f64, lat: f64) -> Control
     ensures { λ r. ⌜ (r .lon ≡ lon) × (r .lat ≡ lat)
         × (mark ≤ 64 → pointIn r ≡ slotPoint (now (spots .entry)) mark nan) ⌝ }
 {
-    if mark > 64 {
+    if mark > MAX_CONTROLS {
         return Control {
             x: 0.0,
             y: 0.0,
-            lon: lon,
-            lat: lat,
+            lon,
+            lat,
         };
     }
     Control {
         x: spots[2 * mark - 2],
         y: spots[2 * mark - 1],
-        lon: lon,
-        lat: lat,
+        lon,
+        lat,
     }
 }
 
@@ -217,7 +231,7 @@ fn read_batch(
     n: usize,
     spots: &[f64],
     c: Cursor,
-    runs: &mut [usize],
+    starts: &mut [usize],
     count: usize,
     base: usize,
     flat: &mut [f64],
@@ -225,7 +239,7 @@ fn read_batch(
     g: Tally,
 ) -> Tally
     requires { ⌜ (base + count < 4294967296) × Readable (now s) lons (now t) n (now spots) (now flat) (now kept)
-        × Follows (now s) lons c (now runs) ⌝ }
+        × Follows (now s) lons c (now starts) ⌝ }
     ensures { λ r. ⌜ Reads (payload (now (s .entry))) lons (take count (mentionsAt (payload (now (s .entry))) lons c)) n
         (now (spots .entry)) base (now (t .entry)) g (now (flat .entry)) (now (kept .entry))
         (now (t .exit)) r (now (flat .exit)) (now (kept .exit)) ⌝ }
@@ -234,7 +248,7 @@ fn read_batch(
     let mut at = c;
     let mut k = 0usize;
     while k < count {
-        let m = next_mention(s, lons, at, runs);
+        let m = next_mention(s, lons, at, starts);
         if !m.some {
             return all;
         }
@@ -254,11 +268,11 @@ fn features_before(lons: bool, features: usize, base: usize) -> usize
 
 // The first cursor of a part of the names.
 fn first_of(lons: bool, v: Survey) -> Cursor
-    ensures { λ r. ⌜ r ≡ firstCursor lons (v .vars) ⌝ }
+    ensures { λ r. ⌜ r ≡ firstCursor lons (v .«variables_at») ⌝ }
 {
     if lons {
         return Cursor {
-            q: v.vars,
+            q: v.variables_at,
             i: 0,
             at: 0,
             len: 0,
@@ -280,13 +294,13 @@ fn gather_batch(
     t: &mut [u32],
     f: FilledBatch,
     c: Cursor,
-    runs: &mut [usize],
+    starts: &mut [usize],
     base: usize,
     flat: &mut [f64],
     kept: &mut [u32],
     g: Tally,
 ) -> Tally
-    requires { ⌜ Registrable (now s) v × BatchFrom (now s) v lons c f (now t) (now runs) base
+    requires { ⌜ Registrable (now s) v × BatchFrom (now s) v lons c f (now t) (now starts) base
         × ControlRoom (now flat) (now kept) ⌝ }
     ensures { λ r. ⌜ GathersBatch (payload (now (s .entry))) lons base
         (take (f .count) (mentionsAt (payload (now (s .entry))) lons c))
@@ -296,12 +310,12 @@ fn gather_batch(
     let mut spots = [0.0f64; 128];
     let more = more_of(lons);
     let n = f.n;
-    let used = match_labels(s, v.labels, t, n, more, &mut keys, &mut spots);
+    let used = match_labels(s, v.places_at, t, n, more, &mut keys, &mut spots);
     if used == 0 {
         return g;
     }
-    clear_known(s, t, n, features_before(lons, v.names - v.lons, base), more);
-    read_batch(s, lons, t, n, &spots, c, runs, f.count, base, flat, kept, g)
+    clear_known(s, t, n, features_before(lons, v.name_count - v.lon_count, base), more);
+    read_batch(s, lons, t, n, &spots, c, starts, f.count, base, flat, kept, g)
 }
 
 // All batches of a part of the names, behind the control points that g counts.
@@ -319,12 +333,12 @@ fn gather_part(
         g (now (flat .entry)) (now (kept .entry)) r (now (flat .exit)) (now (kept .exit)) ⌝ }
 {
     let mut all = g;
-    let mut runs = [0usize; 32];
+    let mut starts = [0usize; 32];
     let mut c = first_of(lons, v);
-    let mut base = features_before(lons, v.names - v.lons, 0);
+    let mut base = features_before(lons, v.name_count - v.lon_count, 0);
     loop {
-        let mut back = runs;
-        let f = fill_batch(s, lons, t, c, &mut runs);
+        let mut back = starts;
+        let f = fill_batch(s, lons, t, c, &mut starts);
         if f.n == 0 {
             return all;
         }
@@ -341,7 +355,7 @@ fn gather_names(s: &[u8], v: Survey, t: &mut [u32], flat: &mut [f64], kept: &mut
 {
     let none = Tally { n: 0, within: true };
     let g = gather_part(s, v, false, t, flat, kept, none);
-    if v.lons == 0 {
+    if v.lon_count == 0 {
         return g;
     }
     gather_part(s, v, true, t, flat, kept, g)
@@ -353,10 +367,12 @@ pub fn gather(s: &[u8], v: Survey, flat: &mut [f64], kept: &mut [u32]) -> Tally
     requires { ⌜ Registrable (now s) v × ControlRoom (now flat) (now kept) ⌝ }
     ensures { λ r. ⌜ Gathers (sceneOf (payload (now (s .entry)))) r (now (flat .exit)) (now (kept .exit)) ⌝ }
 {
-    if v.names <= 64 {
+    if v.name_count <= MAX_CONTROLS {
+        // MAX_CONTROLS names
         let mut few = [0u32; 64];
         return gather_names(s, v, &mut few, flat, kept);
     }
+    // 11 times 1,024 names, 44 KiB of the stack
     let mut many = [0u32; 11264];
     gather_names(s, v, &mut many, flat, kept)
 }

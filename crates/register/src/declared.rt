@@ -88,7 +88,7 @@ fn is_half(option: OptionalPoint, lon: OptionalFloat, lat: OptionalFloat) -> boo
     lon.some != lat.some
 }
 
-// With what the variables say.
+// What the options and these `geo_` variables declare.
 pub fn read_declared(s: &[u8], g: Geo) -> Declared
     requires { ⌜ Agrees (variablesAt (payload (now s)) 0) g ⌝ }
     ensures { λ r. ⌜ Declares (sceneOf (payload (now (s .entry)))) r ⌝ }

@@ -1,7 +1,7 @@
 // The `_lat` variable of a `_lon` variable, without a search of all of them for each.
 //
-// Names rise, and `<L>_lat` stands before `<L>_lon` with only names between them that begin with `<L>_l`. So it is looked
-// for from the first variable that shares these bytes with the current one, up to that.
+// Names rise, and `<L>_lat` stands before `<L>_lon` with only names between them that begin with `<L>_l`. So it is
+// looked for from the first variable that shares these bytes with the current one, up to that.
 ghost use mathlib.Core.Path.{_≡_};
 ghost use mathlib.Core.List.{[], _++_};
 ghost use Prim.Native.Nat.{_+_, _≤_, _<_};
@@ -21,10 +21,14 @@ use scene::next_variable;
 use scene::names_equal;
 use stream::byte;
 
+// A start for each number of bytes that a name may share with another: names have 31 bytes at most.
+const PREFIX_STARTS: usize = 32;
+
 // How many bytes two names begin with alike.
 pub fn common_prefix(s: &[u8], p: usize, n: usize, q: usize, m: usize) -> usize
     requires { ⌜ (p + n ≤ room (now s)) × (q + m ≤ room (now s)) ⌝ }
-    ensures { λ r. ⌜ (r ≡ commonPrefix (bytesAt (payload (now (s .entry))) p n) (bytesAt (payload (now (s .entry))) q m))
+    ensures { λ r. ⌜ (r
+        ≡ commonPrefix (bytesAt (payload (now (s .entry))) p n) (bytesAt (payload (now (s .entry))) q m))
         × (r ≤ n) ⌝ }
 {
     let mut i = 0usize;
@@ -40,14 +44,15 @@ pub fn common_prefix(s: &[u8], p: usize, n: usize, q: usize, m: usize) -> usize
     i
 }
 
-// The runs at a variable that is found from q on and shares c bytes with the one before it.
-pub fn set_prefix_starts(runs: &mut [usize], c: usize, q: usize)
-    requires { ⌜ (c < 32) × (length (now runs) ≡ 32) ⌝ }
-    ensures { λ r. ⌜ now (runs .exit) ≡ prefixStarts (now (runs .entry)) c q ⌝ }
+// Where a lookup starts, by how many bytes a name shares with the current one: from q on for more than c bytes, and for
+// fewer as before. So it is at a variable that is found from q on and shares c bytes with the one before it.
+pub fn set_prefix_starts(starts: &mut [usize], c: usize, q: usize)
+    requires { ⌜ (c < 32) × (length (now starts) ≡ 32) ⌝ }
+    ensures { λ r. ⌜ now (starts .exit) ≡ prefixStarts (now (starts .entry)) c q ⌝ }
 {
     let mut j = c + 1;
-    while j < 32 {
-        runs[j] = q;
+    while j < PREFIX_STARTS {
+        starts[j] = q;
         j += 1;
     }
 }

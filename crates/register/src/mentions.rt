@@ -56,7 +56,7 @@ fn no_mention(c: Cursor) -> Mention
 
 fn next_feature_name(s: &[u8], c: Cursor) -> Mention
     requires { ⌜ c .i ≤ c .q ⌝ }
-    ensures { λ r. ⌜ ((runs : List ℕ) → Asked (now (s .entry)) false c r runs) ⌝ }
+    ensures { λ r. ⌜ ((starts : List ℕ) → Asked (now (s .entry)) false c r starts) ⌝ }
 {
     let f = next_feature(s, c.q);
     if !f.some {
@@ -77,9 +77,9 @@ fn next_feature_name(s: &[u8], c: Cursor) -> Mention
         at: f.at,
         len: f.len,
         lon: f.lon,
-        lat: lat,
+        lat,
         index: c.i,
-        next: next,
+        next,
     }
 }
 
@@ -97,9 +97,9 @@ pub fn is_lon(s: &[u8], at: usize, n: usize) -> bool
     !name_is(s, at, n - 4, b"geo")
 }
 
-fn next_lon(s: &[u8], c: Cursor, runs: &mut [usize]) -> Mention
-    requires { ⌜ Follows (now s) true c (now runs) ⌝ }
-    ensures { λ r. ⌜ Asked (now (s .entry)) true c r (now (runs .exit)) ⌝ }
+fn next_lon(s: &[u8], c: Cursor, starts: &mut [usize]) -> Mention
+    requires { ⌜ Follows (now s) true c (now starts) ⌝ }
+    ensures { λ r. ⌜ Asked (now (s .entry)) true c r (now (starts .exit)) ⌝ }
 {
     let mut at = c.at;
     let mut len = c.len;
@@ -108,36 +108,31 @@ fn next_lon(s: &[u8], c: Cursor, runs: &mut [usize]) -> Mention
     loop {
         let v = next_variable(s, q);
         if !v.some {
-            let end = Cursor {
-                q: q,
-                i: i,
-                at: at,
-                len: len,
-            };
+            let end = Cursor { q, i, at, len };
             return no_mention(end);
         }
         let alike = common_prefix(s, at, len, v.at, v.len);
-        set_prefix_starts(runs, alike, q);
+        set_prefix_starts(starts, alike, q);
         at = v.at;
         len = v.len;
         q = v.next;
         if is_lon(s, at, len) {
-            let from = runs[len - 2];
+            let from = starts[len - 2];
             let lat = lat_of(s, from, at, len - 4);
             let next = Cursor {
-                q: q,
+                q,
                 i: i + 1,
-                at: at,
-                len: len,
+                at,
+                len,
             };
             return Mention {
                 some: true,
-                at: at,
+                at,
                 len: len - 4,
                 lon: v.value,
-                lat: lat,
+                lat,
                 index: i,
-                next: next,
+                next,
             };
         }
         i += 1;
@@ -145,12 +140,12 @@ fn next_lon(s: &[u8], c: Cursor, runs: &mut [usize]) -> Mention
 }
 
 // The first name from c on: of a `_lon` variable, or of a host feature.
-pub fn next_mention(s: &[u8], lons: bool, c: Cursor, runs: &mut [usize]) -> Mention
-    requires { ⌜ Follows (now s) lons c (now runs) ⌝ }
-    ensures { λ r. ⌜ Asked (now (s .entry)) lons c r (now (runs .exit)) ⌝ }
+pub fn next_mention(s: &[u8], lons: bool, c: Cursor, starts: &mut [usize]) -> Mention
+    requires { ⌜ Follows (now s) lons c (now starts) ⌝ }
+    ensures { λ r. ⌜ Asked (now (s .entry)) lons c r (now (starts .exit)) ⌝ }
 {
     if lons {
-        return next_lon(s, c, runs);
+        return next_lon(s, c, starts);
     }
     next_feature_name(s, c)
 }

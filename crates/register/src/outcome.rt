@@ -6,19 +6,35 @@ ghost use Rattle.stream.specs.Payload.{payload};
 ghost use Rattle.scene.specs.Scene.{Scene, sceneOf};
 ghost use Rattle.register.specs.Contracts.Survey.{Declares, Registrable};
 ghost use Rattle.register.specs.Contracts.Gathered.{controlIn, controlsBy, Kept};
-ghost use Rattle.register.specs.Contracts.Outcome.{refusedBy, outcomeOf, checkedOf, declaredOutcome, fittedOutcome};
+ghost use Rattle.register.specs.Contracts.Outcome.{refusedBy, outcomeOf, checkedOf, declaredOutcome};
+ghost use Rattle.register.specs.Contracts.Outcome.{fittedOutcome};
 use crate::controls::gather;
+use crate::controls::MAX_CONTROLS;
 use crate::controls::is_within_limits;
 use crate::declared::Declared;
 use crate::survey::Survey;
 use float::is_finite;
-use scene::OptionalPoint;
 use fit::Control;
 use projection::Registration;
 use fit::fit_points;
+use values::Point;
 
-// The largest effective scale, in metres an inch.
+// The largest effective scale, in metres an inch, and the one where none is declared.
 const MAX_SCALE_M_PER_IN: f64 = 1e9;
+const DEFAULT_SCALE_M_PER_IN: f64 = 100.0;
+// How a registration was found: about an anchor or one control point, by two control points, or by a fit to more.
+const METHOD_ANCHOR: u32 = 0;
+const METHOD_TWO_POINTS: u32 = 1;
+const METHOD_HELMERT: u32 = 2;
+// Numbers of refusals, by the header's names.
+const REFUSAL_FRAME: u32 = 7;
+const REFUSAL_OUTSIDE: u32 = 8;
+const REFUSAL_TOO_MANY: u32 = 9;
+const REFUSAL_NO_ANCHOR: u32 = 10;
+const REFUSAL_DEGENERATE: u32 = 11;
+const REFUSAL_SCALE: u32 = 12;
+const REFUSAL_VIEW_SCALE: u32 = 13;
+const REFUSAL_MAX_SCALE: u32 = 14;
 
 // 0 and the registration, or the number of the first condition that holds and zeros.
 #[repr(C)]
@@ -37,24 +53,24 @@ pub fn refuse(number: u32) -> Outcome
         y: 0.0,
         scale: 0.0,
         bearing: 0.0,
-        method: 0,
+        method: METHOD_ANCHOR,
         controls: 0,
     };
     Outcome {
-        number: number,
+        number,
         registration: none,
     }
 }
 
-// 14.
+// The registration, unless condition 14 refuses its scale.
 fn check_scale(r: Registration) -> Outcome
     ensures { λ o. ⌜ o ≡ checkedOf r ⌝ }
 {
     if !is_finite(r.scale) {
-        return refuse(14);
+        return refuse(REFUSAL_MAX_SCALE);
     }
     if !(r.scale <= MAX_SCALE_M_PER_IN) {
-        return refuse(14);
+        return refuse(REFUSAL_MAX_SCALE);
     }
     Outcome {
         number: 0,
@@ -62,24 +78,23 @@ fn check_scale(r: Registration) -> Outcome
     }
 }
 
-// 12 to 14: by what is declared, about an anchor, with an origin.
-fn declare(d: Declared, anchor: OptionalPoint, origin: OptionalPoint, n: u32) -> Outcome
-    ensures { λ o. ⌜ ((sc : Scene) → Declares sc d → o
-        ≡ declaredOutcome sc (record { x = anchor .x; y = anchor .y })
-        (record { x = origin .x; y = origin .y }) n) ⌝ }
+// The registration by what is declared, with n control points, which puts the point `origin` of the canvas at the
+// position `anchor`, unless one of the conditions 12 to 14 holds.
+fn declare(d: Declared, anchor: Point, origin: Point, n: u32) -> Outcome
+    ensures { λ o. ⌜ ((sc : Scene) → Declares sc d → o ≡ declaredOutcome sc anchor origin n) ⌝ }
 {
     let scale = d.scale;
-    let value = if scale.some { scale.value } else { 100.0 };
+    let value = if scale.some { scale.value } else { DEFAULT_SCALE_M_PER_IN };
     if !(0.0 < value) {
-        return refuse(12);
+        return refuse(REFUSAL_SCALE);
     }
     let view = d.view;
     if d.px {
         if !view.some {
-            return refuse(13);
+            return refuse(REFUSAL_VIEW_SCALE);
         }
         if !(0.0 < view.value) {
-            return refuse(13);
+            return refuse(REFUSAL_VIEW_SCALE);
         }
     }
     let per_inch = if d.px { value * view.value } else { value };
@@ -92,7 +107,7 @@ fn declare(d: Declared, anchor: OptionalPoint, origin: OptionalPoint, n: u32) ->
         y: origin.y,
         scale: per_inch / d.rescale,
         bearing: turned,
-        method: 0,
+        method: METHOD_ANCHOR,
         controls: n,
     };
     check_scale(r)
@@ -111,12 +126,13 @@ fn control_at(flat: &[f64], k: usize) -> Control
     }
 }
 
-// 11 and 14: by the first n control points, two or more.
+// The registration by a fit to the first n control points, two or more, unless condition 11 or 14 holds.
 fn fit_controls(flat: &[f64], n: usize) -> Outcome
     requires { ⌜ (n ≤ 64) × (length (now flat) ≡ 256) ⌝ }
     ensures { λ o. ⌜ o ≡ fittedOutcome (controlsBy (now (flat .entry)) n) ⌝ }
 {
     let first = control_at(flat, 0);
+    // as many as MAX_CONTROLS says
     let mut at = [first; 64];
     let mut k = 0usize;
     while k < n {
@@ -125,9 +141,9 @@ fn fit_controls(flat: &[f64], n: usize) -> Outcome
     }
     let f = fit_points(at, n);
     if !f.some {
-        return refuse(11);
+        return refuse(REFUSAL_DEGENERATE);
     }
-    let method = if n == 2 { 1u32 } else { 2u32 };
+    let method = if n == 2 { METHOD_TWO_POINTS } else { METHOD_HELMERT };
     let r = Registration {
         lon: f.lon,
         lat: f.lat,
@@ -135,7 +151,7 @@ fn fit_controls(flat: &[f64], n: usize) -> Outcome
         y: f.y,
         scale: f.scale,
         bearing: f.bearing,
-        method: method,
+        method,
         controls: n as u32,
     };
     check_scale(r)
@@ -150,47 +166,37 @@ pub fn register(s: &[u8], v: Survey, kept: &mut [u32]) -> Outcome
 {
     let d = v.declared;
     if !d.mercator {
-        return refuse(7);
+        return refuse(REFUSAL_FRAME);
     }
+    // four numbers for each of up to MAX_CONTROLS control points
     let mut flat = [0.0f64; 256];
     let g = gather(s, v, &mut flat, kept);
     let a = d.anchor;
     if !g.within {
-        return refuse(8);
+        return refuse(REFUSAL_OUTSIDE);
     }
     if a.some {
         if !is_within_limits(a.x, a.y) {
-            return refuse(8);
+            return refuse(REFUSAL_OUTSIDE);
         }
     }
     let n = g.n;
-    if n > 64 {
-        return refuse(9);
+    if n > MAX_CONTROLS {
+        return refuse(REFUSAL_TOO_MANY);
     }
     if n >= 2 {
         return fit_controls(&flat, n);
     }
     if n == 1 {
         let c = control_at(&flat, 0);
-        let anchor = OptionalPoint {
-            some: true,
-            x: c.lon,
-            y: c.lat,
-        };
-        let origin = OptionalPoint {
-            some: true,
-            x: c.x,
-            y: c.y,
-        };
+        let anchor = Point { x: c.lon, y: c.lat };
+        let origin = Point { x: c.x, y: c.y };
         return declare(d, anchor, origin, 1);
     }
     if !a.some {
-        return refuse(10);
+        return refuse(REFUSAL_NO_ANCHOR);
     }
-    let origin = OptionalPoint {
-        some: true,
-        x: 0.0,
-        y: 0.0,
-    };
-    declare(d, a, origin, 0)
+    let anchor = Point { x: a.x, y: a.y };
+    let origin = Point { x: 0.0, y: 0.0 };
+    declare(d, anchor, origin, 0)
 }

@@ -18,11 +18,11 @@ use scene::next_variable;
 pub struct Survey {
     pub declared: Declared,
     // how many names there are to be looked up, of host features and `<L>_lon` variables, and how many of these
-    pub names: usize,
-    pub lons: usize,
-    // where variables are asked for, and where labels are
-    pub vars: usize,
-    pub labels: usize,
+    pub name_count: usize,
+    pub lon_count: usize,
+    // the positions in the payload from which on variables, and places, are asked for
+    pub variables_at: usize,
+    pub places_at: usize,
 }
 
 // The value looked for by a name, after the variable v: the first one stays.
@@ -40,7 +40,7 @@ fn first_value(s: &[u8], old: OptionalFloat, v: Variable, name: &[u8]) -> Option
     }
 }
 
-// All of them after the variable v.
+// The values of the `geo_` variables, after the variable v.
 fn record_geo(s: &[u8], g: Geo, v: Variable) -> Geo
     requires { ⌜ v .at + v .len ≤ room (now s) ⌝ }
     ensures { λ r. ⌜ r ≡ recordedGeo (bytesAt (payload (now (s .entry))) (v .at) (v .len)) (v .value) g ⌝ }
@@ -92,25 +92,25 @@ pub fn survey_stream(s: &[u8]) -> Survey
         lat: none,
     };
     let f = count_features(s);
-    let vars = f.end;
-    let mut names = f.count;
-    let mut lons = 0usize;
-    let mut q = vars;
+    let variables_at = f.end;
+    let mut name_count = f.count;
+    let mut lon_count = 0usize;
+    let mut q = variables_at;
     loop {
         let v = next_variable(s, q);
         if !v.some {
             return Survey {
                 declared: read_declared(s, geo),
-                names: names,
-                lons: lons,
-                vars: vars,
-                labels: v.next,
+                name_count,
+                lon_count,
+                variables_at,
+                places_at: v.next,
             };
         }
         geo = record_geo(s, geo, v);
         if is_lon(s, v.at, v.len) {
-            names += 1;
-            lons += 1;
+            name_count += 1;
+            lon_count += 1;
         }
         q = v.next;
     }

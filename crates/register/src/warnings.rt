@@ -8,10 +8,12 @@ ghost use Rattle.stream.specs.Contracts.Payload.{room};
 ghost use Rattle.records.specs.Records.{bytesAt};
 ghost use Rattle.scene.specs.Scene.{Scene, sceneOf};
 ghost use Rattle.scene.specs.Contracts.Answers.{maybeFloat};
-ghost use Rattle.register.specs.Register.{featureEvents, variableEvents, events, warningsIn, viewWarnings, halfWarnings, anyDeclared, ignoredWith, registerWarnings};
+ghost use Rattle.register.specs.Register.{featureEvents, variableEvents, events, warningsIn, viewWarnings};
+ghost use Rattle.register.specs.Register.{halfWarnings, anyDeclared, ignoredWith, registerWarnings};
 ghost use Rattle.register.specs.Contracts.Survey.{Declares, Registrable};
 ghost use Rattle.register.specs.Contracts.Gathered.{KeptControls};
-ghost use Rattle.register.specs.Contracts.Warnings.{firstIs, anyNameIs, NamesFit, PositionRoom, AfterFeatures, kindBy};
+ghost use Rattle.register.specs.Contracts.Warnings.{firstIs, anyNameIs, NamesFit, PositionRoom, AfterFeatures};
+ghost use Rattle.register.specs.Contracts.Warnings.{kindBy};
 ghost use Rattle.values.specs.Contracts.Warnings.{allPushed};
 use crate::declared::Declared;
 use crate::mentions::Cursor;
@@ -23,6 +25,13 @@ use scene::next_name;
 use values::WarningCursor;
 use values::push_warning;
 
+// Kinds of warnings: a view_scale that is ignored, a control point that does not resolve, one that a host feature
+// overrides, and something that is ignored because control points exist.
+const WARNING_VIEW_SCALE: u32 = 1;
+const WARNING_UNRESOLVED: u32 = 2;
+const WARNING_OVERRIDDEN: u32 = 3;
+const WARNING_IGNORED: u32 = 4;
+
 // What the walk over the host features comes to: how many there are, and how many of them are control points.
 pub struct FeatureWarnings {
     pub warned: WarningCursor,
@@ -30,67 +39,68 @@ pub struct FeatureWarnings {
     pub controls: usize,
 }
 
-// Whether the h-th of the n kept names is the j-th of all.
-fn is_kept(kept: &[u32], n: usize, h: usize, j: usize) -> bool
+// Whether the k-th of the n kept numbers is j.
+fn is_kept(kept: &[u32], n: usize, k: usize, j: usize) -> bool
     requires { ⌜ n ≤ length (now kept) ⌝ }
-    ensures { λ r. ⌜ r ≡ firstIs j (drop h (take n (now (kept .entry)))) ⌝ }
+    ensures { λ r. ⌜ r ≡ firstIs j (drop k (take n (now (kept .entry)))) ⌝ }
 {
-    if h >= n {
+    if k >= n {
         return false;
     }
-    kept[h] as usize == j
+    kept[k] as usize == j
 }
 
-// Of the host features: each that is no control point. Where the lengths of those stand that are, goes into `heads`.
+// Warns of each host feature that is no control point. Where the length of the name of each other one stands goes into
+// `positions`.
 fn warn_features(
     s: &[u8],
     kept: &[u32],
     n: usize,
-    heads: &mut [u32],
+    positions: &mut [u32],
     out: &mut [u32],
     w: WarningCursor,
 ) -> FeatureWarnings
-    requires { ⌜ PositionRoom (now s) (now heads) × KeptControls (sceneOf (payload (now s))) n (now kept)
+    requires { ⌜ PositionRoom (now s) (now positions) × KeptControls (sceneOf (payload (now s))) n (now kept)
         × (w .used ≤ length (now out)) ⌝ }
     ensures { λ r. ⌜ record { out = now (out .exit); cursor = r .warned }
         ≡ allPushed (warningsIn (featureEvents (sceneOf (payload (now (s .entry)))) 0
         (sceneOf (payload (now (s .entry))) .features))) (record { out = now (out .entry); cursor = w }) ⌝ }
     ensures { λ r. ⌜ (r .warned .used ≤ length (now (out .exit)))
-        × AfterFeatures (now (s .entry)) (now (kept .entry)) n (now (heads .exit)) (r .controls) (r .count) ⌝ }
+        × AfterFeatures (now (s .entry)) (now (kept .entry)) n (now (positions .exit)) (r .controls) (r .count) ⌝ }
 {
     let mut warned = w;
-    let mut h = 0usize;
+    let mut controls = 0usize;
     let mut q = 0usize;
     let mut i = 0usize;
     loop {
         let f = next_name(s, q);
         if !f.some {
             return FeatureWarnings {
-                warned: warned,
+                warned,
                 count: i,
-                controls: h,
+                controls,
             };
         }
         q = f.next;
-        if is_kept(kept, n, h, i) {
-            heads[h] = (f.at - 1) as u32;
-            h += 1;
+        if is_kept(kept, n, controls, i) {
+            positions[controls] = (f.at - 1) as u32;
+            controls += 1;
         } else {
-            warned = push_warning(out, warned, 2, i as u32);
+            warned = push_warning(out, warned, WARNING_UNRESOLVED, i as u32);
         }
         i += 1;
     }
 }
 
-// Whether one of the first h heads is that of the n bytes at `at`.
-fn is_feature_name(s: &[u8], heads: &[u32], h: usize, at: usize, n: usize) -> bool
-    requires { ⌜ NamesFit (now s) (now heads) h × (at + n ≤ room (now s)) ⌝ }
-    ensures { λ r. ⌜ r ≡ anyNameIs (payload (now (s .entry))) (take h (now (heads .entry)))
+// Whether a name at one of the first `controls` positions is the n bytes at `at`.
+fn is_feature_name(s: &[u8], positions: &[u32], controls: usize, at: usize, n: usize) -> bool
+    requires { ⌜ NamesFit (now s) (now positions) controls × (at + n ≤ room (now s)) ⌝ }
+    ensures { λ r. ⌜ r ≡ anyNameIs (payload (now (s .entry))) (take controls (now (positions .entry)))
         (bytesAt (payload (now (s .entry))) at n) ⌝ }
 {
     let mut k = 0usize;
-    while k < h {
-        if name_at_equals(s, heads[k] as usize, at, n) {
+    while k < controls {
+        if name_at_equals(s, positions[k] as usize, at, n) {
             return true;
         }
         k += 1;
@@ -98,36 +108,37 @@ fn is_feature_name(s: &[u8], heads: &[u32], h: usize, at: usize, n: usize) -> bo
     false
 }
 
-// The warning of a mention that is no control point: 3 where a host feature has its name and resolves, else 2.
-fn kind_of(s: &[u8], heads: &[u32], h: usize, m: Mention) -> u32
-    requires { ⌜ NamesFit (now s) (now heads) h × (m .at + m .len ≤ room (now s)) ⌝ }
+// The kind of warning of a mention that is no control point, by whether a host feature has its name and resolves.
+fn kind_of(s: &[u8], positions: &[u32], controls: usize, m: Mention) -> u32
+    requires { ⌜ NamesFit (now s) (now positions) controls × (m .at + m .len ≤ room (now s)) ⌝ }
     ensures { λ r. ⌜ r ≡ kindBy (maybeFloat (m .lat))
-        (anyNameIs (payload (now (s .entry))) (take h (now (heads .entry)))
+        (anyNameIs (payload (now (s .entry))) (take controls (now (positions .entry)))
         (bytesAt (payload (now (s .entry))) (m .at) (m .len))) ⌝ }
 {
     let lat = m.lat;
     if !lat.some {
-        return 2;
+        return WARNING_UNRESOLVED;
     }
-    if is_feature_name(s, heads, h, m.at, m.len) {
-        return 3;
+    if is_feature_name(s, positions, controls, m.at, m.len) {
+        return WARNING_OVERRIDDEN;
     }
-    2
+    WARNING_UNRESOLVED
 }
 
-// Of the variables, behind `features` host features, of which the first h control points are.
+// Warns of each `_lon` variable that is no control point, behind `features` host features, whose names are the first
+// `controls` of those that are kept.
 fn warn_lons(
     s: &[u8],
     v: Survey,
     kept: &[u32],
     n: usize,
-    heads: &[u32],
-    h: usize,
+    positions: &[u32],
+    controls: usize,
     features: usize,
     out: &mut [u32],
     w: WarningCursor,
 ) -> WarningCursor
-    requires { ⌜ Registrable (now s) v × AfterFeatures (now s) (now kept) n (now heads) h features
+    requires { ⌜ Registrable (now s) v × AfterFeatures (now s) (now kept) n (now positions) controls features
         × (w .used ≤ length (now out)) ⌝ }
     ensures { λ r. ⌜ record { out = now (out .exit); cursor = r }
         ≡ allPushed (warningsIn (variableEvents (sceneOf (payload (now (s .entry)))) 0
@@ -135,17 +146,17 @@ fn warn_lons(
     ensures { λ r. ⌜ r .used ≤ length (now (out .exit)) ⌝ }
 {
     let mut warned = w;
-    let mut runs = [0usize; 32];
+    let mut starts = [0usize; 32];
     let mut c = Cursor {
-        q: v.vars,
+        q: v.variables_at,
         i: 0,
         at: 0,
         len: 0,
     };
-    let mut k = h;
+    let mut k = controls;
     let mut j = features;
     loop {
-        let m = next_mention(s, true, c, &mut runs);
+        let m = next_mention(s, true, c, &mut starts);
         if !m.some {
             return warned;
         }
@@ -153,13 +164,13 @@ fn warn_lons(
         if is_kept(kept, n, k, j) {
             k += 1;
         } else {
-            warned = push_warning(out, warned, kind_of(s, heads, h, m), m.index as u32);
+            warned = push_warning(out, warned, kind_of(s, positions, controls, m), m.index as u32);
         }
         j += 1;
     }
 }
 
-// Of all names. Where each has come to one of the n control points, no look is taken.
+// Warns of each name that is no control point. Where every name is one of the n control points, no name is looked at.
 fn warn_names(s: &[u8], v: Survey, kept: &[u32], out: &mut [u32], w: WarningCursor, n: u32) -> WarningCursor
     requires { ⌜ Registrable (now s) v × KeptControls (sceneOf (payload (now s))) n (now kept)
         × (w .used ≤ length (now out)) ⌝ }
@@ -169,19 +180,20 @@ fn warn_names(s: &[u8], v: Survey, kept: &[u32], out: &mut [u32], w: WarningCurs
     ensures { λ r. ⌜ r .used ≤ length (now (out .exit)) ⌝ }
 {
     let n = n as usize;
-    if v.names == n {
+    if v.name_count == n {
         return w;
     }
-    let mut heads = [0u32; 64];
-    let f = warn_features(s, kept, n, &mut heads, out, w);
+    // a place for each of up to MAX_CONTROLS control points
+    let mut positions = [0u32; 64];
+    let f = warn_features(s, kept, n, &mut positions, out, w);
     let featured = f.warned;
-    if v.lons == 0 {
+    if v.lon_count == 0 {
         return featured;
     }
-    warn_lons(s, v, kept, n, &heads, f.controls, f.count, out, featured)
+    warn_lons(s, v, kept, n, &positions, f.controls, f.count, out, featured)
 }
 
-// 1: a view_scale without geo_px.
+// Warns of a view_scale without geo_px.
 fn warn_view(d: Declared, out: &mut [u32], w: WarningCursor) -> WarningCursor
     requires { ⌜ w .used ≤ length (now out) ⌝ }
     ensures { λ r. ⌜ ((sc : Scene) → Declares sc d → record { out = now (out .exit); cursor = r }
@@ -195,10 +207,10 @@ fn warn_view(d: Declared, out: &mut [u32], w: WarningCursor) -> WarningCursor
     if d.px {
         return w;
     }
-    push_warning(out, w, 1, 0)
+    push_warning(out, w, WARNING_VIEW_SCALE, 0)
 }
 
-// 2: half an anchor.
+// Warns of half an anchor.
 fn warn_half(d: Declared, out: &mut [u32], w: WarningCursor) -> WarningCursor
     requires { ⌜ w .used ≤ length (now out) ⌝ }
     ensures { λ r. ⌜ ((sc : Scene) → Declares sc d → record { out = now (out .exit); cursor = r }
@@ -208,7 +220,7 @@ fn warn_half(d: Declared, out: &mut [u32], w: WarningCursor) -> WarningCursor
     if !d.half {
         return w;
     }
-    push_warning(out, w, 2, 0)
+    push_warning(out, w, WARNING_UNRESOLVED, 0)
 }
 
 // Whether a scale, a bearing or geo_px is declared.
@@ -226,7 +238,7 @@ fn declares(d: Declared) -> bool
     d.px
 }
 
-// 4: what is ignored with n control points.
+// Warns of what is ignored with n control points.
 fn warn_ignored(d: Declared, out: &mut [u32], w: WarningCursor, n: u32) -> WarningCursor
     requires { ⌜ w .used ≤ length (now out) ⌝ }
     ensures { λ r. ⌜ ((sc : Scene) → Declares sc d → record { out = now (out .exit); cursor = r }
@@ -239,12 +251,12 @@ fn warn_ignored(d: Declared, out: &mut [u32], w: WarningCursor, n: u32) -> Warni
     let mut warned = w;
     if n >= 2 {
         if declares(d) {
-            warned = push_warning(out, warned, 4, 0);
+            warned = push_warning(out, warned, WARNING_IGNORED, 0);
         }
     }
     let anchor = d.anchor;
     if anchor.some {
-        warned = push_warning(out, warned, 4, 0);
+        warned = push_warning(out, warned, WARNING_IGNORED, 0);
     }
     warned
 }

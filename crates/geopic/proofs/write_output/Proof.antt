@@ -42,7 +42,7 @@ convert-requires : tie.Need-convert-requires
 convert-requires c κs =
     let a = c .before .before .before .before .before .before .before .before .before .before .before .before .before .before .before .before .before .before in
     let s = a .args .s .now in
-    (omega (arith, a .pre .registrable), begun s (lent a) (c .before .before .before .before .before .before .before .before .before .before .write-warnings .ensures) (short (c .before .before .before .before .before .before)) .fits, a .pre .registrable .surveyed .labels)
+    (omega (arith, a .pre .registrable), begun s (lent a) (c .before .before .before .before .before .before .before .before .before .before .write-warnings .ensures) (short (c .before .before .before .before .before .before)) .fits, a .pre .registrable .surveyed .places-at)
 
 same-length : tie.Need-same-length
 same-length c = search needs

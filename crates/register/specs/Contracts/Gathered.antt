@@ -106,9 +106,9 @@ pub record Filling (s : List ℕ) (lons : Bool) (c : Cursor) (r : code-filled.Fi
   pub only : (x : List ℕ) → Contains (moreOf lons) (payload s) t (r .n) x → among x (take (r .count) (mentionsAt (payload s) lons c)) ≡ true
 
 -- and where the next batch begins
-pub record Batch (s : List ℕ) (lons : Bool) (c : Cursor) (r : code-filled.FilledBatch) (t runs : List ℕ) : Type 0 where
+pub record Batch (s : List ℕ) (lons : Bool) (c : Cursor) (r : code-filled.FilledBatch) (t starts : List ℕ) : Type 0 where
   pub filling : Filling s lons c r t
-  pub follows : Follows s lons (r .next) runs
+  pub follows : Follows s lons (r .next) starts
   pub rest : mentionsAt (payload s) lons (r .next) ≡ drop (r .count) (mentionsAt (payload s) lons c)
   -- the table is full, or no mention is left
   pub ends : r .n < length t → mentionsAt (payload s) lons (r .next) ≡ []
@@ -117,9 +117,9 @@ pub record Batch (s : List ℕ) (lons : Bool) (c : Cursor) (r : code-filled.Fill
   pub fits : r .n ≡ 0 ⊎ (c .q < room s)
 
 -- a batch is filled from c on, and its first name is the base-th of all names that were surveyed
-pub record BatchFrom (s : List ℕ) (v : Survey) (lons : Bool) (c : Cursor) (f : code-filled.FilledBatch) (t runs : List ℕ) (base : ℕ) : Type 0 where
-  pub counted : base + f .count ≤ v .names
-  pub follows : Follows s lons c runs
+pub record BatchFrom (s : List ℕ) (v : Survey) (lons : Bool) (c : Cursor) (f : code-filled.FilledBatch) (t starts : List ℕ) (base : ℕ) : Type 0 where
+  pub counted : base + f .count ≤ v .«name_count»
+  pub follows : Follows s lons c starts
   pub filling : Filling s lons c f t
 
 -- ---- marks

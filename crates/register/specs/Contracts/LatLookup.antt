@@ -22,20 +22,20 @@ commonPrefix (x ∷ xs) (y ∷ ys) = cond (eqb x y) (suc (commonPrefix xs ys)) 0
 
 -- of 32 positions, those for more than c bytes become q
 unfoldable pub prefixStarts : List ℕ → ℕ → ℕ → List ℕ
-prefixStarts runs c q = take (c + 1) runs ++ replicate (31 - c) q
+prefixStarts starts c q = take (c + 1) starts ++ replicate (31 - c) q
 
 -- u was the last name, and the variables from position q on are left
-pub record Passed (vars : ℕ → List NamedValue) (u runs : List ℕ) (q : ℕ) : Type 0 where
-  pub sized : length runs ≡ 32
+pub record Passed (vars : ℕ → List NamedValue) (u starts : List ℕ) (q : ℕ) : Type 0 where
+  pub sized : length starts ≡ 32
   pub rising : Rising u (vars q)
   -- a later name is among those that are left
   pub later : (name : List ℕ) → before u name ≡ true → variableOf name (vars 0) ≡ variableOf name (vars q)
-  -- a name that begins with j bytes of u is found from the j-th run on
-  pub near : (j : ℕ) (name : List ℕ) → j < 32 → j ≤ length u → take j name ≡ take j u → variableOf name (vars 0) ≡ variableOf name (vars (getD runs j 0))
-  pub runs-rise : (j : ℕ) → j < 32 → Rising [] (vars (getD runs j 0))
+  -- a name that begins with j bytes of u is found from the j-th start on
+  pub near : (j : ℕ) (name : List ℕ) → j < 32 → j ≤ length u → take j name ≡ take j u → variableOf name (vars 0) ≡ variableOf name (vars (getD starts j 0))
+  pub starts-rise : (j : ℕ) → j < 32 → Rising [] (vars (getD starts j 0))
 
 -- the last variable's name stands at `at`, and the next is looked for from q on
-pub record Along (s runs : List ℕ) (at len q : ℕ) : Type 0 where
-  pub passed : Passed (variablesAt (payload s)) (bytesAt (payload s) at len) runs q
+pub record Along (s starts : List ℕ) (at len q : ℕ) : Type 0 where
+  pub passed : Passed (variablesAt (payload s)) (bytesAt (payload s) at len) starts q
   pub within : at + len ≤ room s
   pub short : len ≤ 31

@@ -69,9 +69,9 @@ abbrev pub mentionsBy : List ℕ → Bool → code-mention.Mention → List Ment
 mentionsBy l lons r = cond (r .some) (mentionBy l r ∷ mentionsAt l lons (r .next)) []
 
 -- what is known at a cursor
-pub record Follows (s : List ℕ) (lons : Bool) (c : Cursor) (runs : List ℕ) : Type 0 where
+pub record Follows (s : List ℕ) (lons : Bool) (c : Cursor) (starts : List ℕ) : Type 0 where
   pub short : c .i ≤ c .q
-  pub along : lons ≡ true → Along s runs (c .at) (c .len) (c .q)
+  pub along : lons ≡ true → Along s starts (c .at) (c .len) (c .q)
 
 -- the name of a mention stands behind its length, which is `more` too great, and before eight bytes at least
 pub record MentionFits (s : List ℕ) (more : ℕ) (m : code-mention.Mention) : Type 0 where
@@ -81,12 +81,12 @@ pub record MentionFits (s : List ℕ) (more : ℕ) (m : code-mention.Mention) : 
   pub within : m .at + m .len + 8 ≤ room s
 
 -- the answer r to the question from c on
-pub record Asked (s : List ℕ) (lons : Bool) (c : Cursor) (r : code-mention.Mention) (runs : List ℕ) : Type 0 where
+pub record Asked (s : List ℕ) (lons : Bool) (c : Cursor) (r : code-mention.Mention) (starts : List ℕ) : Type 0 where
   pub lists : mentionsAt (payload s) lons c ≡ mentionsBy (payload s) lons r
   pub ends : r .some ≡ false → mentionsAt (payload s) lons (r .next) ≡ []
-  pub follows : Follows s lons (r .next) runs
+  pub follows : Follows s lons (r .next) starts
   pub onward : c .q ≤ r .next .q
   pub more : r .some ≡ true → c .q < r .next .q
   pub fits : r .some ≡ true → r .next .q ≤ room s
   pub index : r .some ≡ true → r .index + 1 ≡ r .next .i
-  pub heads : r .some ≡ true → MentionFits s (moreOf lons) r
+  pub mention-fits : r .some ≡ true → MentionFits s (moreOf lons) r

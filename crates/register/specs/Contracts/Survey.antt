@@ -1,5 +1,5 @@
 -- What one walk over host features and variables tells: what is declared, how many names of control points there are,
--- and where variables and labels stand.
+-- and where variables and places stand.
 use mathlib.Core.Path.{_≡_}
 use mathlib.Core.Bool.{true, cond}
 use mathlib.Core.List.{List, [], _∷_}
@@ -64,11 +64,11 @@ pub record Declares (sc : Scene) (d : Declared) : Type 0 where
 
 pub record Surveyed (l : List ℕ) (v : Survey) : Type 0 where
   pub declares : Declares (sceneOf l) (v .declared)
-  pub names : v .names ≡ length (featuresAt l 0) + lonsIn (variablesAt l 0)
-  pub lons : v .lons ≡ lonsIn (variablesAt l 0)
-  pub few : v .names ≤ length l
-  pub vars : VariablesFrom l (v .vars)
-  pub labels : LabelsFrom l (v .labels)
+  pub name-count : v .«name_count» ≡ length (featuresAt l 0) + lonsIn (variablesAt l 0)
+  pub lon-count : v .«lon_count» ≡ lonsIn (variablesAt l 0)
+  pub few : v .«name_count» ≤ length l
+  pub variables-at : VariablesFrom l (v .«variables_at»)
+  pub places-at : LabelsFrom l (v .«places_at»)
 
 -- a stream that can be registered: not too long, laid out, and surveyed
 pub record Registrable (s : List ℕ) (v : Survey) : Type 0 where

@@ -27,26 +27,26 @@ unfoldable pub anyNameIs : List ℕ → List ℕ → List ℕ → Bool
 anyNameIs l [] x = false
 anyNameIs l (p ∷ ps) x = sameBytes (bytesAt l (p + 1) (getD l p 0)) x || anyNameIs l ps x
 
--- the first h of them lie within the payload
-pub record NamesFit (s heads : List ℕ) (h : ℕ) : Type 0 where
-  pub few : h ≤ length heads
-  pub within : (k : ℕ) → k < h → getD heads k 0 + 1 + getD (payload s) (getD heads k 0) 0 ≤ room s
+-- the names at the first n positions lie within the payload
+pub record NamesFit (s positions : List ℕ) (n : ℕ) : Type 0 where
+  pub few : n ≤ length positions
+  pub within : (k : ℕ) → k < n → getD positions k 0 + 1 + getD (payload s) (getD positions k 0) 0 ≤ room s
 
--- they are those of fs that resolve
-pub record ResolvedNames (s heads : List ℕ) (h : ℕ) (fs : List NamedFeature) : Type 0 where
-  pub stands : NamesFit s heads h
-  pub names : (x : List ℕ) → anyNameIs (payload s) (take h heads) x
+-- the names at the first n positions are those of fs that resolve
+pub record ResolvedNames (s positions : List ℕ) (n : ℕ) (fs : List NamedFeature) : Type 0 where
+  pub stands : NamesFit s positions n
+  pub names : (x : List ℕ) → anyNameIs (payload s) (take n positions) x
       ≡ (isSome (resolved (sceneOf (payload s)) x) && mentioned x fs)
 
 -- where each of 64 names of a stream stands can be kept as 32 bits
-pub record PositionRoom (s heads : List ℕ) : Type 0 where
+pub record PositionRoom (s positions : List ℕ) : Type 0 where
   pub small : room s < 33554432
-  pub sized : length heads ≡ 64
+  pub sized : length positions ≡ 64
 
--- what is known behind the host features: their heads, and which of n kept numbers are left for the variables
-pub record AfterFeatures (s kept : List ℕ) (n : ℕ) (heads : List ℕ) (h features : ℕ) : Type 0 where
-  pub heading : ResolvedNames s heads h (sceneOf (payload s) .features)
-  pub left : drop h (take n kept)
+-- what is known behind the host features: where the names of control points stand, and which of n kept numbers are left for the variables
+pub record AfterFeatures (s kept : List ℕ) (n : ℕ) (positions : List ℕ) (controls features : ℕ) : Type 0 where
+  pub resolved-names : ResolvedNames s positions controls (sceneOf (payload s) .features)
+  pub left : drop controls (take n kept)
       ≡ numbersIn features (variableEvents (sceneOf (payload s)) 0 (sceneOf (payload s) .variables))
   pub short : features ≤ room s
   pub few : n ≤ length kept

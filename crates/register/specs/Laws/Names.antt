@@ -17,16 +17,16 @@ unfolding commonPrefix
 common-more x y xs ys e = rw (eq-eqb x y e) refl
 
 -- a name that shares more bytes with w than u does comes after u
-pub run-law : (u w name : List ℕ) (j : ℕ) → before u w ≡ true → commonPrefix u w < j → j ≤ length w → take j name ≡ take j w → before u name ≡ true
+pub between-names : (u w name : List ℕ) (j : ℕ) → before u w ≡ true → commonPrefix u w < j → j ≤ length w → take j name ≡ take j w → before u name ≡ true
 unfolding before commonPrefix
-run-law [] w name zero h c k e = absurd (omega arith)
-run-law [] [] name (suc j) h c k e = absurd (omega arith)
-run-law [] (y ∷ ys) [] (suc j) h c k e = let z : _≡_ {A = ℕ} 0 1 = cc in absurd (omega arith)
-run-law [] (y ∷ ys) (z ∷ zs) (suc j) h c k e = refl
-run-law (x ∷ xs) w name zero h c k e = absurd (omega arith)
-run-law (x ∷ xs) [] name (suc j) h c k e = absurd (false≢true h)
-run-law (x ∷ xs) (y ∷ ys) [] (suc j) h c k e = let z : _≡_ {A = ℕ} 0 1 = cc in absurd (omega arith)
-run-law (x ∷ xs) (y ∷ ys) (z ∷ zs) (suc j) h c k e = by (before-cases x y xs ys h) (cc) (run-law xs ys zs j)
+between-names [] w name zero h c k e = absurd (omega arith)
+between-names [] [] name (suc j) h c k e = absurd (omega arith)
+between-names [] (y ∷ ys) [] (suc j) h c k e = let z : _≡_ {A = ℕ} 0 1 = cc in absurd (omega arith)
+between-names [] (y ∷ ys) (z ∷ zs) (suc j) h c k e = refl
+between-names (x ∷ xs) w name zero h c k e = absurd (omega arith)
+between-names (x ∷ xs) [] name (suc j) h c k e = absurd (false≢true h)
+between-names (x ∷ xs) (y ∷ ys) [] (suc j) h c k e = let z : _≡_ {A = ℕ} 0 1 = cc in absurd (omega arith)
+between-names (x ∷ xs) (y ∷ ys) (z ∷ zs) (suc j) h c k e = by (before-cases x y xs ys h) (cc) (between-names xs ys zs j)
   where
     by : (x < y) ⊎ ((x ≡ y) × (before xs ys ≡ true)) → z ≡ y → (before xs ys ≡ true → commonPrefix xs ys < j → j ≤ length ys → take j zs ≡ take j ys → before xs zs ≡ true) → before (x ∷ xs) (z ∷ zs) ≡ true
     by (inl p) q f = before-less x z xs zs (omega arith)

@@ -1,6 +1,6 @@
 use borrow.Author.Needs.{needs}
 use borrow.Author.Tests.{not-true, not-false}
-use Rattle.register.proofs.Filling.{insertable, added-by, added-not}
+use Rattle.register.proofs.TableEntries.{insertable, added-by, added-not}
 use Rattle.register.proofs.controls.add_name.Statement.{statement}
 use Rattle.register.proofs.controls.add_name.Tie as tie
 

@@ -5,15 +5,15 @@ use native.Mathlib.Omega.{arith}
 use borrow.Author.Needs.{needs}
 use borrow.Author.Tests.{not-true, not-false}
 use Rattle.stream.specs.Contracts.Payload.{room}
-use Rattle.register.proofs.Filling.{Fills, fills-none, fills-ends, fills-few, fills-more, fills-full}
+use Rattle.register.proofs.TableEntries.{Fills, fills-none, fills-ends, fills-few, fills-more, fills-full}
 use Rattle.register.proofs.controls.fill_batch.Statement.{statement}
 use Rattle.register.proofs.controls.fill_batch.Tie as tie
 
 abbrev Inv-loop : tie.InvT-loop
-Inv-loop s lons t₀ runs₀ more n₀ count₀ at₀ t runs n count at = Fills s lons at₀ at n count t runs × (length t ≡ length t₀) × (length runs ≡ length runs₀)
+Inv-loop s lons t₀ starts₀ more n₀ count₀ at₀ t starts n count at = Fills s lons at₀ at n count t starts × (length t ≡ length t₀) × (length starts ≡ length starts₀)
 
 abbrev μ-loop : tie.MeasureT-loop
-μ-loop s lons t₀ runs₀ more n₀ count₀ at₀ t runs n count at = room s - at .q
+μ-loop s lons t₀ starts₀ more n₀ count₀ at₀ t starts n count at = room s - at .q
 
 more-of-requires : tie.Need-more-of-requires Inv-loop μ-loop
 more-of-requires c κs = search needs
@@ -34,7 +34,7 @@ returns : tie.Need-returns Inv-loop μ-loop
 returns c = fills-ends (c .before .before .before .before .before .before .before .before .loop .inv .0) _ _ (c .before .before .before .before .before .next-mention .ensures) (not-true _ (c .if1 .taken))
 
 add-name-requires : tie.Need-add-name-requires Inv-loop μ-loop
-add-name-requires c κs = rw (c .before .before .before .before .before .before .before .before .before .before .more-of .ensures) (record { small = c .before .before .before .before .before .before .before .before .before .before .before .before .before .before .pre .0; free = search needs; table = c .before .before .before .before .before .before .before .before .before .loop .inv .0 .table }, c .before .before .before .before .before .before .next-mention .ensures .heads (not-false _ (c .before .if1 .left)))
+add-name-requires c κs = rw (c .before .before .before .before .before .before .before .before .before .before .more-of .ensures) (record { small = c .before .before .before .before .before .before .before .before .before .before .before .before .before .before .pre .0; free = search needs; table = c .before .before .before .before .before .before .before .before .before .loop .inv .0 .table }, c .before .before .before .before .before .before .next-mention .ensures .mention-fits (not-false _ (c .before .if1 .left)))
 
 add-count : tie.Need-add-count Inv-loop μ-loop
 add-count c = omega (arith, c .before .before .before .before .before .before .before .before .before .before .before .before .before .before .before .before .before .pre .0, fills-few (c .before .before .before .before .before .before .before .before .before .before .before .before .loop .inv .0) _ _ (c .before .before .before .before .before .before .before .before .before .next-mention .ensures) (not-false _ (c .before .before .before .before .if1 .left)))

@@ -1,7 +1,7 @@
 use borrow.Author.Needs.{needs}
 use native.Mathlib.Omega.{arith}
 use Rattle.stream.specs.Laws.Payload.{payload-length}
-use Rattle.register.proofs.Gathering.{more-few, surveyed-features, batch-lost, batch-read, ready}
+use Rattle.register.proofs.GatheredBatches.{more-few, surveyed-features, batch-lost, batch-read, ready}
 use Rattle.register.proofs.controls.gather_batch.Statement.{statement}
 use Rattle.register.proofs.controls.gather_batch.Tie as tie
 
@@ -33,7 +33,7 @@ returns : tie.Need-returns
 returns c =
     let pre = c .before .before .before .before .before .before .before .before .before .before .before .before .before .before .before .pre in
     let d = rw (c .before .before .before .before .before .before .before .before .before .more-of .ensures) at (c .before .before .before .before .before .match-labels .ensures) in
-    λ cs js h o. batch-lost _ _ _ _ _ (pre .1 .filling) d (pre .0 .surveyed .labels) h (c .if1 .taken)
+    λ cs js h o. batch-lost _ _ _ _ _ (pre .1 .filling) d (pre .0 .surveyed .places-at) h (c .if1 .taken)
 
 -- src/controls.rt:309:43
 sub-features-before : tie.Need-sub-features-before
@@ -81,7 +81,7 @@ returns-2 c =
     let pre = c .before .before .before .before .before .before .before .before .before .before .before .before .before .before .before .before .before .before .before .before .before .before .before .before .before .before .before .before .before .before .before .before .before .before .before .pre in
     let d = rw (c .before .before .before .before .before .before .before .before .before .before .before .before .before .before .before .before .before .before .before .before .before .before .before .before .before .before .before .before .before .more-of .ensures) at (c .before .before .before .before .before .before .before .before .before .before .before .before .before .before .before .before .before .before .before .before .before .before .before .before .before .match-labels .ensures) in
     let o = rw (c .before .before .before .before .before .before .before .before .before .before .before .before .before .before .before .before .before .before .before .before .before .before .before .before .before .before .before .before .before .more-of .ensures, c .before .before .before .before .before .before .before .before .before .before .before .before .before .before .before .before .before .features-before .ensures, surveyed-features (pre .0 .surveyed)) at (c .before .before .before .before .before .before .before .before .before .before .before .before .before .before .before .before .clear-known .ensures) in
-    λ cs js h q. batch-read _ _ _ _ _ (pre .1 .filling) d (pre .0 .surveyed .labels) h o q (c .before .before .before .before .before .before .before .before .read-batch .ensures (ready _ _ _ _ _ (pre .1 .filling) d (pre .0 .surveyed .labels) h o))
+    λ cs js h q. batch-read _ _ _ _ _ (pre .1 .filling) d (pre .0 .surveyed .places-at) h o q (c .before .before .before .before .before .before .before .before .read-batch .ensures (ready _ _ _ _ _ (pre .1 .filling) d (pre .0 .surveyed .places-at) h o))
 
 pub gather-batch-spec : {M : Type 1} → statement M
 gather-batch-spec =

@@ -2,8 +2,8 @@ use borrow.Author.Needs.{needs}
 use mathlib.Core.List.{[]}
 use Rattle.stream.specs.Payload.{payload}
 use Rattle.scene.specs.Scene.{sceneOf}
-use Rattle.register.proofs.Gathering.{both-parts, features-alone, features-first, none-before-all, none-held}
-use Rattle.register.proofs.Counting.{only-features}
+use Rattle.register.proofs.GatheredBatches.{both-parts, features-alone, features-first, none-before-all, none-held}
+use Rattle.register.proofs.EventCounts.{only-features}
 use Rattle.register.proofs.controls.gather_names.Statement.{statement}
 use Rattle.register.proofs.controls.gather_names.Tie as tie
 

@@ -6,16 +6,16 @@ use native.Mathlib.Omega.{arith}
 use lib.ListN.{length}
 use Rattle.stream.specs.Contracts.Payload.{room}
 use Rattle.stream.specs.Laws.Payload.{payload-length}
-use Rattle.register.proofs.Gathering.{Parted, left, part-start, part-on, part-end, part-total}
+use Rattle.register.proofs.GatheredBatches.{Parted, left, part-start, part-on, part-end, part-total}
 use Rattle.register.proofs.controls.gather_part.Statement.{statement}
 use Rattle.register.proofs.controls.gather_part.Tie as tie
 
 abbrev Inv-loop : tie.InvT-loop
-Inv-loop s v lons t₀ flat₀ kept₀ all₀ runs₀ c₀ base₀ t flat kept all runs c base =
-    Parted s lons all₀ flat₀ kept₀ c runs base all flat kept × (length t ≡ length t₀) × (length flat ≡ length flat₀) × (length kept ≡ length kept₀) × (length runs ≡ 32)
+Inv-loop s v lons t₀ flat₀ kept₀ all₀ starts₀ c₀ base₀ t flat kept all starts c base =
+    Parted s lons all₀ flat₀ kept₀ c starts base all flat kept × (length t ≡ length t₀) × (length flat ≡ length flat₀) × (length kept ≡ length kept₀) × (length starts ≡ 32)
 
 abbrev μ-loop : tie.MeasureT-loop
-μ-loop s v lons t₀ flat₀ kept₀ all₀ runs₀ c₀ base₀ t flat kept all runs c base = room s - c .q
+μ-loop s v lons t₀ flat₀ kept₀ all₀ starts₀ c₀ base₀ t flat kept all starts c base = room s - c .q
 
 further : {n q q′ r : ℕ} → (n ≡ 0 → ⊥) → (n ≡ 0) ⊎ (q < q′) → (n ≡ 0) ⊎ (q < r) → r - q′ < r - q
 further h (inl a) b = absurd (h a)
@@ -27,7 +27,7 @@ first-of-requires c κs = search needs
 
 -- src/controls.rt:327:42
 sub-features-before : tie.Need-sub-features-before Inv-loop μ-loop
-sub-features-before c = omega (arith, c .before .before .before .before .before .before .pre .0 .surveyed .names, c .before .before .before .before .before .before .pre .0 .surveyed .lons)
+sub-features-before c = omega (arith, c .before .before .before .before .before .before .pre .0 .surveyed .name-count, c .before .before .before .before .before .before .pre .0 .surveyed .lon-count)
 
 -- src/controls.rt:327:9
 features-before-requires : tie.Need-features-before-requires Inv-loop μ-loop
@@ -89,7 +89,7 @@ loop-less c =
 -- src/controls.rt:328:5
 loop-again : tie.Need-loop-again Inv-loop μ-loop
 loop-again c =
-    (part-on (c .before .before .before .before .before .before .before .before .before .before .before .before .before .before .before .before .before .before .before .before .before .before .loop .inv .0) (c .before .before .before .before .before .before .before .before .before .before .before .before .before .before .before .before .before .before .before .fill-batch .ensures) _ _ _ (c .before .before .before .before .before .before .before .before .before .gather-batch .ensures), omega (arith, c .before .before .before .before .before .before .before .before .t2 .given, c .before .before .before .before .before .before .before .before .before .before .before .before .before .before .before .before .before .before .t .given, c .before .before .before .before .before .before .before .before .before .before .before .before .before .before .before .before .before .before .before .before .before .before .loop .inv .1), omega (arith, c .before .before .before .before .before .flat .given, c .before .before .before .before .before .before .before .before .before .before .before .before .before .before .before .before .before .before .before .before .before .before .loop .inv .2), omega (arith, c .before .before .before .kept .given, c .before .before .before .before .before .before .before .before .before .before .before .before .before .before .before .before .before .before .before .before .before .before .loop .inv .3), omega (arith, c .before .before .before .before .before .before .before .before .before .before .before .before .before .before .before .before .runs2 .given, c .before .before .before .before .before .before .before .before .before .before .before .before .before .before .before .before .before .before .before .before .before .before .loop .inv .4))
+    (part-on (c .before .before .before .before .before .before .before .before .before .before .before .before .before .before .before .before .before .before .before .before .before .before .loop .inv .0) (c .before .before .before .before .before .before .before .before .before .before .before .before .before .before .before .before .before .before .before .fill-batch .ensures) _ _ _ (c .before .before .before .before .before .before .before .before .before .gather-batch .ensures), omega (arith, c .before .before .before .before .before .before .before .before .t2 .given, c .before .before .before .before .before .before .before .before .before .before .before .before .before .before .before .before .before .before .t .given, c .before .before .before .before .before .before .before .before .before .before .before .before .before .before .before .before .before .before .before .before .before .before .loop .inv .1), omega (arith, c .before .before .before .before .before .flat .given, c .before .before .before .before .before .before .before .before .before .before .before .before .before .before .before .before .before .before .before .before .before .before .loop .inv .2), omega (arith, c .before .before .before .kept .given, c .before .before .before .before .before .before .before .before .before .before .before .before .before .before .before .before .before .before .before .before .before .before .loop .inv .3), omega (arith, c .before .before .before .before .before .before .before .before .before .before .before .before .before .before .before .before .starts2 .given, c .before .before .before .before .before .before .before .before .before .before .before .before .before .before .before .before .before .before .before .before .before .before .loop .inv .4))
 
 pub gather-part-spec : {M : Type 1} → statement M
 gather-part-spec =

@@ -5,7 +5,7 @@ use mathlib.Core.Logic.{⊎-elim, inl, inr}
 use native.Mathlib.Omega.{arith}
 use lib.ListN.{length-set}
 use Rattle.register.specs.Register.{withinLimits}
-use Rattle.register.proofs.Holding.{both, put-full, put-more}
+use Rattle.register.proofs.TallyLaws.{both, put-full, put-more}
 use Rattle.register.proofs.controls.put_control.Statement.{statement}
 use Rattle.register.proofs.controls.put_control.Tie as tie
 

@@ -2,15 +2,15 @@ use mathlib.Core.Path.{_∙_}
 use Prim.Native.Nat.{_-_}
 use native.Mathlib.Omega.{arith}
 use borrow.Author.Tests.{not-false}
-use Rattle.register.proofs.Reading.{Going, go-begin, go-end, go-none, go-on}
+use Rattle.register.proofs.ReadMentions.{Going, go-begin, go-end, go-none, go-on}
 use Rattle.register.proofs.controls.read_batch.Statement.{statement}
 use Rattle.register.proofs.controls.read_batch.Tie as tie
 
 abbrev Inv-loop : tie.InvT-loop
-Inv-loop s lons t₀ n spots runs₀ count base flat₀ kept₀ all₀ at₀ k₀ t runs flat kept all at k = Going s lons t₀ n spots runs₀ count base flat₀ kept₀ all₀ at₀ t runs flat kept all at k
+Inv-loop s lons t₀ n spots starts₀ count base flat₀ kept₀ all₀ at₀ k₀ t starts flat kept all at k = Going s lons t₀ n spots starts₀ count base flat₀ kept₀ all₀ at₀ t starts flat kept all at k
 
 abbrev μ-loop : tie.MeasureT-loop
-μ-loop s lons t₀ n spots runs₀ count base flat₀ kept₀ all₀ at₀ k₀ t runs flat kept all at k = count - k
+μ-loop s lons t₀ n spots starts₀ count base flat₀ kept₀ all₀ at₀ k₀ t starts flat kept all at k = count - k
 
 loop-holds : tie.Need-loop-holds Inv-loop μ-loop
 loop-holds c = go-begin _ _ (c .before .before .before .before .before .before .pre)
@@ -22,7 +22,7 @@ same-length : tie.Need-same-length Inv-loop μ-loop
 same-length c = c .before .before .before .before .before .before .before .loop .inv .t-kept
 
 same-length-2 : tie.Need-same-length-2 Inv-loop μ-loop
-same-length-2 c = c .before .before .before .before .next-mention .kept .1 .1 .1 .0 ∙ c .before .before .before .before .before .before .before .loop .inv .runs-kept
+same-length-2 c = c .before .before .before .before .next-mention .kept .1 .1 .1 .0 ∙ c .before .before .before .before .before .before .before .loop .inv .starts-kept
 
 same-length-3 : tie.Need-same-length-3 Inv-loop μ-loop
 same-length-3 c = c .before .before .before .before .before .before .before .loop .inv .flat-kept
@@ -41,7 +41,7 @@ add-read-mention c =
 read-mention-requires : tie.Need-read-mention-requires Inv-loop μ-loop
 read-mention-requires c κs =
     let d = c .before .before .before .before .before .before .before .before .before .before .loop .inv in
-    (omega (arith, c .before .before .before .before .before .before .before .before .before .loop-test), record { table = d .table; spots-room = d .spots-room; control-room = record { flat-room = d .flat-room; kept-room = d .kept-room } }, c .before .before .before .before .before .before .before .next-mention .ensures .heads (not-false _ (c .before .before .before .if1 .left)))
+    (omega (arith, c .before .before .before .before .before .before .before .before .before .loop-test), record { table = d .table; spots-room = d .spots-room; control-room = record { flat-room = d .flat-room; kept-room = d .kept-room } }, c .before .before .before .before .before .before .before .next-mention .ensures .mention-fits (not-false _ (c .before .before .before .if1 .left)))
 
 add-k : tie.Need-add-k Inv-loop μ-loop
 add-k c =
@@ -65,7 +65,7 @@ same-length-5 : tie.Need-same-length-5 Inv-loop μ-loop
 same-length-5 c = c .before .loop .inv .t-kept
 
 same-length-6 : tie.Need-same-length-6 Inv-loop μ-loop
-same-length-6 c = c .before .loop .inv .runs-kept
+same-length-6 c = c .before .loop .inv .starts-kept
 
 same-length-7 : tie.Need-same-length-7 Inv-loop μ-loop
 same-length-7 c = c .before .loop .inv .flat-kept

@@ -1,7 +1,7 @@
 use borrow.Author.Needs.{needs}
 use Prim.Native.Nat.{_≤_}
 use native.Mathlib.Omega.{arith}
-use Rattle.register.proofs.Reading.{read-lost, read-again, read-first, no-latitude, a-latitude, taken-name}
+use Rattle.register.proofs.ReadMentions.{read-lost, read-again, read-first, no-latitude, a-latitude, taken-name}
 use Rattle.register.proofs.controls.read_mention.Statement.{statement}
 use Rattle.register.proofs.controls.read_mention.Tie as tie
 

@@ -1,5 +1,5 @@
 use Rattle.register.specs.Register.{bothOf}
-use Rattle.register.proofs.Options.{both}
+use Rattle.register.proofs.DeclaredValues.{both}
 use Rattle.register.proofs.declared.anchor_of.Statement.{statement}
 use Rattle.register.proofs.declared.anchor_of.Tie as tie
 

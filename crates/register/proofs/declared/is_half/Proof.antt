@@ -1,5 +1,5 @@
 use borrow.Author.Needs.{needs}
-use Rattle.register.proofs.Options.{one-alone}
+use Rattle.register.proofs.DeclaredValues.{one-alone}
 use Rattle.register.proofs.declared.is_half.Statement.{statement}
 use Rattle.register.proofs.declared.is_half.Tie as tie
 

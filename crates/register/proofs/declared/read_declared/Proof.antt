@@ -1,7 +1,7 @@
 use borrow.Author.Needs.{needs}
 use Rattle.stream.specs.Payload.{payload}
 use Rattle.register.specs.Register.{pxMode, anchorOf, halfAnchor}
-use Rattle.register.proofs.Options.{scene-says}
+use Rattle.register.proofs.DeclaredValues.{scene-says}
 use Rattle.register.proofs.declared.read_declared.Statement.{statement}
 use Rattle.register.proofs.declared.read_declared.Tie as tie
 

@@ -8,7 +8,7 @@ use Rattle.stream.specs.Laws.Payload.{rest-length}
 use Rattle.records.specs.Records.{bytesAt}
 use Rattle.register.specs.Contracts.LatLookup.{commonPrefix}
 use Rattle.records.specs.Laws.Names.{name-length, name-at}
-use Rattle.register.proofs.RunsBytes.{first-ends, second-ends, bytes-differ, bytes-agree}
+use Rattle.register.proofs.PrefixBytes.{first-ends, second-ends, bytes-differ, bytes-agree}
 use Rattle.register.proofs.lat_lookup.common_prefix.Statement.{statement}
 use Rattle.register.proofs.lat_lookup.common_prefix.Tie as tie
 

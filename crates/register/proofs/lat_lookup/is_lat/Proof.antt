@@ -5,7 +5,7 @@ use Rattle.stream.specs.Payload.{payload}
 use Rattle.stream.specs.Laws.Payload.{payload-length}
 use Rattle.records.specs.Records.{bytesAt}
 use Rattle.register.specs.Register.{suffixLat}
-use Rattle.register.proofs.RunsNames.{too-short, begins-else, begins-so}
+use Rattle.register.proofs.SuffixNames.{too-short, begins-else, begins-so}
 use Rattle.register.proofs.lat_lookup.is_lat.Statement.{statement}
 use Rattle.register.proofs.lat_lookup.is_lat.Tie as tie
 

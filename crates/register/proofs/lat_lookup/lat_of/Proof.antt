@@ -12,7 +12,7 @@ use Rattle.scene.specs.Labels.{variableOf}
 use Rattle.scene.specs.Contracts.Answers.{Within, variablesAt}
 use Rattle.scene.specs.Laws.Rising.{Rising}
 use Rattle.register.specs.Register.{suffixLat}
-use Rattle.register.proofs.RunsNames.{no-more, rises-on, this-one, later-one, none-behind}
+use Rattle.register.proofs.SuffixNames.{no-more, rises-on, this-one, later-one, none-behind}
 use Rattle.register.proofs.lat_lookup.lat_of.Statement.{statement}
 use Rattle.register.proofs.lat_lookup.lat_of.Tie as tie
 

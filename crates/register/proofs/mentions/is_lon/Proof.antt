@@ -1,5 +1,5 @@
 use borrow.Author.Needs.{needs}
-use Rattle.register.proofs.Lons.{too-short, other-ending, lon-ending}
+use Rattle.register.proofs.LonNames.{too-short, other-ending, lon-ending}
 use Rattle.register.proofs.mentions.is_lon.Statement.{statement}
 use Rattle.register.proofs.mentions.is_lon.Tie as tie
 

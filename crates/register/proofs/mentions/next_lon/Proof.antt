@@ -6,16 +6,16 @@ use Prim.Native.Nat.{_-_}
 use native.Mathlib.Omega.{arith}
 use Rattle.stream.specs.Contracts.Payload.{room}
 use Rattle.scene.specs.Contracts.Answers.{Within}
-use Rattle.register.proofs.Declarations.{Turn, turned, long, suffix, run}
+use Rattle.register.proofs.VariableTurns.{Turn, turned, long, suffix, start-rises}
 use Rattle.register.proofs.MentionLists.{Looking, looking, no-lon, on-other, one-lon}
 use Rattle.register.proofs.mentions.next_lon.Statement.{statement}
 use Rattle.register.proofs.mentions.next_lon.Tie as tie
 
 abbrev Inv-loop : tie.InvT-loop
-Inv-loop s runs₀ at₀ len₀ q₀ i₀ runs at len q i = Looking s q₀ i₀ runs at len q i
+Inv-loop s starts₀ at₀ len₀ q₀ i₀ starts at len q i = Looking s q₀ i₀ starts at len q i
 
 abbrev μ-loop : tie.MeasureT-loop
-μ-loop s runs₀ at₀ len₀ q₀ i₀ runs at len q i = room s - q
+μ-loop s starts₀ at₀ len₀ q₀ i₀ starts at len q i = room s - q
 
 within : (c : tie.After-next-variable Inv-loop μ-loop) → not (c .next-variable .result .some) ≡ false → Within (room (c .before .before .before .before .args .s .now)) (c .before .loop .q) (c .next-variable .result .at) (c .next-variable .result .len) (c .next-variable .result .next)
 within c h = c .next-variable .ensures .1 .0 (not-false _ h)
@@ -23,7 +23,7 @@ within c h = c .next-variable .ensures .1 .0 (not-false _ h)
 -- a turn, up to whether the variable is `<L>_lon`
 turn : (c : tie.After-is-lon Inv-loop μ-loop)
     → let at = c .before .before .before .before .before .before .before .before .before .loop in
-    Turn (c .before .before .before .before .before .before .before .before .before .before .before .before .args .s .now) (at .runs) (at .at) (at .len) (at .q) (c .before .before .before .before .before .before .before .before .next-variable .result) (c .before .before .before .set-prefix-starts .last .0) (c .is-lon .result)
+    Turn (c .before .before .before .before .before .before .before .before .before .before .before .before .args .s .now) (at .starts) (at .at) (at .len) (at .q) (c .before .before .before .before .before .before .before .before .next-variable .result) (c .before .before .before .set-prefix-starts .last .0) (c .is-lon .result)
 turn c =
     let v = c .before .before .before .before .before .before .before .before in
     let h = c .before .before .before .before .before .before .if1 .left in
@@ -32,7 +32,7 @@ turn c =
       lists = v .next-variable .ensures .0;
       found = h;
       within = within v h;
-      headed = v .next-variable .ensures .1 .1 .0 (not-false _ h);
+      prefixed = v .next-variable .ensures .1 .1 .0 (not-false _ h);
       common = c .before .before .before .before .before .common-prefix .result;
       alike = c .before .before .before .before .before .common-prefix .ensures .0;
       low = c .before .before .before .before .before .common-prefix .ensures .1;
@@ -70,10 +70,10 @@ sub-from : tie.Need-sub-from Inv-loop μ-loop
 sub-from c = omega (arith, long (turn (c .before)) (c .if2 .taken))
 
 mul-from : tie.Need-mul-from Inv-loop μ-loop
-mul-from c = omega (arith, turn (c .before) .headed .short)
+mul-from c = omega (arith, turn (c .before) .prefixed .short)
 
 slice-read-from : tie.Need-slice-read-from Inv-loop μ-loop
-slice-read-from c = omega (arith, turn (c .before .before) .headed .short, turned (turn (c .before .before)) .passed .sized)
+slice-read-from c = omega (arith, turn (c .before .before) .prefixed .short, turned (turn (c .before .before)) .passed .sized)
 
 sub-lat-of : tie.Need-sub-lat-of Inv-loop μ-loop
 sub-lat-of c = long (turn (c .before .before)) (c .before .if2 .taken)
@@ -82,7 +82,7 @@ lat-of-requires : tie.Need-lat-of-requires Inv-loop μ-loop
 lat-of-requires c κs =
     let t = turn (c .before .before) in
     let h = c .before .if2 .taken in
-    (omega (arith, long t h, t .within .name), suffix t h, run t h)
+    (omega (arith, long t h, t .within .name), suffix t h, start-rises t h)
 
 add-t22 : tie.Need-add-t22 Inv-loop μ-loop
 add-t22 c = let t = turn (c .before .before .before) in let l = c .before .before .before .before .before .before .before .before .before .before .before .before .loop .inv .short in search needs

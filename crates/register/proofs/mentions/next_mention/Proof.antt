@@ -15,7 +15,7 @@ next-feature-name-requires : tie.Need-next-feature-name-requires
 next-feature-name-requires c κs = search needs
 
 returns-2 : tie.Need-returns-2
-returns-2 c = rw (c .before .if1 .left) (c .next-feature-name .ensures (c .before .before .before .before .args .runs .now))
+returns-2 c = rw (c .before .if1 .left) (c .next-feature-name .ensures (c .before .before .before .before .args .starts .now))
 
 pub next-mention-spec : {M : Type 1} → statement M
 next-mention-spec =

@@ -7,7 +7,7 @@ use Rattle.scene.specs.Scene.{Scene}
 use Rattle.register.specs.Register.{f0, scaleValue, above0}
 use Rattle.register.specs.Contracts.Survey.{Declares}
 use Rattle.register.specs.Contracts.Outcome.{declaredOutcome}
-use Rattle.register.proofs.Options.{or-given, Seen, seen, scaled, by-scale}
+use Rattle.register.proofs.DeclaredValues.{or-given, Seen, seen, scaled, by-scale}
 use Rattle.register.proofs.outcome.declare.Statement.{statement}
 use Rattle.register.proofs.outcome.declare.Tie as tie
 

@@ -10,7 +10,7 @@ use lib.Dec.{eqb}
 use Rattle.fit.specs.Laws.Fours.{fours-length}
 use Rattle.register.specs.Contracts.Gathered.{controlBy, controlsBy}
 use Rattle.register.specs.Contracts.Outcome.{fittedOutcome}
-use Rattle.register.proofs.Copies.{Copied, copied, copied-one, all-copied}
+use Rattle.register.proofs.CopiedControls.{Copied, copied, copied-one, all-copied}
 use Rattle.register.proofs.outcome.fit_controls.Statement.{statement}
 use Rattle.register.proofs.outcome.fit_controls.Tie as tie
 

@@ -41,13 +41,13 @@ record-geo-requires c κs = c .before .before .next-variable .ensures .1 .0 (not
 is-lon-requires : tie.Need-is-lon-requires Inv-loop μ-loop
 is-lon-requires c κs = c .before .before .before .next-variable .ensures .1 .0 (not-false _ (c .before .if1 .left)) .name
 
-add-names : tie.Need-add-names Inv-loop μ-loop
-add-names c =
+add-name-count : tie.Need-add-name-count Inv-loop μ-loop
+add-name-count c =
     let a = c .before .before .before .before .before in
     omega (arith, a .next-variable .ensures .1 .0 (not-false _ (c .before .before .before .if1 .left)), a .before .loop .inv .short)
 
-add-lons : tie.Need-add-lons Inv-loop μ-loop
-add-lons c =
+add-lon-count : tie.Need-add-lon-count Inv-loop μ-loop
+add-lon-count c =
     let a = c .before .before .before .before .before in
     let d = a .before .loop .inv in
     omega (arith, a .next-variable .ensures .1 .0 (not-false _ (c .before .before .before .if1 .left)), d .short, d .fewer)
@@ -89,8 +89,8 @@ survey-stream-spec =
     returns
     record-geo-requires
     is-lon-requires
-    add-names
-    add-lons
+    add-name-count
+    add-lon-count
     loop-less
     loop-again
     loop-less-2

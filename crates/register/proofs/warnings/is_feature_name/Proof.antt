@@ -6,15 +6,15 @@ use lib.ListN.{take, drop}
 use Rattle.stream.specs.Payload.{payload}
 use Rattle.records.specs.Records.{bytesAt}
 use Rattle.register.specs.Contracts.Warnings.{anyNameIs}
-use Rattle.register.proofs.Keeping.{none-called, one-called, other-called}
+use Rattle.register.proofs.KeptNumbers.{none-called, one-called, other-called}
 use Rattle.register.proofs.warnings.is_feature_name.Statement.{statement}
 use Rattle.register.proofs.warnings.is_feature_name.Tie as tie
 
 abbrev Inv-loop : tie.InvT-loop
-Inv-loop s heads h at n k₀ k = anyNameIs (payload s) (take h heads) (bytesAt (payload s) at n) ≡ anyNameIs (payload s) (drop k (take h heads)) (bytesAt (payload s) at n)
+Inv-loop s positions h at n k₀ k = anyNameIs (payload s) (take h positions) (bytesAt (payload s) at n) ≡ anyNameIs (payload s) (drop k (take h positions)) (bytesAt (payload s) at n)
 
 abbrev μ-loop : tie.MeasureT-loop
-μ-loop s heads h at n k₀ k = h - k
+μ-loop s positions h at n k₀ k = h - k
 
 loop-holds : tie.Need-loop-holds Inv-loop μ-loop
 loop-holds c = refl

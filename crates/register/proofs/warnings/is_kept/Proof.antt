@@ -1,6 +1,6 @@
 use borrow.Author.Needs.{needs}
 use native.Mathlib.Omega.{arith}
-use Rattle.register.proofs.Keeping.{none-first, one-first}
+use Rattle.register.proofs.KeptNumbers.{none-first, one-first}
 use Rattle.register.proofs.warnings.is_kept.Statement.{statement}
 use Rattle.register.proofs.warnings.is_kept.Tie as tie
 
@@ -14,7 +14,7 @@ shared-slice-read-result : tie.Need-shared-slice-read-result
 shared-slice-read-result c = search needs
 
 cast-result : tie.Need-cast-result
-cast-result c = omega (arith, c .shared-slice-known .given (c .before .before .args .h))
+cast-result c = omega (arith, c .shared-slice-known .given (c .before .before .args .k))
 
 returns-2 : tie.Need-returns-2
 returns-2 c = one-first _ _ _ _ (c .before .before .pre) (c .before .if1 .left)

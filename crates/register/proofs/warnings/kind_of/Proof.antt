@@ -1,5 +1,5 @@
 use borrow.Author.Needs.{needs}
-use Rattle.register.proofs.Keeping.{kind-alone, kind-again, kind-lost}
+use Rattle.register.proofs.KeptNumbers.{kind-alone, kind-again, kind-lost}
 use Rattle.register.proofs.warnings.kind_of.Statement.{statement}
 use Rattle.register.proofs.warnings.kind_of.Tie as tie
 

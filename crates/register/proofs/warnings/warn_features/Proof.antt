@@ -16,22 +16,22 @@ use Rattle.register.proofs.warnings.warn_features.Statement.{statement}
 use Rattle.register.proofs.warnings.warn_features.Tie as tie
 
 abbrev Inv-loop : tie.InvT-loop
-Inv-loop s kept n heads₀ out₀ warned₀ h₀ q₀ i₀ heads out warned h q i = Told s kept n heads h (sliceOf out₀ warned₀) (sliceOf out warned) q i
+Inv-loop s kept n positions₀ out₀ warned₀ h₀ q₀ i₀ positions out warned h q i = Told s kept n positions h (sliceOf out₀ warned₀) (sliceOf out warned) q i
 
 abbrev μ-loop : tie.MeasureT-loop
-μ-loop s kept n heads₀ out₀ warned₀ h₀ q₀ i₀ heads out warned h q i = room s - q
+μ-loop s kept n positions₀ out₀ warned₀ h₀ q₀ i₀ positions out warned h q i = room s - q
 
 within : (c : tie.Else1 Inv-loop μ-loop) → Within (room (c .before .before .before .before .before .before .before .before .args .s .now)) (c .before .before .before .loop .q) (c .before .before .next-name .result .at) (c .before .before .next-name .result .len + 16) (c .before .before .next-name .result .next)
 within c = c .before .before .next-name .ensures .1 .0 (not-false _ (c .if1 .left))
 
-headed : (c : tie.Else1 Inv-loop μ-loop) → LengthPrefixed (payload (c .before .before .before .before .before .before .before .before .args .s .now)) (c .before .before .next-name .result .at) (c .before .before .next-name .result .len)
-headed c = c .before .before .next-name .ensures .1 .1 .1 (not-false _ (c .if1 .left))
+prefixed : (c : tie.Else1 Inv-loop μ-loop) → LengthPrefixed (payload (c .before .before .before .before .before .before .before .before .args .s .now)) (c .before .before .next-name .result .at) (c .before .before .next-name .result .len)
+prefixed c = c .before .before .next-name .ensures .1 .1 .1 (not-false _ (c .if1 .left))
 
 long : (c : tie.Else1 Inv-loop μ-loop) → c .before .before .before .before .before .before .before .before .args .n ≤ length (c .before .before .before .before .before .before .before .before .args .kept .now)
 long c = controls-fit (c .before .before .before .before .before .before .before .before .pre .1)
 
--- a control point has a place among the heads
-place : (c : tie.After-is-kept Inv-loop μ-loop) → c .is-kept .result ≡ true → c .before .before .before .before .loop .h < 64
+-- the name of a control point has a place among the positions
+place : (c : tie.After-is-kept Inv-loop μ-loop) → c .is-kept .result ≡ true → c .before .before .before .before .loop .controls < 64
 place c h = omega (arith, one-fits (c .before .before .before .before .loop .inv) (c .before .before .before .next-name .result) (c .before .before .before .next-name .ensures .0) (c .before .if1 .left) (within (c .before)) (long (c .before)) (c .is-kept .ensures) h, controls-few (c .before .before .before .before .before .before .before .before .before .pre .1))
 
 loop-holds : tie.Need-loop-holds Inv-loop μ-loop
@@ -52,20 +52,20 @@ returns c = all-told (c .before .before .before .loop .inv) (c .before .before .
 is-kept-requires : tie.Need-is-kept-requires Inv-loop μ-loop
 is-kept-requires c κs = long c
 
-sub-heads : tie.Need-sub-heads Inv-loop μ-loop
-sub-heads c = headed (c .before .before .before) .behind
+sub-positions : tie.Need-sub-positions Inv-loop μ-loop
+sub-positions c = prefixed (c .before .before .before) .behind
 
-cast-heads : tie.Need-cast-heads Inv-loop μ-loop
-cast-heads c = omega (arith, within (c .before .before .before), c .before .before .before .before .before .before .before .before .before .before .before .pre .0 .small)
+cast-positions : tie.Need-cast-positions Inv-loop μ-loop
+cast-positions c = omega (arith, within (c .before .before .before), c .before .before .before .before .before .before .before .before .before .before .before .pre .0 .small)
 
-mul-heads : tie.Need-mul-heads Inv-loop μ-loop
-mul-heads c = omega (arith, place (c .before .before) (c .before .if2 .taken))
+mul-positions : tie.Need-mul-positions Inv-loop μ-loop
+mul-positions c = omega (arith, place (c .before .before) (c .before .if2 .taken))
 
-slice-write-heads : tie.Need-slice-write-heads Inv-loop μ-loop
-slice-write-heads c = omega (arith, place (c .before .before) (c .before .if2 .taken), c .before .before .before .before .before .before .loop .inv .sized)
+slice-write-positions : tie.Need-slice-write-positions Inv-loop μ-loop
+slice-write-positions c = omega (arith, place (c .before .before) (c .before .if2 .taken), c .before .before .before .before .before .before .loop .inv .sized)
 
-add-h : tie.Need-add-h Inv-loop μ-loop
-add-h c = omega (arith, place (c .before .before) (c .before .if2 .taken))
+add-controls : tie.Need-add-controls Inv-loop μ-loop
+add-controls c = omega (arith, place (c .before .before) (c .before .if2 .taken))
 
 cast-push-warning : tie.Need-cast-push-warning Inv-loop μ-loop
 cast-push-warning c = omega (arith, c .before .before .before .before .before .before .loop .inv .short, c .before .before .before .before .before .before .loop .inv .within, c .before .before .before .before .before .before .before .before .before .before .before .pre .0 .small)
@@ -85,7 +85,7 @@ loop-again c =
     let d = c .before .before .before .before .before .loop .inv in
     let r = c .before .before .before .before .next-name in
     ⊎-elim
-    (λ w. one-control d (r .result) (r .ensures .0) (e .if1 .left) (within e) (long e) (c .before .is-kept .ensures) (controls-few (c .before .before .before .before .before .before .before .before .before .before .pre .1)) (headed e) (w .0 .taken) (same-slice (w .3) (w .4)) (w .2) (w .5))
+    (λ w. one-control d (r .result) (r .ensures .0) (e .if1 .left) (within e) (long e) (c .before .is-kept .ensures) (controls-few (c .before .before .before .before .before .before .before .before .before .before .pre .1)) (prefixed e) (w .0 .taken) (same-slice (w .3) (w .4)) (w .2) (w .5))
     (λ w. one-warned d (r .result) (r .ensures .0) (e .if1 .left) (within e) (long e) (c .before .is-kept .ensures) (w .0 .left) (same-slice (w .6) (w .7) ∙ w .2 .ensures) (w .5) (w .8))
     (c .if2 .came)
 
@@ -101,11 +101,11 @@ warn-features-spec =
     same-length-2
     returns
     is-kept-requires
-    sub-heads
-    cast-heads
-    mul-heads
-    slice-write-heads
-    add-h
+    sub-positions
+    cast-positions
+    mul-positions
+    slice-write-positions
+    add-controls
     cast-push-warning
     push-warning-requires
     add-i

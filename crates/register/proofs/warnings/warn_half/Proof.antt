@@ -2,7 +2,7 @@ use borrow.Author.Needs.{needs}
 use borrow.Author.Tests.{not-true, not-false}
 use mathlib.Core.Path.{refl}
 use Rattle.register.specs.Register.{halfWarnings}
-use Rattle.register.proofs.Pushing.{each-none, each-one}
+use Rattle.register.proofs.PushedWarnings.{each-none, each-one}
 use Rattle.register.proofs.warnings.warn_half.Statement.{statement}
 use Rattle.register.proofs.warnings.warn_half.Tie as tie
 

@@ -5,7 +5,7 @@ use mathlib.Core.Logic.{⊎-elim}
 use mathlib.Core.Bool.{true, false}
 use Rattle.register.specs.Register.{ignoredWith}
 use Rattle.values.specs.Laws.Warnings.{sliceOf, same-slice}
-use Rattle.register.proofs.Pushing.{none-written, one-written, each-none, Declaring, ignored-told}
+use Rattle.register.proofs.PushedWarnings.{none-written, one-written, each-none, Declaring, ignored-told}
 use Rattle.register.proofs.warnings.warn_ignored.Statement.{statement}
 use Rattle.register.proofs.warnings.warn_ignored.Tie as tie
 

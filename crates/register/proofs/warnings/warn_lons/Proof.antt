@@ -11,13 +11,13 @@ use Rattle.register.proofs.warnings.warn_lons.Statement.{statement}
 use Rattle.register.proofs.warnings.warn_lons.Tie as tie
 
 abbrev Inv-loop : tie.InvT-loop
-Inv-loop s kept n heads h features out₀ warned₀ runs₀ c₀ k₀ j₀ out warned runs c k j = Telling s kept n (sliceOf out₀ warned₀) (sliceOf out warned) runs c k features j
+Inv-loop s kept n positions h features out₀ warned₀ starts₀ c₀ k₀ j₀ out warned starts c k j = Telling s kept n (sliceOf out₀ warned₀) (sliceOf out warned) starts c k features j
 
 abbrev μ-loop : tie.MeasureT-loop
-μ-loop s kept n heads h features out₀ warned₀ runs₀ c₀ k₀ j₀ out warned runs c k j = room s - c .q
+μ-loop s kept n positions h features out₀ warned₀ starts₀ c₀ k₀ j₀ out warned starts c k j = room s - c .q
 
 loop-holds : tie.Need-loop-holds Inv-loop μ-loop
-loop-holds c = telling _ _ _ _ (c .before .before .before .before .pre .2) (c .before .before .before .before .pre .0 .surveyed .vars) (variables-rising _ (c .before .before .before .before .pre .0 .laid-out)) (c .before .before .before .before .pre .1 .left)
+loop-holds c = telling _ _ _ _ (c .before .before .before .before .pre .2) (c .before .before .before .before .pre .0 .surveyed .variables-at) (variables-rising _ (c .before .before .before .before .pre .0 .laid-out)) (c .before .before .before .before .pre .1 .left)
 
 slice-aggregate-next-mention : tie.Need-slice-aggregate-next-mention Inv-loop μ-loop
 slice-aggregate-next-mention c = sym (c .before .loop .inv .follows .along refl .passed .sized)
@@ -38,7 +38,7 @@ add-k : tie.Need-add-k Inv-loop μ-loop
 add-k c = omega (arith, lon-fits (c .before .before .before .before .before .before .before .before .loop .inv) (c .before .before .before .before .before .before .next-mention .result) (c .before .before .before .before .before .before .next-mention .ensures) (c .before .before .before .if1 .left) (c .before .before .before .before .before .before .before .before .before .before .before .before .before .pre .1 .few) (c .before .is-kept .ensures) (c .if2 .taken), c .before .before .before .before .before .before .before .before .before .before .before .before .before .pre .1 .few)
 
 kind-of-requires : tie.Need-kind-of-requires Inv-loop μ-loop
-kind-of-requires c κs = (c .before .before .before .before .before .before .before .before .before .before .before .before .before .before .pre .1 .heading .stands, omega (arith, c .before .before .before .before .before .before .before .next-mention .ensures .heads (not-false _ (c .before .before .before .before .if1 .left))))
+kind-of-requires c κs = (c .before .before .before .before .before .before .before .before .before .before .before .before .before .before .pre .1 .resolved-names .stands, omega (arith, c .before .before .before .before .before .before .before .next-mention .ensures .mention-fits (not-false _ (c .before .before .before .before .if1 .left))))
 
 cast-push-warning : tie.Need-cast-push-warning Inv-loop μ-loop
 cast-push-warning c = omega (arith, c .before .before .before .before .before .before .before .before .before .next-mention .ensures .index (not-false _ (c .before .before .before .before .before .before .if1 .left)), c .before .before .before .before .before .before .before .before .before .next-mention .ensures .fits (not-false _ (c .before .before .before .before .before .before .if1 .left)), c .before .before .before .before .before .before .before .before .before .next-mention .ensures .follows .short, c .before .before .before .before .before .before .before .before .before .before .before .before .before .before .before .before .pre .0 .small)
@@ -60,7 +60,7 @@ loop-again c =
     let k = c .before .is-kept .ensures in
     ⊎-elim
     (λ w. lon-control d (m .result) (m .ensures) o (c .before .before .before .before .before .before .before .before .before .before .before .before .before .pre .1 .few) k (w .0 .taken) (same-slice (w .1) (w .2)) (w .3))
-    (λ w. lon-warned d (m .result) (m .ensures) o (c .before .before .before .before .before .before .before .before .before .before .before .before .before .pre .1 .few) k (c .before .before .before .before .before .before .before .before .before .before .before .before .before .pre .1 .heading) (w .0 .left) (w .2 .ensures) (same-slice (w .7) (w .8) ∙ w .4 .ensures) (w .9))
+    (λ w. lon-warned d (m .result) (m .ensures) o (c .before .before .before .before .before .before .before .before .before .before .before .before .before .pre .1 .few) k (c .before .before .before .before .before .before .before .before .before .before .before .before .before .pre .1 .resolved-names) (w .0 .left) (w .2 .ensures) (same-slice (w .7) (w .8) ∙ w .4 .ensures) (w .9))
     (c .if2 .came)
 
 pub warn-lons-spec : {M : Type 1} → statement M

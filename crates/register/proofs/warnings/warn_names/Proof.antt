@@ -1,7 +1,7 @@
 use borrow.Author.Needs.{needs}
 use mathlib.Core.Path.{refl}
-use Rattle.register.proofs.Counting.{only-features, none-warned}
-use Rattle.register.proofs.Pushing.{none-written}
+use Rattle.register.proofs.EventCounts.{only-features, none-warned}
+use Rattle.register.proofs.PushedWarnings.{none-written}
 use Rattle.register.proofs.WarningLaws.{features-told, names-told}
 use Rattle.register.proofs.warnings.warn_names.Statement.{statement}
 use Rattle.register.proofs.warnings.warn_names.Tie as tie

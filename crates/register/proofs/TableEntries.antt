@@ -23,7 +23,7 @@ use Rattle.register.specs.declared.mentions.Mention as code-mention
 use Rattle.register.specs.Contracts.Mentions.{Mention, mentionsAt, mentionBy, moreOf, MentionFits, Follows, Asked}
 use Rattle.register.specs.Contracts.Gathered.{named, among, Added, Batch}
 use Rattle.register.proofs.Marks.{same-self}
-use Rattle.register.proofs.Reading.{next-of}
+use Rattle.register.proofs.ReadMentions.{next-of}
 
 -- ---- one mention
 module _ {more : ℕ} {l t : List ℕ} {n : ℕ} {m : Mention} where
@@ -93,8 +93,8 @@ among-snoc x [] m = or-false (named x m (m .lat))
 among-snoc x (a ∷ ms) m = rw (among-snoc x ms m) (sym (or-assoc (named x a (a .lat)) (among x ms) (named x m (m .lat))))
 
 -- ---- the first `count` mentions from c on are in the table
-pub record Fills (s : List ℕ) (lons : Bool) (c at : Cursor) (n count : ℕ) (t runs : List ℕ) : Type 0 where
-  pub follows : Follows s lons at runs
+pub record Fills (s : List ℕ) (lons : Bool) (c at : Cursor) (n count : ℕ) (t starts : List ℕ) : Type 0 where
+  pub follows : Follows s lons at starts
   pub table : Table (moreOf lons) (payload s) t n
   pub unmarked : Unmarked t n
   pub enough : count ≤ length (mentionsAt (payload s) lons c)
@@ -108,7 +108,7 @@ pub record Fills (s : List ℕ) (lons : Bool) (c at : Cursor) (n count : ℕ) (t
 nothing-in : (more : ℕ) (l t x : List ℕ) → Contains more l t 0 x → ⊥
 nothing-in more l t x i = omega (arith, i .within)
 
-pub fills-none : {s : List ℕ} {lons : Bool} {c : Cursor} {t runs : List ℕ} → Follows s lons c runs → Fills s lons c c 0 0 t runs
+pub fills-none : {s : List ℕ} {lons : Bool} {c : Cursor} {t starts : List ℕ} → Follows s lons c starts → Fills s lons c c 0 0 t starts
 unfolding among
 fills-none {s} {lons} {c} {t} f =
     record {
@@ -124,7 +124,7 @@ fills-none {s} {lons} {c} {t} f =
       few = omega arith;
     }
 
-module _ {s : List ℕ} {lons : Bool} {c at : Cursor} {n count : ℕ} {t runs : List ℕ} (h : Fills s lons c at n count t runs) where
+module _ {s : List ℕ} {lons : Bool} {c at : Cursor} {n count : ℕ} {t starts : List ℕ} (h : Fills s lons c at n count t starts) where
   none-or : n ≡ 0 ⊎ (0 < n) → n ≡ 0 ⊎ (c .q < at .q)
   none-or (inl e) = inl e
   none-or (inr p) = inr (omega arith)
@@ -141,10 +141,10 @@ module _ {s : List ℕ} {lons : Bool} {c at : Cursor} {n count : ℕ} {t runs : 
   fits-too (inr p) = inr p
 
   -- the batch ends at a cursor from which on there are the same mentions
-  ends-at : (r : code-filled.FilledBatch) (runs′ : List ℕ) → r .n ≡ n → r .count ≡ count → Follows s lons (r .next) runs′ → at .q ≤ r .next .q
+  ends-at : (r : code-filled.FilledBatch) (starts′ : List ℕ) → r .n ≡ n → r .count ≡ count → Follows s lons (r .next) starts′ → at .q ≤ r .next .q
       → mentionsAt (payload s) lons (r .next) ≡ drop count (mentionsAt (payload s) lons c)
-      → (n < length t → mentionsAt (payload s) lons (r .next) ≡ []) → Batch s lons c r t runs′
-  ends-at r runs′ en ec f o e w =
+      → (n < length t → mentionsAt (payload s) lons (r .next) ≡ []) → Batch s lons c r t starts′
+  ends-at r starts′ en ec f o e w =
       record {
         filling =
             record {
@@ -162,14 +162,14 @@ module _ {s : List ℕ} {lons : Bool} {c at : Cursor} {n count : ℕ} {t runs : 
         fits = rw en (fits-too (h .fits));
       }
 
-  pub fills-full : length t ≤ n → Batch s lons c (record { n = n; count = count; next = at }) t runs
-  fills-full e = ends-at (record { n = n; count = count; next = at }) runs refl refl (h .follows) (omega arith) (h .rest) (λ k. absurd (omega (arith, e, k)))
+  pub fills-full : length t ≤ n → Batch s lons c (record { n = n; count = count; next = at }) t starts
+  fills-full e = ends-at (record { n = n; count = count; next = at }) starts refl refl (h .follows) (omega arith) (h .rest) (λ k. absurd (omega (arith, e, k)))
 
-  module _ (m : code-mention.Mention) (runs′ : List ℕ) (a : Asked s lons at m runs′) where
-    pub fills-ends : m .some ≡ false → Batch s lons c (record { n = n; count = count; next = m .next }) t runs′
+  module _ (m : code-mention.Mention) (starts′ : List ℕ) (a : Asked s lons at m starts′) where
+    pub fills-ends : m .some ≡ false → Batch s lons c (record { n = n; count = count; next = m .next }) t starts′
     fills-ends e =
         let left : mentionsAt (payload s) lons at ≡ [] = rw e at (a .lists) in
-        ends-at (record { n = n; count = count; next = m .next }) runs′ refl refl (a .follows) (a .onward) (a .ends e ∙ sym left ∙ h .rest) (λ k. a .ends e)
+        ends-at (record { n = n; count = count; next = m .next }) starts′ refl refl (a .follows) (a .onward) (a .ends e ∙ sym left ∙ h .rest) (λ k. a .ends e)
 
     module _ (e : m .some ≡ true) where
       left : drop count (mentionsAt (payload s) lons c) ≡ mentionBy (payload s) m ∷ mentionsAt (payload s) lons (m .next)
@@ -178,7 +178,7 @@ module _ {s : List ℕ} {lons : Bool} {c at : Cursor} {n count : ℕ} {t runs : 
       pub fills-few : count < room s
       fills-few = omega (arith, h .onward, a .more e, a .fits e)
 
-      pub fills-more : {t′ : List ℕ} {r : ℕ} → Added (moreOf lons) (payload s) t t′ n r (mentionBy (payload s) m) → Fills s lons c (m .next) r (count + 1) t′ runs′
+      pub fills-more : {t′ : List ℕ} {r : ℕ} → Added (moreOf lons) (payload s) t t′ n r (mentionBy (payload s) m) → Fills s lons c (m .next) r (count + 1) t′ starts′
       fills-more {t′} {r} d =
           record {
             follows = a .follows;

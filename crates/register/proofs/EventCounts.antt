@@ -47,9 +47,9 @@ all-controls (control c ∷ es) h = all-controls es (omega arith)
 all-controls (warn w ∷ es) h = absurd (omega (arith, controls-fit es))
 
 module _ {l : List ℕ} {v : Survey} (s : Surveyed l v) where
-  pub only-features : v .lons ≡ 0 → variableEvents (sceneOf l) 0 (sceneOf l .variables) ≡ []
-  only-features h = none-left _ (omega (arith, s .lons, lon-events (sceneOf l) 0 (sceneOf l .variables), ap lonsIn (scene-lists l .1)))
+  pub only-features : v .«lon_count» ≡ 0 → variableEvents (sceneOf l) 0 (sceneOf l .variables) ≡ []
+  only-features h = none-left _ (omega (arith, s .lon-count, lon-events (sceneOf l) 0 (sceneOf l .variables), ap lonsIn (scene-lists l .1)))
 
-  pub none-warned : {n : ℕ} → n ≡ length (controlsOf (sceneOf l)) → v .names ≡ n → warningsIn (events (sceneOf l)) ≡ []
+  pub none-warned : {n : ℕ} → n ≡ length (controlsOf (sceneOf l)) → v .«name_count» ≡ n → warningsIn (events (sceneOf l)) ≡ []
   unfolding controlsOf
-  none-warned e h = all-controls (events (sceneOf l)) (omega (arith, s .names, all-events (sceneOf l), ap length (scene-lists l .0), ap lonsIn (scene-lists l .1)))
+  none-warned e h = all-controls (events (sceneOf l)) (omega (arith, s .name-count, all-events (sceneOf l), ap length (scene-lists l .0), ap lonsIn (scene-lists l .1)))

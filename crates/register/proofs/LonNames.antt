@@ -16,7 +16,7 @@ use Rattle.scene.specs.Laws.Names.{same-lengths}
 use Rattle.scene.specs.Laws.Rising.{same-eq}
 use Rattle.register.specs.Register.{geo, suffixLon, suffixLat, stem, ending, isLon}
 use Rattle.records.specs.Laws.Names.{name-length}
-use Rattle.register.proofs.RunsNames.{part-split}
+use Rattle.register.proofs.SuffixNames.{part-split}
 
 -- ---- by the bytes of a payload
 module _ (s : List ℕ) (p n : ℕ) (h : p + n ≤ room s) where

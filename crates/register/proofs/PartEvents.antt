@@ -20,11 +20,11 @@ use Rattle.register.specs.Contracts.Mentions.{Mention, featureMentions, 
 use Rattle.register.specs.declared.mentions.Cursor.{Cursor}
 use Rattle.fit.specs.declared.Control.{Control}
 use Rattle.register.specs.Contracts.Survey.{lonsIn}
-use Rattle.register.proofs.Lons.{lon-ends}
+use Rattle.register.proofs.LonNames.{lon-ends}
 use Rattle.register.proofs.Marks.{same-self}
-use Rattle.register.proofs.Reading.{events-length, events-append}
+use Rattle.register.proofs.ReadMentions.{events-length, events-append}
 use Rattle.register.proofs.Known.{mentioned-snoc, grown-features}
-use Rattle.register.proofs.Counting.{feature-events, lon-events}
+use Rattle.register.proofs.EventCounts.{feature-events, lon-events}
 use Rattle.register.specs.Contracts.Gathered.{numbersIn, named, among, noName, amongFeatures, grownAll, partEvents, baseOf, batchEvents, Earlier}
 
 -- ---- names that were before, by equal functions
@@ -218,14 +218,14 @@ none-before : (a : ℕ) → a ≡ 0 + a
 none-before a = omega arith
 
 -- a batch of k more, behind the first a
-pub part-batch : (lons : Bool) (s : List ℕ) (c : Cursor) (runs : List ℕ) (a k : ℕ) → let sc = sceneOf (payload s) in let ms = partMentions lons sc in
-    Follows s lons c runs → mentionsAt (payload s) lons c ≡ drop a ms
+pub part-batch : (lons : Bool) (s : List ℕ) (c : Cursor) (starts : List ℕ) (a k : ℕ) → let sc = sceneOf (payload s) in let ms = partMentions lons sc in
+    Follows s lons c starts → mentionsAt (payload s) lons c ≡ drop a ms
     → soFar lons sc (take (a + k) ms) ≡ soFar lons sc (take a ms) ++ batchEvents (payload s) lons (baseOf lons sc + a) (take k (mentionsAt (payload s) lons c))
-part-batch true s c runs a k f e =
+part-batch true s c starts a k f e =
     let sc = sceneOf (payload s) in
     lons-batch sc a k _ (c .i) (variablesAt (payload s) (c .q)) (lonMentions sc 0 (sc .variables)) (sym e) (f .along refl .passed .rising)
     ∙ ap (λ (x : List Mention). eventsAt sc (take a (lonMentions sc 0 (sc .variables))) ++ eventsOf sc 3 (amongFeatures sc (length (sc .features))) (take k x)) (sym e)
-part-batch false s c runs a k f e =
+part-batch false s c starts a k f e =
     let sc = sceneOf (payload s) in
     features-batch sc a k ∙ ap (λ (x : List Mention). eventsOf sc 2 noName (take a (featureMentions 0 (sc .features))) ++ eventsOf sc 2 (amongFeatures sc a) (take k x)) (sym e)
     ∙ ap (λ (b : ℕ). eventsOf sc 2 noName (take a (featureMentions 0 (sc .features))) ++ eventsOf sc 2 (amongFeatures sc b) (take k (featureMentions (c .i) (featuresAt (payload s) (c .q))))) (none-before a)

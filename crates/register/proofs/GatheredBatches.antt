@@ -29,12 +29,12 @@ use Rattle.values.specs.Maybe.{isSome}
 use Rattle.register.specs.declared.survey.Survey.{Survey}
 use Rattle.register.specs.Contracts.Survey.{lonsIn, Surveyed}
 use Rattle.register.specs.Contracts.Mentions.{Mention, featureMentions, eventsOf, mentionsAt, moreOf, Follows}
-use Rattle.register.specs.Contracts.Gathered.{numbersIn, Holds, Gathers, Filling, Batch, MarksTell, noName, amongFeatures, KnownCleared, BeforeRead, AfterRead, againOf, partEvents, baseOf, beforeOf, batchEvents, Earlier, firstCursor, ControlRoom}
-use Rattle.register.proofs.Declarations.{along}
+use Rattle.register.specs.Contracts.Gathered.{numbersIn, Holds, Gathers, Filling, Batch, MarksTell, noName, amongFeatures, KnownCleared, BeforeRead, AfterRead, againOf, partEvents, baseOf, beforeOf, batchEvents, Earlier, firstCursor, ControlRoom, Appends, GathersBatch, GathersPart}
+use Rattle.register.proofs.VariableTurns.{along}
 use Rattle.register.proofs.Marks.{in-stays}
-use Rattle.register.proofs.Reading.{controls-append, numbers-append}
-use Rattle.register.proofs.Counting.{feature-events}
-use Rattle.register.proofs.Parting.{features-length, lons-length, all-features, among-grown, none-come, partMentions, soFar, so-far-length, part-whole, part-batch, part-earlier}
+use Rattle.register.proofs.ReadMentions.{controls-append, numbers-append}
+use Rattle.register.proofs.EventCounts.{feature-events}
+use Rattle.register.proofs.PartEvents.{features-length, lons-length, all-features, among-grown, none-come, partMentions, soFar, so-far-length, part-whole, part-batch, part-earlier}
 
 -- ---- after the walk over the labels
 module _ {more : ℕ} {l t t′ : List ℕ} {n : ℕ} {spots : List Float} {used p : ℕ} (d : batch.LabelsMatched more l t t′ n spots used p) (w : LabelsFrom l p) where
@@ -145,18 +145,17 @@ module _ (s : List ℕ) (lons : Bool) (c : Cursor) (f : code-filled.FilledBatch)
 
 -- ---- all batches of a part
 -- the first a mentions are done
-pub record Parted (s : List ℕ) (lons : Bool) (g : Tally) (flat₀ : List Float) (kept₀ : List ℕ) (c : Cursor) (runs : List ℕ) (base : ℕ) (all : Tally) (flat : List Float) (kept : List ℕ) : Type 0 where
+pub record Parted (s : List ℕ) (lons : Bool) (g : Tally) (flat₀ : List Float) (kept₀ : List ℕ) (c : Cursor) (starts : List ℕ) (base : ℕ) (all : Tally) (flat : List Float) (kept : List ℕ) : Type 0 where
   pub a : ℕ
   pub based : base ≡ baseOf lons (sceneOf (payload s)) + a
   pub enough : a ≤ length (partMentions lons (sceneOf (payload s)))
   pub rest : mentionsAt (payload s) lons c ≡ drop a (partMentions lons (sceneOf (payload s)))
-  pub follows : Follows s lons c runs
-  pub so-far : (cs : List Control) (js : List ℕ) → Holds true cs js g flat₀ kept₀ → Earlier (sceneOf (payload s)) lons 0 cs
-      → Holds true (cs ++ controlsIn (soFar lons (sceneOf (payload s)) (take a (partMentions lons (sceneOf (payload s))))))
-      (js ++ numbersIn (baseOf lons (sceneOf (payload s))) (soFar lons (sceneOf (payload s)) (take a (partMentions lons (sceneOf (payload s)))))) all flat kept
+  pub follows : Follows s lons c starts
+  pub so-far : Appends (Earlier (sceneOf (payload s)) lons 0) (baseOf lons (sceneOf (payload s)))
+      (soFar lons (sceneOf (payload s)) (take a (partMentions lons (sceneOf (payload s))))) g flat₀ kept₀ all flat kept
 
-module _ {s : List ℕ} {lons : Bool} {g : Tally} {flat₀ : List Float} {kept₀ : List ℕ} {c : Cursor} {runs : List ℕ} {base : ℕ} {all : Tally} {flat : List Float} {kept : List ℕ}
-    (h : Parted s lons g flat₀ kept₀ c runs base all flat kept) where
+module _ {s : List ℕ} {lons : Bool} {g : Tally} {flat₀ : List Float} {kept₀ : List ℕ} {c : Cursor} {starts : List ℕ} {base : ℕ} {all : Tally} {flat : List Float} {kept : List ℕ}
+    (h : Parted s lons g flat₀ kept₀ c starts base all flat kept) where
   abbrev scene : Scene
   scene = sceneOf (payload s)
 
@@ -169,22 +168,19 @@ module _ {s : List ℕ} {lons : Bool} {g : Tally} {flat₀ : List Float} {kept�
 
   -- k more are done
   more-done : (k : ℕ) (all′ : Tally) (flat′ : List Float) (kept′ : List ℕ)
-      → ((cs : List Control) (js : List ℕ) → Holds true cs js all flat kept → Earlier scene lons base cs
-      → Holds true (cs ++ controlsIn (batchEvents (payload s) lons base (take k (mentionsAt (payload s) lons c)))) (js ++ numbersIn base (batchEvents (payload s) lons base (take k (mentionsAt (payload s) lons c)))) all′ flat′ kept′)
-      → (cs : List Control) (js : List ℕ) → Holds true cs js g flat₀ kept₀ → Earlier scene lons 0 cs
-      → Holds true (cs ++ controlsIn (soFar lons scene (take (h .a + k) whole))) (js ++ numbersIn (baseOf lons scene) (soFar lons scene (take (h .a + k) whole))) all′ flat′ kept′
+      → GathersBatch (payload s) lons base (take k (mentionsAt (payload s) lons c)) all flat kept all′ flat′ kept′
+      → Appends (Earlier scene lons 0) (baseOf lons scene) (soFar lons scene (take (h .a + k) whole)) g flat₀ kept₀ all′ flat′ kept′
   more-done k all′ flat′ kept′ f cs js p q =
       let done = soFar lons scene (take (h .a) whole) in
       let new = batchEvents (payload s) lons base (take k (mentionsAt (payload s) lons c)) in
-      let e : soFar lons scene (take (h .a + k) whole) ≡ done ++ new = rw (h .based) (part-batch lons s c runs (h .a) k (h .follows) (h .rest)) in
+      let e : soFar lons scene (take (h .a + k) whole) ≡ done ++ new = rw (h .based) (part-batch lons s c starts (h .a) k (h .follows) (h .rest)) in
       let n : baseOf lons scene + length done ≡ base = omega (arith, h .based, so-far-length lons scene (take (h .a) whole), length-take-le (h .a) whole (h .enough)) in
       let z = f (cs ++ controlsIn done) (js ++ numbersIn (baseOf lons scene) done) (h .so-far cs js p q) (rw (h .based) (part-earlier lons scene (h .a) cs q)) in
       rw (e, controls-append done new, numbers-append (baseOf lons scene) done new, n, ← (append-assoc cs (controlsIn done) (controlsIn new)), ← (append-assoc js (numbersIn (baseOf lons scene) done) (numbersIn base new))) z
 
-  pub part-on : {f : code-filled.FilledBatch} {t : List ℕ} {runs′ : List ℕ} → Batch s lons c f t runs′ → (all′ : Tally) (flat′ : List Float) (kept′ : List ℕ)
-      → ((cs : List Control) (js : List ℕ) → Holds true cs js all flat kept → Earlier scene lons base cs
-      → Holds true (cs ++ controlsIn (batchEvents (payload s) lons base (take (f .count) (mentionsAt (payload s) lons c)))) (js ++ numbersIn base (batchEvents (payload s) lons base (take (f .count) (mentionsAt (payload s) lons c)))) all′ flat′ kept′)
-      → Parted s lons g flat₀ kept₀ (f .next) runs′ (base + f .count) all′ flat′ kept′
+  pub part-on : {f : code-filled.FilledBatch} {t : List ℕ} {starts′ : List ℕ} → Batch s lons c f t starts′ → (all′ : Tally) (flat′ : List Float) (kept′ : List ℕ)
+      → GathersBatch (payload s) lons base (take (f .count) (mentionsAt (payload s) lons c)) all flat kept all′ flat′ kept′
+      → Parted s lons g flat₀ kept₀ (f .next) starts′ (base + f .count) all′ flat′ kept′
   part-on {f} d all′ flat′ kept′ k =
       record {
         a = h .a + f .count;
@@ -196,9 +192,8 @@ module _ {s : List ℕ} {lons : Bool} {g : Tally} {flat₀ : List Float} {kept�
       }
 
   -- no name is left that has a latitude
-  pub part-end : {f : code-filled.FilledBatch} {t : List ℕ} {runs′ : List ℕ} → Batch s lons c f t runs′ → f .n ≡ 0 → 1 ≤ length t
-      → (cs : List Control) (js : List ℕ) → Holds true cs js g flat₀ kept₀ → Earlier scene lons 0 cs
-      → Holds true (cs ++ controlsIn (partEvents lons scene)) (js ++ numbersIn (baseOf lons scene) (partEvents lons scene)) all flat kept
+  pub part-end : {f : code-filled.FilledBatch} {t : List ℕ} {starts′ : List ℕ} → Batch s lons c f t starts′ → f .n ≡ 0 → 1 ≤ length t
+      → GathersPart scene lons g flat₀ kept₀ all flat kept
   part-end {f} {t} d e m cs js p q =
       let y : drop (f .count) (mentionsAt (payload s) lons c) ≡ [] = sym (d .rest) ∙ d .ends (omega arith) in
       let n : length whole ≤ h .a + f .count = omega (arith, h .enough, ap length y, length-drop (f .count) (mentionsAt (payload s) lons c), ap length (h .rest), length-drop (h .a) whole) in
@@ -213,15 +208,15 @@ more-few true e = omega arith
 more-few false e = omega arith
 
 -- ---- what is surveyed
-pub surveyed-features : {l : List ℕ} {v : Survey} → Surveyed l v → v .names - v .lons ≡ length (sceneOf l .features)
-surveyed-features {l} o = rw (scene-lists l .0) (omega (arith, o .names, o .lons))
+pub surveyed-features : {l : List ℕ} {v : Survey} → Surveyed l v → v .«name_count» - v .«lon_count» ≡ length (sceneOf l .features)
+surveyed-features {l} o = rw (scene-lists l .0) (omega (arith, o .name-count, o .lon-count))
 
 module _ {l : List ℕ} {v : Survey} (o : Surveyed l v) where
-  pub part-total : (lons : Bool) → baseOf lons (sceneOf l) + length (partMentions lons (sceneOf l)) ≤ v .names
-  part-total true = omega (arith, ap length (scene-lists l .0), lons-length (sceneOf l), ap lonsIn (scene-lists l .1), o .names)
-  part-total false = omega (arith, ap length (scene-lists l .0), features-length (sceneOf l), o .names)
+  pub part-total : (lons : Bool) → baseOf lons (sceneOf l) + length (partMentions lons (sceneOf l)) ≤ v .«name_count»
+  part-total true = omega (arith, ap length (scene-lists l .0), lons-length (sceneOf l), ap lonsIn (scene-lists l .1), o .name-count)
+  part-total false = omega (arith, ap length (scene-lists l .0), features-length (sceneOf l), o .name-count)
 
-  part-base : (lons : Bool) {base : ℕ} → base ≡ beforeOf lons (v .names - v .lons) 0 → base ≡ baseOf lons (sceneOf l) + 0
+  part-base : (lons : Bool) {base : ℕ} → base ≡ beforeOf lons (v .«name_count» - v .«lon_count») 0 → base ≡ baseOf lons (sceneOf l) + 0
   part-base true e = omega (arith, e, surveyed-features o)
   part-base false e = omega arith
 
@@ -235,20 +230,20 @@ nothing-yet true sc j = (refl, refl)
 nothing-yet false sc j = (refl, refl)
 
 pub part-start : (s : List ℕ) (lons : Bool) {v : Survey} {g : Tally} {flat : List Float} {kept : List ℕ} {c : Cursor} {base : ℕ} → Surveyed (payload s) v → laidOut (payload s) ≡ true
-    → c ≡ firstCursor lons (v .vars) → base ≡ beforeOf lons (v .names - v .lons) 0 → Parted s lons g flat kept c (replicate 32 0) base g flat kept
+    → c ≡ firstCursor lons (v .«variables_at») → base ≡ beforeOf lons (v .«name_count» - v .«lon_count») 0 → Parted s lons g flat kept c (replicate 32 0) base g flat kept
 part-start s lons {v} o r e b =
     record {
       a = 0;
       based = part-base o lons b;
       enough = omega arith;
-      rest = rw e (first-mentions (payload s) lons (v .vars) (o .vars));
-      follows = rw e (starts lons);
+      rest = rw e (first-mentions (payload s) lons (v .«variables_at») (o .variables-at));
+      follows = rw e (begins lons);
       so-far = λ cs js h q. let z = nothing-yet lons (sceneOf (payload s)) (baseOf lons (sceneOf (payload s))) in rw (z .0, z .1, append-nil, append-nil) h;
     }
   where
-    starts : (lons : Bool) → Follows s lons (firstCursor lons (v .vars)) (replicate 32 0)
-    starts true = record { short = omega arith; along = λ _. along s (o .vars) (variables-rising (payload s) r) }
-    starts false = record { short = omega arith; along = λ z. absurd (false≢true z) }
+    begins : (lons : Bool) → Follows s lons (firstCursor lons (v .«variables_at»)) (replicate 32 0)
+    begins true = record { short = omega arith; along = λ _. along s (o .variables-at) (variables-rising (payload s) r) }
+    begins false = record { short = omega arith; along = λ z. absurd (false≢true z) }
 
 -- ---- both parts
 pub both-parts : (sc : Scene) {g : Tally} {flat : List Float} {kept : List ℕ}

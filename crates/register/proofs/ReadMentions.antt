@@ -27,9 +27,9 @@ use Rattle.register.specs.declared.mentions.Mention as code-mention
 use Rattle.register.specs.Register.{Event, control, warn, resolved, eventOf, controlsIn}
 use Rattle.values.specs.Warnings.{Warning}
 use Rattle.register.specs.Contracts.Mentions.{Mention, eventWith, grownBy, eventsOf, mentionsAt, moreOf, mentionBy, Follows, Asked}
-use Rattle.register.specs.Contracts.Gathered.{numbersIn, Holds, among, named, Taken, MarksTell, BeforeRead, againOf, grownAll, AfterRead, pointIn, Readable}
+use Rattle.register.specs.Contracts.Gathered.{numbersIn, Holds, among, named, Taken, MarksTell, BeforeRead, againOf, grownAll, AfterRead, pointIn, Readable, Reads}
 use Rattle.register.proofs.Marks.{same-self, fewer-trans, in-stays, waits-by, taken-fewer, taken-waits}
-use Rattle.register.proofs.Holding.{holds-as}
+use Rattle.register.proofs.TallyLaws.{holds-as}
 
 -- ---- of lists of events, one behind the other
 pub controls-append : (es fs : List Event) → controlsIn (es ++ fs) ≡ controlsIn es ++ controlsIn fs
@@ -296,10 +296,10 @@ module _ {A : Type 0} where
   none-left (x ∷ xs) (suc i) (suc count) e h = ap (λ (r : List A). x ∷ r) (none-left xs i count e (omega arith))
 
 -- ---- the loop: the first k of `count` mentions from c on are read, and the others stand at `at`
-pub record Going (s : List ℕ) (lons : Bool) (t₀ : List ℕ) (n : ℕ) (spots : List Float) (runs₀ : List ℕ) (count base : ℕ) (flat₀ : List Float) (kept₀ : List ℕ) (g : Tally) (c : Cursor) (t runs : List ℕ) (flat : List Float) (kept : List ℕ) (all : Tally) (at : Cursor) (k : ℕ) : Type 0 where
+pub record Going (s : List ℕ) (lons : Bool) (t₀ : List ℕ) (n : ℕ) (spots : List Float) (starts₀ : List ℕ) (count base : ℕ) (flat₀ : List Float) (kept₀ : List ℕ) (g : Tally) (c : Cursor) (t starts : List ℕ) (flat : List Float) (kept : List ℕ) (all : Tally) (at : Cursor) (k : ℕ) : Type 0 where
   pub within : k ≤ count
   pub fits : base + count < 4294967296
-  pub follows : Follows s lons at runs
+  pub follows : Follows s lons at starts
   pub table : Table (moreOf lons) (payload s) t n
   pub spots-room : length spots ≡ 128
   pub flat-room : length flat ≡ 256
@@ -307,14 +307,14 @@ pub record Going (s : List ℕ) (lons : Bool) (t₀ : List ℕ) (n : ℕ) (spots
   pub flat-kept : length flat ≡ length flat₀
   pub kept-kept : length kept ≡ length kept₀
   pub t-kept : length t ≡ length t₀
-  pub runs-kept : length runs ≡ length runs₀
+  pub starts-kept : length starts ≡ length starts₀
   pub rest : drop k (mentionsAt (payload s) lons c) ≡ mentionsAt (payload s) lons at
   pub so-far : (h : BeforeRead (payload s) lons (take count (mentionsAt (payload s) lons c)) t₀ n spots g flat₀ kept₀)
       → AfterRead (payload s) lons (take k (mentionsAt (payload s) lons c)) t₀ t n spots base (h .was) (h .b) (h .cs) (h .js) all flat kept
 
-pub go-begin : {s : List ℕ} {lons : Bool} {t : List ℕ} {n : ℕ} {spots : List Float} {runs : List ℕ} (count base : ℕ) {flat : List Float} {kept : List ℕ} {g : Tally} {c : Cursor}
-    → (base + count < 4294967296) × Readable s lons t n spots flat kept × Follows s lons c runs
-    → Going s lons t n spots runs count base flat kept g c t runs flat kept g c 0
+pub go-begin : {s : List ℕ} {lons : Bool} {t : List ℕ} {n : ℕ} {spots : List Float} {starts : List ℕ} (count base : ℕ) {flat : List Float} {kept : List ℕ} {g : Tally} {c : Cursor}
+    → (base + count < 4294967296) × Readable s lons t n spots flat kept × Follows s lons c starts
+    → Going s lons t n spots starts count base flat kept g c t starts flat kept g c 0
 go-begin count base p =
     record {
       within = omega arith;
@@ -327,34 +327,31 @@ go-begin count base p =
       flat-kept = refl;
       kept-kept = refl;
       t-kept = refl;
-      runs-kept = refl;
+      starts-kept = refl;
       rest = refl;
       so-far = λ h. read-nothing base h;
     }
 
-module _ {s : List ℕ} {lons : Bool} {t₀ : List ℕ} {n : ℕ} {spots : List Float} {runs₀ : List ℕ} {count base : ℕ} {flat₀ : List Float} {kept₀ : List ℕ} {g : Tally} {c : Cursor} {t runs : List ℕ} {flat : List Float} {kept : List ℕ} {all : Tally} {at : Cursor} {k : ℕ}
-    (d : Going s lons t₀ n spots runs₀ count base flat₀ kept₀ g c t runs flat kept all at k) where
-  pub go-end : count ≤ k → (h : BeforeRead (payload s) lons (take count (mentionsAt (payload s) lons c)) t₀ n spots g flat₀ kept₀)
-      → AfterRead (payload s) lons (take count (mentionsAt (payload s) lons c)) t₀ t n spots base (h .was) (h .b) (h .cs) (h .js) all flat kept
+module _ {s : List ℕ} {lons : Bool} {t₀ : List ℕ} {n : ℕ} {spots : List Float} {starts₀ : List ℕ} {count base : ℕ} {flat₀ : List Float} {kept₀ : List ℕ} {g : Tally} {c : Cursor} {t starts : List ℕ} {flat : List Float} {kept : List ℕ} {all : Tally} {at : Cursor} {k : ℕ}
+    (d : Going s lons t₀ n spots starts₀ count base flat₀ kept₀ g c t starts flat kept all at k) where
+  pub go-end : count ≤ k → Reads (payload s) lons (take count (mentionsAt (payload s) lons c)) n spots base t₀ g flat₀ kept₀ t all flat kept
   go-end e h =
       let f : k ≡ count = omega (arith, d .within) in
       rw f at (d .so-far h)
 
-  module _ (m : code-mention.Mention) {runs′ : List ℕ} (a : Asked s lons at m runs′) where
+  module _ (m : code-mention.Mention) {starts′ : List ℕ} (a : Asked s lons at m starts′) where
     -- no mention is left
-    pub go-none : not (m .some) ≡ true → (h : BeforeRead (payload s) lons (take count (mentionsAt (payload s) lons c)) t₀ n spots g flat₀ kept₀)
-        → AfterRead (payload s) lons (take count (mentionsAt (payload s) lons c)) t₀ t n spots base (h .was) (h .b) (h .cs) (h .js) all flat kept
+    pub go-none : not (m .some) ≡ true → Reads (payload s) lons (take count (mentionsAt (payload s) lons c)) n spots base t₀ g flat₀ kept₀ t all flat kept
     go-none e h =
         let f : drop k (mentionsAt (payload s) lons c) ≡ [] = d .rest ∙ a .lists ∙ rw (not-true (m .some) e) refl in
         rw (none-left (mentionsAt (payload s) lons c) k count f (d .within)) at (d .so-far h)
 
     -- one more
     pub go-on : not (m .some) ≡ false → k < count → {t′ : List ℕ} {flat′ : List Float} {kept′ : List ℕ} {all′ : Tally}
-        → ((h : BeforeRead (payload s) lons (mentionBy (payload s) m ∷ []) t n spots all flat kept)
-        → AfterRead (payload s) lons (mentionBy (payload s) m ∷ []) t t′ n spots (base + k) (h .was) (h .b) (h .cs) (h .js) all′ flat′ kept′)
+        → Reads (payload s) lons (mentionBy (payload s) m ∷ []) n spots (base + k) t all flat kept t′ all′ flat′ kept′
         → Table (moreOf lons) (payload s) t′ n
-        → length t′ ≡ length t → length runs′ ≡ length runs → length flat′ ≡ length flat → length kept′ ≡ length kept
-        → Going s lons t₀ n spots runs₀ count base flat₀ kept₀ g c t′ runs′ flat′ kept′ all′ (m .next) (k + 1)
+        → length t′ ≡ length t → length starts′ ≡ length starts → length flat′ ≡ length flat → length kept′ ≡ length kept
+        → Going s lons t₀ n spots starts₀ count base flat₀ kept₀ g c t′ starts′ flat′ kept′ all′ (m .next) (k + 1)
     go-on e less {t′} {flat′} {kept′} {all′} f tab lt lr lf lk =
         let l = payload s in
         let ms = mentionsAt l lons c in
@@ -371,7 +368,7 @@ module _ {s : List ℕ} {lons : Bool} {t₀ : List ℕ} {n : ℕ} {spots : List 
           flat-kept = lf ∙ d .flat-kept;
           kept-kept = lk ∙ d .kept-kept;
           t-kept = lt ∙ d .t-kept;
-          runs-kept = lr ∙ d .runs-kept;
+          starts-kept = lr ∙ d .starts-kept;
           rest = rw (add-one k) (o .1);
           so-far = λ h. rw (add-one k, o .0) (read-on h (λ x z. among-taken (mentionBy l m) (mentionsAt l lons (m .next)) x ms k count q less z) (d .so-far h) (rw (o .2) f));
         }

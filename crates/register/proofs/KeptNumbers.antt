@@ -1,4 +1,4 @@
--- Which events are control points, by the numbers that are kept; and which names the heads of host features stand for.
+-- Which events are control points, by the numbers that are kept; and which names the positions of host features stand for.
 use mathlib.Core.Path.{_≡_, refl, sym, ap, _∙_}
 use mathlib.Core.Logic.{_≢_}
 use mathlib.Core.Bool.{Bool, true, false, not, _&&_, _||_, or-false, or-assoc, false≢true}
@@ -90,21 +90,21 @@ unfolding anyNameIs
 called-more l [] p x = or-false (sameBytes (bytesAt l (p + 1) (getD l p 0)) x)
 called-more l (q ∷ ps) p x = rw (called-more l ps p x) (sym (or-assoc (sameBytes (bytesAt l (q + 1) (getD l q 0)) x) (anyNameIs l ps x) (sameBytes (bytesAt l (p + 1) (getD l p 0)) x)))
 
--- the heads one after another, from the k-th on
-module _ (l heads x : List ℕ) (h k : ℕ) (few : h ≤ length heads) (so : anyNameIs l (take h heads) x ≡ anyNameIs l (drop k (take h heads)) x) where
-  pub none-called : h ≤ k → false ≡ anyNameIs l (take h heads) x
+-- the positions one after another, from the k-th on
+module _ (l positions x : List ℕ) (h k : ℕ) (few : h ≤ length positions) (so : anyNameIs l (take h positions) x ≡ anyNameIs l (drop k (take h positions)) x) where
+  pub none-called : h ≤ k → false ≡ anyNameIs l (take h positions) x
   unfolding anyNameIs
-  none-called g = sym (so ∙ rw (drop-of-length-le (take h heads) {i = k} (omega (arith, length-take-le h heads few))) refl)
+  none-called g = sym (so ∙ rw (drop-of-length-le (take h positions) {i = k} (omega (arith, length-take-le h positions few))) refl)
 
-  module _ (g : k < h) {b : Bool} (is : b ≡ sameBytes (bytesAt l (getD heads k 0 + 1) (getD l (getD heads k 0) 0)) x) where
-    next : anyNameIs l (take h heads) x ≡ (b || anyNameIs l (drop (k + 1) (take h heads)) x)
+  module _ (g : k < h) {b : Bool} (is : b ≡ sameBytes (bytesAt l (getD positions k 0 + 1) (getD l (getD positions k 0) 0)) x) where
+    next : anyNameIs l (take h positions) x ≡ (b || anyNameIs l (drop (k + 1) (take h positions)) x)
     unfolding anyNameIs
-    next = so ∙ rw (drop-cons (take h heads) k 0 (omega (arith, length-take-le h heads few)), getD-take h heads k 0 g, ← is, add-one) refl
+    next = so ∙ rw (drop-cons (take h positions) k 0 (omega (arith, length-take-le h positions few)), getD-take h positions k 0 g, ← is, add-one) refl
 
-    pub one-called : b ≡ true → true ≡ anyNameIs l (take h heads) x
+    pub one-called : b ≡ true → true ≡ anyNameIs l (take h positions) x
     one-called e = sym (next ∙ rw e refl)
 
-    pub other-called : b ≡ false → anyNameIs l (take h heads) x ≡ anyNameIs l (drop (k + 1) (take h heads)) x
+    pub other-called : b ≡ false → anyNameIs l (take h positions) x ≡ anyNameIs l (drop (k + 1) (take h positions)) x
     other-called e = next ∙ rw e refl
 
 -- ---- a host feature is a control point if its name resolves and none before has it
@@ -129,7 +129,7 @@ feature-warns sc i f h = by (resolved sc (f .name)) (mentioned (f .name) (take i
     by (some p) false e = absurd (false≢true (sym e))
 
 -- one more host feature f, the i-th
-module _ {s heads : List ℕ} {h : ℕ} (i : ℕ) (f : NamedFeature) (fs : List NamedFeature) (g : drop i (sceneOf (payload s) .features) ≡ f ∷ fs) (d : ResolvedNames s heads h (take i (sceneOf (payload s) .features))) where
+module _ {s positions : List ℕ} {h : ℕ} (i : ℕ) (f : NamedFeature) (fs : List NamedFeature) (g : drop i (sceneOf (payload s) .features) ≡ f ∷ fs) (d : ResolvedNames s positions h (take i (sceneOf (payload s) .features))) where
   abbrev before : List NamedFeature
   before = take i (sceneOf (payload s) .features)
 
@@ -139,8 +139,8 @@ module _ {s heads : List ℕ} {h : ℕ} (i : ℕ) (f : NamedFeature) (fs : List 
   same-control : (x : List ℕ) → sameBytes (f .name) x ≡ true → {b : Bool} → isControl (featureEvent (sceneOf (payload s)) i f) ≡ b → (isSome (resolved (sceneOf (payload s)) x) && not (mentioned x before)) ≡ b
   same-control x e c = rw (← same-eq (f .name) x e) (sym (feature-control (sceneOf (payload s)) i f) ∙ c)
 
-  pub heading-same : isControl (featureEvent (sceneOf (payload s)) i f) ≡ false → ResolvedNames s heads h (take (suc i) (sceneOf (payload s) .features))
-  heading-same c = record { stands = d .stands; names = λ x. d .names x ∙ rw (here x) (by (isSome (resolved (sceneOf (payload s)) x)) (mentioned x before) (sameBytes (f .name) x) (λ e. same-control x e c)) }
+  pub names-same : isControl (featureEvent (sceneOf (payload s)) i f) ≡ false → ResolvedNames s positions h (take (suc i) (sceneOf (payload s) .features))
+  names-same c = record { stands = d .stands; names = λ x. d .names x ∙ rw (here x) (by (isSome (resolved (sceneOf (payload s)) x)) (mentioned x before) (sameBytes (f .name) x) (λ e. same-control x e c)) }
     where
       by : (p m t : Bool) → (t ≡ true → (p && not m) ≡ false) → (p && m) ≡ (p && (m || t))
       by false m t k = refl
@@ -148,12 +148,12 @@ module _ {s heads : List ℕ} {h : ℕ} (i : ℕ) (f : NamedFeature) (fs : List 
       by true false true k = absurd (false≢true (sym (k refl)))
       by true false false k = refl
 
-  pub heading-more : {at len : ℕ} → f .name ≡ bytesAt (payload s) at len → LengthPrefixed (payload s) at len → at + len ≤ room s → h < length heads → isControl (featureEvent (sceneOf (payload s)) i f) ≡ true
-      → ResolvedNames s (set heads h (at - 1)) (h + 1) (take (suc i) (sceneOf (payload s) .features))
-  heading-more {at} {len} n a w k c =
+  pub names-more : {at len : ℕ} → f .name ≡ bytesAt (payload s) at len → LengthPrefixed (payload s) at len → at + len ≤ room s → h < length positions → isControl (featureEvent (sceneOf (payload s)) i f) ≡ true
+      → ResolvedNames s (set positions h (at - 1)) (h + 1) (take (suc i) (sceneOf (payload s) .features))
+  names-more {at} {len} n a w k c =
       record {
-        stands = record { few = omega (arith, length-set heads h (at - 1)); within = λ j g. in-range j g (eqb j h) refl };
-        names = λ x. rw (add-one, take-suc-set heads h (at - 1) k, called-more (payload s) (take h heads) (at - 1) x, back, a .prefix, ← n, d .names x, here x) (by (isSome (resolved (sceneOf (payload s)) x)) (mentioned x before) (sameBytes (f .name) x) (λ e. resolves x e));
+        stands = record { few = omega (arith, length-set positions h (at - 1)); within = λ j g. in-range j g (eqb j h) refl };
+        names = λ x. rw (add-one, take-suc-set positions h (at - 1) k, called-more (payload s) (take h positions) (at - 1) x, back, a .prefix, ← n, d .names x, here x) (by (isSome (resolved (sceneOf (payload s)) x)) (mentioned x before) (sameBytes (f .name) x) (λ e. resolves x e));
       }
     where
       back : at - 1 + 1 ≡ at
@@ -162,11 +162,11 @@ module _ {s heads : List ℕ} {h : ℕ} (i : ℕ) (f : NamedFeature) (fs : List 
       resolves : (x : List ℕ) → sameBytes (f .name) x ≡ true → isSome (resolved (sceneOf (payload s)) x) ≡ true
       resolves x e = and-left (isSome (resolved (sceneOf (payload s)) x)) (not (mentioned x before)) (same-control x e c)
 
-      in-range : (j : ℕ) → j < h + 1 → (b : Bool) → eqb j h ≡ b → getD (set heads h (at - 1)) j 0 + 1 + getD (payload s) (getD (set heads h (at - 1)) j 0) 0 ≤ room s
-      in-range j g true e = rw (eqb-true j h e, getD-set-same heads h (at - 1) 0 k) (omega (arith, a .prefix, back))
+      in-range : (j : ℕ) → j < h + 1 → (b : Bool) → eqb j h ≡ b → getD (set positions h (at - 1)) j 0 + 1 + getD (payload s) (getD (set positions h (at - 1)) j 0) 0 ≤ room s
+      in-range j g true e = rw (eqb-true j h e, getD-set-same positions h (at - 1) 0 k) (omega (arith, a .prefix, back))
       in-range j g false e =
           let o : j ≢ h = eqb-false j h e in
-          rw (getD-set-other heads h j (at - 1) 0 o) (d .stands .within j (omega (arith, o)))
+          rw (getD-set-other positions h j (at - 1) 0 o) (d .stands .within j (omega (arith, o)))
 
       by : (p m t : Bool) → (t ≡ true → p ≡ true) → ((p && m) || t) ≡ (p && (m || t))
       by true m t k = refl

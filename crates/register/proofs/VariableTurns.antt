@@ -17,31 +17,31 @@ use Rattle.scene.specs.Laws.Rising.{Rising}
 use Rattle.register.specs.Register.{suffixLon, suffixLat, stem, var, isLon}
 use Rattle.register.specs.Contracts.LatLookup.{commonPrefix, prefixStarts, Passed, Along}
 use Rattle.records.specs.Laws.Names.{name-length}
-use Rattle.register.proofs.Lons.{stem-at, ending-at, lon-ends, lon-long, lon-near}
+use Rattle.register.proofs.LonNames.{stem-at, ending-at, lon-ends, lon-long, lon-near}
 use Rattle.register.proofs.Lookup.{none-passed, one-passed}
 
 pub along : (s : List ℕ) {q : ℕ} → VariablesFrom (payload s) q → Rising [] (variablesAt (payload s) 0) → Along s (replicate 32 0) 0 0 q
 unfolding bytesAt
 along s {q} e r = record { passed = none-passed (variablesAt (payload s)) q (e .all) r; within = omega arith; short = omega arith }
 
--- the next variable is v, the runs become `to`, and t is whether it is `<L>_lon`
-pub record Turn (s runs : List ℕ) (at len q : ℕ) (v : Variable) (to : List ℕ) (t : Bool) : Type 0 where
-  pub before : Along s runs at len q
+-- the next variable is v, the prefix starts become `to`, and t is whether it is `<L>_lon`
+pub record Turn (s starts : List ℕ) (at len q : ℕ) (v : Variable) (to : List ℕ) (t : Bool) : Type 0 where
+  pub before : Along s starts at len q
   pub lists : variablesAt (payload s) q ≡ variablesBy (payload s) v
   pub found : not (v .some) ≡ false
   pub within : Within (room s) q (v .at) (v .len) (v .next)
-  pub headed : LengthPrefixed (payload s) (v .at) (v .len)
+  pub prefixed : LengthPrefixed (payload s) (v .at) (v .len)
   pub common : ℕ
   pub alike : common ≡ commonPrefix (bytesAt (payload s) at len) (bytesAt (payload s) (v .at) (v .len))
   pub low : common ≤ len
-  pub next : to ≡ prefixStarts runs common q
+  pub next : to ≡ prefixStarts starts common q
   pub lon : t ≡ isLon (bytesAt (payload s) (v .at) (v .len))
 
 -- the variable of an answer
 abbrev pub hereOf : List ℕ → Variable → NamedValue
 hereOf s v = record { name = bytesAt (payload s) (v .at) (v .len); value = v .value }
 
-module _ {s runs : List ℕ} {at len q : ℕ} {v : Variable} {to : List ℕ} {t : Bool} (p : Turn s runs at len q v to t) where
+module _ {s starts : List ℕ} {at len q : ℕ} {v : Variable} {to : List ℕ} {t : Bool} (p : Turn s starts at len q v to t) where
   abbrev name : List ℕ
   name = bytesAt (payload s) (v .at) (v .len)
 
@@ -52,7 +52,7 @@ module _ {s runs : List ℕ} {at len q : ℕ} {v : Variable} {to : List ℕ} {t 
   passes = rw (p .next) (one-passed (variablesAt (payload s)) (p .before .passed) (hereOf s v) (v .next) is-here (p .alike) (omega (arith, p .low, p .before .short)))
 
   pub turned : Along s to (v .at) (v .len) (v .next)
-  turned = record { passed = passes; within = p .within .name; short = p .headed .short }
+  turned = record { passed = passes; within = p .within .name; short = p .prefixed .short }
 
   pub is-other : t ≡ false → isLon name ≡ false
   is-other h = sym (p .lon) ∙ h
@@ -74,12 +74,12 @@ module _ {s runs : List ℕ} {at len q : ℕ} {v : Variable} {to : List ℕ} {t 
     pub suffix : bytesAt (payload s) (v .at + (v .len - 4)) 4 ≡ suffixLon
     suffix = sym (ending-at s (v .at) (v .len) (p .within .name) long refl) ∙ lon-ends name is-lon
 
-    pub run : Rising [] (variablesAt (payload s) (getD to (v .len - 2) 0))
-    run = passes .runs-rise (v .len - 2) (omega (arith, p .headed .short))
+    pub start-rises : Rising [] (variablesAt (payload s) (getD to (v .len - 2) 0))
+    start-rises = passes .starts-rise (v .len - 2) (omega (arith, p .prefixed .short))
 
     -- and that it is one of all variables
-    pub same-run : variableOf (stem name ++ suffixLat) (variablesAt (payload s) (getD to (v .len - 2) 0)) ≡ var (sceneOf (payload s)) (stem name ++ suffixLat)
+    pub start-finds : variableOf (stem name ++ suffixLat) (variablesAt (payload s) (getD to (v .len - 2) 0)) ≡ var (sceneOf (payload s)) (stem name ++ suffixLat)
     unfolding sceneOf
-    same-run =
+    start-finds =
         let y : v .len - 2 ≡ length name - 2 = omega (arith, length-is) in
-        sym (passes .near (v .len - 2) _ (omega (arith, p .headed .short)) (omega (arith, length-is)) (rw y (lon-near name is-lon)))
+        sym (passes .near (v .len - 2) _ (omega (arith, p .prefixed .short)) (omega (arith, length-is)) (rw y (lon-near name is-lon)))
