@@ -11,7 +11,7 @@ sub-insert : tie.Need-sub-insert
 sub-insert c = search needs
 
 insert-requires : tie.Need-insert-requires
-insert-requires c κs = insertable _ _ _ (c .before .before .before .before .before .before .before .pre .3) (c .before .before .before .before .before .before .before .pre .0) (c .before .before .before .before .before .before .before .pre .1) (c .before .before .before .before .before .before .before .pre .2)
+insert-requires c κs = let o = c .before .before .before .before .before .before .before .pre in (insertable _ _ _ (o .3) (o .0), o .1, o .2)
 
 same-length : tie.Need-same-length
 same-length c = search needs
