@@ -11,7 +11,7 @@ use lib.Seq.{getD-set-same, getD-set-other}
 use Rattle.records.specs.Layout.{before}
 use Rattle.records.specs.Records.{bytesAt}
 use Rattle.scene.specs.Laws.Rising.{before-trans}
-use Rattle.names.specs.Contracts.Table.{nameAt, nameOf, keyOf, NameFits, Table, Contains, Gap, Searched, ShiftedUp, Inserted}
+use Rattle.names.specs.Contracts.Table.{nameAt, nameOf, keyOf, NameFits, NewName, Table, Contains, Gap, Searched, ShiftedUp, Inserted}
 
 -- ---- x belongs from lo to hi
 pub record Between (more : ℕ) (l t : List ℕ) (n : ℕ) (x : List ℕ) (lo hi : ℕ) : Type 0 where
@@ -158,16 +158,16 @@ module _ (t₀ t₁ : List ℕ) (n k p : ℕ) (o : ShiftedUp t₀ t₁ k n) (wit
           ]
 
 -- ---- what `insert` promises
-module _ (more : ℕ) (l t₀ : List ℕ) (n p m : ℕ) (small : p < 33554432) (st : NameFits more l p) (len : m + more ≡ getD l p 0) (free : n < length t₀) (tab : Table more l t₀ n) where
+module _ (more : ℕ) (l t₀ : List ℕ) (n p m : ℕ) (new : NewName more l p m) (free : n < length t₀) (tab : Table more l t₀ n) where
   abbrev name : List ℕ
   name = bytesAt l (p + 1) m
 
   itself : p % 33554432 ≡ p
-  itself = omega arith
+  itself = omega (arith, new .low)
 
   called : name ≡ nameOf more l p
   unfolding nameAt
-  called = let e : getD l p 0 - more ≡ m = omega arith in rw (itself, e) refl
+  called = let e : getD l p 0 - more ≡ m = omega (arith, new .counted) in rw (itself, e) refl
 
   pub insert-hit : (k : ℕ) → k < n → nameOf more l (getD t₀ k 0) ≡ name → Inserted more l t₀ t₀ n n name
   insert-hit k h e =
@@ -188,10 +188,10 @@ module _ (more : ℕ) (l t₀ : List ℕ) (n p m : ℕ) (small : p < 33554432) (
         count = (omega arith, omega arith);
         table = record {
           fits = omega (arith, put-size t₀ t₁ n k p o w free);
-          stands = put-each t₀ t₁ n k p o w free (λ (e : ℕ). NameFits more l (e % 33554432)) (rw itself st) (tab .stands);
+          stands = put-each t₀ t₁ n k p o w free (λ (e : ℕ). NameFits more l (e % 33554432)) (rw itself (new .stands)) (tab .stands);
           rises = put-rises t₀ t₁ n k p o w free more l tab g;
         };
-        unmarked = λ b. put-each t₀ t₁ n k p o w free (λ (e : ℕ). e < 33554432) small b;
+        unmarked = λ b. put-each t₀ t₁ n k p o w free (λ (e : ℕ). e < 33554432) (new .low) b;
         new = record { at = k; within = omega arith; is = rw (put-at t₀ t₁ n k p o w free) (sym called) };
         old = λ y i. put-old t₀ t₁ n k p o w free more l (i .at) (i .within) y (i .is);
         only = λ y i. put-each t₀ t₁ n k p o w free (λ (e : ℕ). nameOf more l e ≡ y → Contains more l t₀ n y ⊎ (y ≡ name))

@@ -112,7 +112,7 @@ pub new-order : {keys : List ℕ} {spots : List Float} {m : ℕ} {old : code-bes
     → BestIs keys spots m old → Steps g → bestBy b ≡ g (bestBy old) → b .some ≡ true → b .key .order < 4294967296
 new-order b {g} had st e h = rw h at (subst Fits (sym e) (st .fits _ (had-fits had)))
 
--- ---- the sameBytes of equal functions
+-- ---- equal functions
 pub kept-same : {n : ℕ} {z : Slots} {bs bs′ : ℕ → Maybe Best} → SlotsHold n z bs → ((i : ℕ) → i < n → bs′ i ≡ bs i) → SlotsHold n z bs′
 kept-same q f =
     record {

@@ -135,7 +135,7 @@ module _ (t keys : List ℕ) (spots : List Float) (used k : ℕ) (b : code-best.
       names-stay : (i : ℕ) → getD (set t k v) i 0 % 33554432 ≡ getD t i 0 % 33554432
       names-stay i = ⊎-elim (λ (g : i ≡ k). rw (g, at) stem) (λ g. ap (λ (x : ℕ). x % 33554432) (other i g)) (same-or i k)
 
-      -- of an entry's new value, by whether it is entry k
+      -- an entry's new value, by whether it is entry k
       each : (P : ℕ → ℕ → Type 0) (i : ℕ) → (i ≡ k → P k v) → ((i ≡ k → ⊥) → P i (getD t i 0)) → P i (getD (set t k v) i 0)
       each P i f g = ⊎-elim (λ (e : i ≡ k). rw (e, at) (f e)) (λ e. rw (other i e) (g e)) (same-or i k)
 

@@ -16,16 +16,25 @@ use Rattle.scene.specs.Contracts.Answers.{placesAt, itemsAt}
 use Rattle.scene.specs.Laws.Found.{Answer, One}
 use Rattle.scene.specs.Laws.Folds.{Chosen, no-place, next-place, no-item, next-item}
 use Rattle.names.specs.Contracts.Table.{nameAt, nameOf, markOf, Table, Unmarked}
-use Rattle.names.specs.Contracts.Batch.{slotPoint, Slots, slotsOf, slotAt, SlotsHold, SameNames, Matched, placeStep, placesStep, itemStep, itemsStep, LabelsMatched}
+use Rattle.names.specs.Contracts.Batch.{slotPoint, Slots, Batch, slotsOf, slotAt, SlotsHold, SameNames, Matched, placeStep, placesStep, itemStep, itemsStep, LabelsMatched}
 use Rattle.names.proofs.Meeting.{kept-same, met-none}
 
 -- ---- one step after another
-pub table-same : {more : ℕ} {l : List ℕ} {n : ℕ} {z z′ : Slots} → Table more l (z .t) n → SameNames z z′ → Table more l (z′ .t) n
+table-same : {more : ℕ} {l : List ℕ} {n : ℕ} {z z′ : Slots} → Table more l (z .t) n → SameNames z z′ → Table more l (z′ .t) n
 table-same tab s =
     record {
       fits = omega (arith, s .size, tab .fits);
       stands = λ i h. rw (s .names i) (tab .stands i h);
       rises = λ i j h k. rw (s .names i, s .names j) (tab .rises i j h k);
+    }
+
+pub batch-same : {more : ℕ} {s : List ℕ} {n : ℕ} {z z′ : Slots} → Batch more s (z .t) n (z .keys) (z .spots) → SameNames z z′ → Batch more s (z′ .t) n (z′ .keys) (z′ .spots)
+batch-same b w =
+    record {
+      small = b .small;
+      ending = b .ending;
+      table = table-same (b .table) w;
+      slots = record { keys-sized = w .keys ∙ b .slots .keys-sized; spots-sized = w .spots ∙ b .slots .spots-sized };
     }
 
 stays-then : {z z′ z″ : Slots} → SameNames z z′ → SameNames z′ z″ → SameNames z z″

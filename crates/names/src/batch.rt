@@ -1,19 +1,21 @@
 // One walk over places and items for the names of a table: which of them have a point, and where.
 //
-// What was found stands in 64 slots, four numbers of a key and two of a point. Mark m of an entry, from 1 to 64, is slot
-// m - 1; mark 65 is that no slot was left.
+// What was found stands in 64 slots, four numbers of a key and two of a point. Mark m of an entry, from 1 to 64, is
+// slot m - 1; mark 65 is that no slot was left.
 ghost use mathlib.Core.Path.{_≡_};
 ghost use mathlib.Core.Bool.{true, false};
 ghost use Prim.Native.Nat.{_+_, _*_, _≤_, _<_};
 ghost use lib.ListN.{length, getD};
 ghost use Rattle.stream.specs.Payload.{payload};
-ghost use Rattle.stream.specs.Contracts.Payload.{room};
 ghost use Rattle.scene.specs.Contracts.Answers.{bestBy, itemsAt};
-ghost use Rattle.names.specs.Contracts.Table.{Table, Unmarked};
-ghost use Rattle.names.specs.Contracts.Batch.{slotsOf, Slot, BestIs, SlotSet, BestStored, Matched, placeStep, placesStep, itemStep, itemsStep, LabelsMatched};
+ghost use Rattle.names.specs.Contracts.Table.{NameQuery, Unmarked};
+ghost use Rattle.names.specs.Contracts.Batch.{SlotRoom, Batch, slotsOf, Slot, BestIs, SlotSet, BestStored, Matched, placeStep, placesStep, itemStep, itemsStep, LabelsMatched};
+use crate::table::MARK;
 use crate::table::find_name;
+use records::NO_KEY;
+use records::TAG_ITEM;
+use records::TAG_PLACE;
 use records::find;
-use records::seek;
 use records::wide;
 use scene::Best;
 use scene::Key;
@@ -21,6 +23,13 @@ use scene::consider_item;
 use scene::consider_place;
 use stream::byte;
 
+// There are so many slots.
+const SLOTS: usize = 64;
+
+// What mark 65 adds to an entry: 65 * MARK.
+const NO_SLOT: u32 = 2181038080;
+
+// Nothing was found.
 fn no_best() -> Best
     ensures { λ r. ⌜ r .some ≡ false ⌝ }
 {
@@ -55,6 +64,7 @@ fn best_at(keys: &[u32], spots: &[f64], m: usize) -> Best
     }
 }
 
+// Slot m becomes b.
 fn put_best(keys: &mut [u32], spots: &mut [f64], m: usize, b: Best)
     requires { ⌜ (4 * m + 4 ≤ length (now keys)) × (2 * m + 2 ≤ length (now spots))
         × (b .key .order < 4294967296) ⌝ }
@@ -71,21 +81,28 @@ fn put_best(keys: &mut [u32], spots: &mut [f64], m: usize, b: Best)
 
 // What was found for an entry with the mark m.
 fn best_of(keys: &[u32], spots: &[f64], m: usize) -> Best
-    requires { ⌜ (length (now keys) ≡ 256) × (length (now spots) ≡ 128) ⌝ }
+    requires { ⌜ SlotRoom (now keys) (now spots) ⌝ }
     ensures { λ r. ⌜ BestIs (now (keys .entry)) (now (spots .entry)) m r ⌝ }
 {
     if m == 0 {
         return no_best();
     }
-    if m > 64 {
+    if m > SLOTS {
         return no_best();
     }
     best_at(keys, spots, m - 1)
 }
 
 // The best for entry k is b from now on. How many slots are used then.
-fn store_best(t: &mut [u32], keys: &mut [u32], spots: &mut [f64], used: usize, k: usize, b: Best) -> usize
-    requires { ⌜ (k < length (now t)) × (length (now keys) ≡ 256) × (length (now spots) ≡ 128)
+fn store_best(
+    t: &mut [u32],
+    keys: &mut [u32],
+    spots: &mut [f64],
+    used: usize,
+    k: usize,
+    b: Best,
+) -> usize
+    requires { ⌜ (k < length (now t)) × SlotRoom (now keys) (now spots)
         × (b .some ≡ true → b .key .order < 4294967296) ⌝ }
     ensures { λ r. ⌜ BestStored k (bestBy b) (slotsOf (now (t .entry)) (now (keys .entry)) (now (spots .entry)) used)
         (slotsOf (now (t .exit)) (now (keys .exit)) (now (spots .exit)) r) ⌝ }
@@ -94,19 +111,19 @@ fn store_best(t: &mut [u32], keys: &mut [u32], spots: &mut [f64], used: usize, k
         return used;
     }
     let e = t[k];
-    if e >= 2181038080 {
+    if e >= NO_SLOT {
         return used;
     }
-    if e >= 33554432 {
-        put_best(keys, spots, (e / 33554432) as usize - 1, b);
+    if e >= MARK {
+        put_best(keys, spots, (e / MARK) as usize - 1, b);
         return used;
     }
-    if used >= 64 {
-        t[k] = e + 2181038080;
+    if used >= SLOTS {
+        t[k] = e + NO_SLOT;
         return used;
     }
     put_best(keys, spots, used, b);
-    t[k] = e + 33554432 * (used as u32 + 1);
+    t[k] = e + MARK * (used as u32 + 1);
     used + 1
 }
 
@@ -122,10 +139,8 @@ fn match_place(
     q: usize,
     i: usize,
 ) -> usize
-    requires { ⌜ (q + 10 + getD (payload (now s)) (q + 1) 0 ≤ room (now s))
-        × (getD (payload (now s)) (q + 1) 0 + more ≤ 255) × (i < 4294967296)
-        × Table more (payload (now s)) (now t) count × (length (now keys) ≡ 256)
-        × (length (now spots) ≡ 128) ⌝ }
+    requires { ⌜ NameQuery (now s) (q + 1) (getD (payload (now s)) (q + 1) 0) more × (i < 4294967296)
+        × Batch more (now s) (now t) count (now keys) (now spots) ⌝ }
     ensures { λ r. ⌜ Matched more (payload (now (s .entry))) count
         (slotsOf (now (t .entry)) (now (keys .entry)) (now (spots .entry)) used)
         (slotsOf (now (t .exit)) (now (keys .exit)) (now (spots .exit)) r)
@@ -137,12 +152,13 @@ fn match_place(
         return used;
     }
     let k = f.at;
-    let old = best_of(keys, spots, (t[k] / 33554432) as usize);
+    let old = best_of(keys, spots, (t[k] / MARK) as usize);
     let b = consider_place(s, old, q, i);
     store_best(t, keys, spots, used, k, b)
 }
 
-// The item at q, the i-th, if it has a label.
+// The item at q, the i-th: a candidate for the label that it has, if it has one and that is one of the first `count`
+// entries.
 fn match_item(
     s: &[u8],
     t: &mut [u32],
@@ -154,10 +170,8 @@ fn match_item(
     q: usize,
     i: usize,
 ) -> usize
-    requires { ⌜ (q + 12 + getD (payload (now s)) (q + 3) 0 ≤ room (now s))
-        × (getD (payload (now s)) (q + 3) 0 + more ≤ 255) × (i < 4294967296)
-        × Table more (payload (now s)) (now t) count × (length (now keys) ≡ 256)
-        × (length (now spots) ≡ 128) ⌝ }
+    requires { ⌜ NameQuery (now s) (q + 3) (getD (payload (now s)) (q + 3) 0) more × (i < 4294967296)
+        × Batch more (now s) (now t) count (now keys) (now spots) ⌝ }
     ensures { λ r. ⌜ Matched more (payload (now (s .entry))) count
         (slotsOf (now (t .entry)) (now (keys .entry)) (now (spots .entry)) used)
         (slotsOf (now (t .exit)) (now (keys .exit)) (now (spots .exit)) r)
@@ -172,7 +186,7 @@ fn match_item(
         return used;
     }
     let k = f.at;
-    let old = best_of(keys, spots, (t[k] / 33554432) as usize);
+    let old = best_of(keys, spots, (t[k] / MARK) as usize);
     let b = consider_item(s, old, q, i);
     store_best(t, keys, spots, used, k, b)
 }
@@ -183,6 +197,7 @@ pub struct MatchedPlaces {
     pub end: usize,
 }
 
+// The places from p on become candidates, each for the name that it has.
 fn match_places(
     s: &[u8],
     p: usize,
@@ -192,8 +207,7 @@ fn match_places(
     keys: &mut [u32],
     spots: &mut [f64],
 ) -> MatchedPlaces
-    requires { ⌜ (room (now s) < 33554432) × (more ≤ 4) × Table more (payload (now s)) (now t) count
-        × (length (now keys) ≡ 256) × (length (now spots) ≡ 128) ⌝ }
+    requires { ⌜ Batch more (now s) (now t) count (now keys) (now spots) ⌝ }
     ensures { λ r. ⌜ Matched more (payload (now (s .entry))) count
         (slotsOf (now (t .entry)) (now (keys .entry)) (now (spots .entry)) 0)
         (slotsOf (now (t .exit)) (now (keys .exit)) (now (spots .exit)) (r .used))
@@ -204,12 +218,9 @@ fn match_places(
     let mut q = p;
     let mut i = 0usize;
     loop {
-        let h = seek(s, q, 5, 0);
+        let h = find(s, q, TAG_PLACE, NO_KEY);
         if !h.some {
-            return MatchedPlaces {
-                used: used,
-                end: h.at,
-            };
+            return MatchedPlaces { used, end: h.at };
         }
         used = match_place(s, t, count, more, keys, spots, used, h.at, i);
         q = h.next;
@@ -217,6 +228,8 @@ fn match_places(
     }
 }
 
+// The items from p on become candidates, each for the label that it has, where the places have used so many slots. How
+// many slots are used then.
 fn match_items(
     s: &[u8],
     p: usize,
@@ -227,8 +240,7 @@ fn match_items(
     spots: &mut [f64],
     places: usize,
 ) -> usize
-    requires { ⌜ (room (now s) < 33554432) × (more ≤ 4) × Table more (payload (now s)) (now t) count
-        × (length (now keys) ≡ 256) × (length (now spots) ≡ 128) ⌝ }
+    requires { ⌜ Batch more (now s) (now t) count (now keys) (now spots) ⌝ }
     ensures { λ r. ⌜ Matched more (payload (now (s .entry))) count
         (slotsOf (now (t .entry)) (now (keys .entry)) (now (spots .entry)) places)
         (slotsOf (now (t .exit)) (now (keys .exit)) (now (spots .exit)) r)
@@ -238,7 +250,7 @@ fn match_items(
     let mut q = p;
     let mut i = 0usize;
     loop {
-        let h = find(s, q, 6, 0);
+        let h = find(s, q, TAG_ITEM, NO_KEY);
         if !h.some {
             return used;
         }
@@ -259,8 +271,7 @@ pub fn match_labels(
     keys: &mut [u32],
     spots: &mut [f64],
 ) -> usize
-    requires { ⌜ (room (now s) < 33554432) × (more ≤ 4) × Table more (payload (now s)) (now t) count
-        × Unmarked (now t) count × (length (now keys) ≡ 256) × (length (now spots) ≡ 128) ⌝ }
+    requires { ⌜ Batch more (now s) (now t) count (now keys) (now spots) × Unmarked (now t) count ⌝ }
     ensures { λ r. ⌜ LabelsMatched more (payload (now (s .entry))) (now (t .entry)) (now (t .exit)) count
         (now (spots .exit)) r p ⌝ }
 {

@@ -1,8 +1,8 @@
 // A table of names: the positions where their lengths stand in the payload, in the order of the names, no name twice.
 //
 // Names are ordered by their length, then by their bytes, so that eight bytes from the length on decide most
-// comparisons. The names of one table have lengths that are `more` too great: 4 for `_lon` variables, whose ending is not
-// counted, else 0.
+// comparisons. The names of one table have lengths that are `more` too great: 4 for `_lon` variables, whose ending is
+// not counted, else 0.
 ghost use mathlib.Core.Path.{_≡_};
 ghost use Prim.Native.Nat.{_+_, _-_, _*_, _≤_, _<_, _%_};
 ghost use lib.ListN.{length, getD, set};
@@ -10,14 +10,17 @@ ghost use Rattle.stream.specs.Payload.{payload};
 ghost use Rattle.stream.specs.Contracts.Payload.{room};
 ghost use Rattle.records.specs.Records.{bytesAt};
 ghost use Rattle.names.specs.Contracts.Words.{wordOf, frontOf};
-ghost use Rattle.names.specs.Contracts.Table.{nameAt, markOf, orderOf, NameFits, Table, Searched, ShiftedUp, Inserted};
+ghost use Rattle.names.specs.Contracts.Table.{nameAt, markOf, orderOf, NameFits, NameQuery, NewName, Table, Searched, ShiftedUp, Inserted};
 use crate::words::swap8;
 use crate::words::word_at;
 use stream::byte;
 use stream::u64_at;
 
-// A payload has fewer bytes than this: what an entry is beyond it, is a mark.
-const SPAN: usize = 33554432;
+// A payload has fewer bytes than this, 2^25: what an entry is beyond it, is a mark.
+const MAX_PAYLOAD: usize = 33554432;
+
+// The weight of an entry's mark: it is MAX_PAYLOAD, in the width of an entry.
+pub const MARK: u32 = 33554432;
 
 // The weight of the first of eight bytes.
 const FIRST: u64 = 72057594037927936;
@@ -59,8 +62,8 @@ fn spare_bits(n: usize) -> u64
     8 * (7 - n as u64)
 }
 
-// The length of a name of n bytes and its first bytes, as a number: the name stands behind p. It is not read by `word_at`,
-// which is called at one place, in the search, and so is put in line there.
+// The length of a name of n bytes and its first bytes, as a number: the name stands behind p. It is not read by
+// `word_at`, which is called at one place, in the search, and so is put in line there.
 fn word_of(s: &[u8], p: usize, n: usize, more: u64) -> u64
     requires { ⌜ (p + 8 ≤ room (now s)) × (n + more ≤ 255) ⌝ }
     ensures { λ r. ⌜ r ≡ wordOf (payload (now (s .entry))) p (n + more) ⌝ }
@@ -71,7 +74,7 @@ fn word_of(s: &[u8], p: usize, n: usize, more: u64) -> u64
 // The order of the name whose length stands at p and the n bytes behind q, of which w are the first without the spare
 // bits.
 fn order(s: &[u8], p: usize, q: usize, n: usize, w: u64, more: u64) -> u8
-    requires { ⌜ NameFits more (payload (now s)) p × (q + 9 + n ≤ room (now s)) × (n + more ≤ 255)
+    requires { ⌜ NameFits more (payload (now s)) p × NameQuery (now s) q n more
         × (w ≡ frontOf (wordOf (payload (now s)) q (n + more)) n) ⌝ }
     ensures { λ r. ⌜ r ≡ orderOf (nameAt more (payload (now (s .entry))) p)
         (bytesAt (payload (now (s .entry))) (q + 1) n) ⌝ }
@@ -99,7 +102,7 @@ fn find_near(
     n: usize,
     more: u64,
 ) -> Found
-    requires { ⌜ (p + 9 + n ≤ room (now s)) × (n + more ≤ 255) × Table more (payload (now s)) (now t) count
+    requires { ⌜ NameQuery (now s) p n more × Table more (payload (now s)) (now t) count
         × (0 < count → first < count) ⌝ }
     ensures { λ r. ⌜ Searched more (payload (now (s .entry))) (now (t .entry)) count
         (bytesAt (payload (now (s .entry))) (p + 1) n) (r .some) (r .at) ⌝ }
@@ -109,7 +112,7 @@ fn find_near(
     let mut hi = count;
     let mut mid = first;
     while lo < hi {
-        let o = order(s, t[mid] as usize % SPAN, p, n, w, more);
+        let o = order(s, t[mid] as usize % MAX_PAYLOAD, p, n, w, more);
         if o == 1 {
             return Found {
                 some: true,
@@ -140,7 +143,7 @@ pub fn find_name(s: &[u8], t: &[u32], count: usize, p: usize, n: usize, more: u6
     find_near(s, t, count, count / 2, p, n, more)
 }
 
-// The entries from `at` to n - 1 move up by one.
+// The entries from `at` to n - 1 move up by one place.
 fn shift_up(t: &mut [u32], at: usize, n: usize)
     requires { ⌜ (at ≤ n) × (n < length (now t)) ⌝ }
     ensures { λ r. ⌜ ShiftedUp (now (t .entry)) (now (t .exit)) at n ⌝ }
@@ -162,9 +165,8 @@ fn last_of(count: usize) -> usize
 // The name of n bytes whose length stands at p becomes one of the first `count` entries, unless it is one of them. How
 // many there are then. Most names come in their order: the last entry is looked at first.
 pub fn insert(s: &[u8], t: &mut [u32], count: usize, p: usize, n: usize, more: u64) -> usize
-    requires { ⌜ (p < 33554432) × NameFits more (payload (now s)) p
-        × (n + more ≡ getD (payload (now s)) p 0) × (n + more ≤ 255)
-        × (count < length (now t)) × Table more (payload (now s)) (now t) count ⌝ }
+    requires { ⌜ NewName more (payload (now s)) p n × (count < length (now t))
+        × Table more (payload (now s)) (now t) count ⌝ }
     ensures { λ r. ⌜ Inserted more (payload (now (s .entry))) (now (t .entry)) (now (t .exit)) count r
         (bytesAt (payload (now (s .entry))) (p + 1) n) ⌝ }
 {
@@ -185,6 +187,6 @@ pub fn unmark(t: &mut [u32], k: usize) -> usize
         × (now (t .exit) ≡ set (now (t .entry)) k (getD (now (t .entry)) k 0 % 33554432)) ⌝ }
 {
     let e = t[k];
-    t[k] = e % 33554432;
-    (e / 33554432) as usize
+    t[k] = e % MARK;
+    (e / MARK) as usize
 }

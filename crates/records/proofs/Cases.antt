@@ -216,7 +216,7 @@ module _ (l : List ℕ) where
   unfolding itemFits
   item-short h = item-bad refl refl (rw (lt-leb (13 + getD l 3 0) (length l) h, and-false) refl)
 
-  -- the same, of the values that the code has
+  -- from the values that the code has
   pub item-is :
       {k f b n h m w : ℕ}
       → k ≡ getD l 1 0

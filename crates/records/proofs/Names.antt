@@ -45,7 +45,7 @@ module _ (a b : List ℕ) (i : ℕ) where
         let g : getD b i 0 ≤ getD a i 0 = omega arith in
         rw (drop-cons a i 0 h, drop-cons b i 0 k, le-ltb (getD a i 0) (getD b i 0) g, eq-eqb (getD a i 0) (getD b i 0) e, add-one) refl
 
--- the same of two parts of a payload, and of the values that the code has
+-- two names that are parts of a payload, by the values that the code has
 module _ (s : List ℕ) (p n q m i : ℕ) (u : p + n ≤ room s) (v : q + m ≤ room s) where
   len-a : length (bytesAt (payload s) p n) ≡ n
   len-a = name-length s p n u

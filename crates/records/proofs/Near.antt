@@ -45,7 +45,7 @@ choice-floats : (o : ℕ) → optionWidth o / 8 ≡ optionFloats o
 unfolding optionWidth optionFloats
 choice-floats o = eights (eqb o 1) (eqb o 2)
 
--- ---- of each record, from the values that the code has
+-- ---- each record, from the values that the code has
 module _ (l : List ℕ) {r : Record} {b : Bool} where
   pub rescale-floats : r ≡ Rescale → b ≡ allWithinLimit l false 1 1 → b ≡ limitedAt l r
   unfolding limitedAt

@@ -19,7 +19,8 @@ before (x ∷ xs) (y ∷ ys) = ltb x y || (eqb x y && before xs ys)
 abbrev pub nameOf : List ℕ → ℕ → List ℕ
 nameOf l n = take n (drop 2 l)
 
--- what the records so far leave to know: the last tag, the last option, the last variable's name, and the roles of points that the last item has had, 1 for points and 2 for fill points
+-- what the records so far leave to know: the last tag, the last option, the last variable's name, and the roles of
+-- points that the last item has had, 1 for points and 2 for fill points
 pub record Pass : Type 0 where
   pub last : ℕ
   pub option : ℕ

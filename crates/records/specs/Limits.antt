@@ -46,7 +46,7 @@ limitedAt l (Points r c) = allOnCanvas l 4 (2 * c)
 limitedAt l (Path r c zero k) = allOnCanvas l 4 2 && allOnCanvas l 22 (6 * k)
 limitedAt l (Path r c (suc f) k) = allOnCanvas l 6 (2 * k)
 
--- of all of them
+-- the floats of all records
 unfoldable pub allLimited : List Entry → Bool
 allLimited [] = true
 allLimited (e ∷ es) = limitedAt (e .bytes) (e .parsed) && allLimited es

@@ -1,4 +1,5 @@
--- One record of document 01's stream, over the list of the payload bytes from its tag on. Numbers are little-endian, floats f64; a name is a length byte, 1 to 31, and bytes 33 to 126.
+-- One record of document 01's stream, over the list of the payload bytes from its tag on. Numbers are little-endian,
+-- floats f64; a name is a length byte, 1 to 31, and bytes 33 to 126.
 use Prim.Native.Nat.{ℕ, zero, suc, _+_, _*_, _/_, _%_}
 use mathlib.Core.List.{List, [], _∷_}
 use mathlib.Core.Bool.{Bool, true, false, _&&_, _||_, cond}

@@ -1,4 +1,5 @@
--- Which records a question asks for: those of one tag and, where it has one, of one key: which option, or the role of points and paths.
+-- Which records a question asks for: those of one tag and, where it has one, of one key: which option, or the role of
+-- points and paths.
 use Prim.Native.Nat.{ℕ}
 use mathlib.Core.Bool.{Bool, true, false, _&&_, cond}
 use mathlib.Core.List.{List, [], _∷_}
@@ -19,7 +20,8 @@ keyOf (Item k f n m) = 0
 keyOf (Points r c) = r
 keyOf (Path r c f k) = r
 
--- whether a record of tag x ends what is asked of tag t: tags below 6 never fall, items stand up to the end, and points and paths belong to the item before them
+-- whether a record of tag x ends what is asked of tag t: tags below 6 never fall, items stand up to the end, and points
+-- and paths belong to the item before them
 unfoldable pub endsSearch : ℕ → ℕ → Bool
 endsSearch t x = cond (ltb t 6) (ltb t x) (ltb 6 t && ltb x 7)
 

@@ -1,4 +1,5 @@
--- The records of a payload, one after the other, each with the bytes from its tag on. Names, floats and pairs are read off these.
+-- The records of a payload, one after the other, each with the bytes from its tag on. Names, floats and pairs are read
+-- off these.
 use Prim.Native.Nat.{ℕ, zero, suc, _-_}
 use mathlib.Core.Bool.{Bool, false}
 use mathlib.Core.List.{List, [], _∷_}
@@ -34,7 +35,8 @@ entries [] n = []
 entries (x ∷ xs) zero = more (x ∷ xs) (recordOf (x ∷ xs)) (λ n. entries xs n)
 entries (x ∷ xs) (suc n) = entries xs n
 
--- the number of the condition that what stands at a position breaks: none, or 3 where it is neither a record nor the end record
+-- the number of the condition that what stands at a position breaks: none, or 3 where it is neither a record nor the
+-- end record
 abbrev pub numberBy : Step → ℕ
 numberBy (Got r k) = 0
 numberBy End = 0

@@ -1,17 +1,19 @@
-// Condition 4, in one pass over the records.
+// The floats of a stream, in one pass over the records.
 ghost use mathlib.Core.Path.{_≡_};
 ghost use Prim.Native.Nat.{_+_, _*_, _≤_};
 ghost use lib.ListN.{length};
 ghost use Rattle.stream.specs.Payload.{payload};
 ghost use Rattle.stream.specs.Contracts.Payload.{room, rest};
-ghost use Rattle.records.specs.Records.{recordOf};
-ghost use Rattle.records.specs.declared.records.Step.{Step};
 ghost use Rattle.records.specs.Limits.{limitedAt, limited};
+ghost use Rattle.records.specs.Contracts.Hits.{Stands};
 ghost use Rattle.records.specs.Contracts.Floats.{withinLimit, allWithinLimit};
+use crate::numbers::FORM_CUBICS;
+use crate::numbers::MAX_MEASURE;
+use crate::numbers::TAG_END;
 use crate::records::Record;
 use crate::records::Step;
-use crate::records::option_width;
 use crate::records::next_record;
+use crate::records::option_width;
 use crate::records::values_width;
 use crate::records::wide;
 use crate::records::wide16;
@@ -30,12 +32,12 @@ fn is_within_limit(canvas: bool, x: Float64) -> bool
             if !canvas {
                 return true;
             }
-            -1000000.0 <= v && v <= 1000000.0
+            -MAX_MEASURE <= v && v <= MAX_MEASURE
         }
     }
 }
 
-// The same of n floats from p on.
+// Whether n floats from p on are each finite and, for canvas measures, within the limit.
 fn all_within_limit(part: &[u8], off: usize, canvas: bool, p: usize, n: usize) -> bool
     requires { ⌜ (off ≤ room (now part)) × (p + 8 * n ≤ length (rest (now part) off)) ⌝ }
     ensures { λ r. ⌜ r ≡ allWithinLimit (rest (now (part .entry)) off) canvas p n ⌝ }
@@ -48,9 +50,9 @@ fn all_within_limit(part: &[u8], off: usize, canvas: bool, p: usize, n: usize) -
     true
 }
 
-// The floats of one record, which stands at the offset and takes k bytes.
-fn limited_at(part: &[u8], off: usize, r: Record, k: usize) -> bool
-    requires { ⌜ (off ≤ room (now part)) × (recordOf (rest (now part) off) ≡ Step.Got r k) ⌝ }
+// The floats of one record, which stands at the offset.
+fn limited_at(part: &[u8], off: usize, r: Record) -> bool
+    requires { ⌜ (off ≤ room (now part)) × Stands (rest (now part) off) r ⌝ }
     ensures { λ b. ⌜ b ≡ limitedAt (rest (now (part .entry)) off) r ⌝ }
 {
     match r {
@@ -73,15 +75,22 @@ fn limited_at(part: &[u8], off: usize, r: Record, k: usize) -> bool
                 values_width(wide(has)) / 8,
             )
         }
-        Record::Points { role: _, count } => all_within_limit(part, off, true, 4, 2 * wide16(count)),
+        Record::Points { role: _, count } => all_within_limit(
+            part,
+            off,
+            true,
+            4,
+            2 * wide16(count),
+        ),
         Record::Path {
             role: _,
             closed: _,
             form,
             count,
         } => {
-            if form == 0 {
-                all_within_limit(part, off, true, 4, 2) && all_within_limit(part, off, true, 22, 6 * wide16(count))
+            if form == FORM_CUBICS {
+                all_within_limit(part, off, true, 4, 2)
+                    && all_within_limit(part, off, true, 22, 6 * wide16(count))
             } else {
                 all_within_limit(part, off, true, 6, 2 * wide16(count))
             }
@@ -89,12 +98,13 @@ fn limited_at(part: &[u8], off: usize, r: Record, k: usize) -> bool
     }
 }
 
+// Condition 4.
 pub fn limits(s: &[u8]) -> bool
     ensures { λ r. ⌜ r ≡ limited (payload (now (s .entry))) ⌝ }
 {
     let mut p = 0usize;
     loop {
-        if tag_at(s, p) == 0 {
+        if tag_at(s, p) == TAG_END {
             return true;
         }
         let part = stream::part_from(s, p);
@@ -107,10 +117,10 @@ pub fn limits(s: &[u8]) -> bool
                 return true;
             }
             Step::Got(r, k) => {
-                if !limited_at(part, off, r, k) {
+                if !limited_at(part, off, r) {
                     return false;
                 }
-                p = p + k;
+                p += k;
             }
         }
     }

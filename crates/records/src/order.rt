@@ -1,14 +1,21 @@
-// Condition 3, in one pass over the records.
+// The order of the records, in one pass over them.
 ghost use mathlib.Core.Path.{_≡_};
 ghost use Prim.Native.Nat.{_+_, _≤_};
 ghost use lib.ListN.{drop};
 ghost use Rattle.stream.specs.Payload.{payload};
 ghost use Rattle.stream.specs.Contracts.Payload.{room};
-ghost use Rattle.records.specs.Records.{recordOf, bytesAt};
+ghost use Rattle.records.specs.Records.{bytesAt};
 ghost use Rattle.records.specs.declared.records.Record.{Record};
-ghost use Rattle.records.specs.declared.records.Step.{Step};
-ghost use Rattle.records.specs.Layout.{before, hasRole, stepOf, laidOut};
-ghost use Rattle.records.specs.Contracts.Order.{passOf, passStepOf, orderStepIf, tagStepOf, StateWithin, StepWithin};
+ghost use Rattle.records.specs.Layout.{before, hasRole, laidOut};
+ghost use Rattle.records.specs.Contracts.Hits.{Stands};
+ghost use Rattle.records.specs.Contracts.Order.{LeadsTo, orderStepIf, tagStepOf, StateWithin, StepWithin};
+use crate::numbers::ROLE_DRAWN;
+use crate::numbers::TAG_FEATURE;
+use crate::numbers::TAG_ITEM;
+use crate::numbers::TAG_OPTION;
+use crate::numbers::TAG_PLACE;
+use crate::numbers::TAG_RESCALE;
+use crate::numbers::TAG_VARIABLE;
 use crate::records::Record;
 use crate::records::Step;
 use crate::records::next_record;
@@ -17,13 +24,13 @@ use stream::byte;
 
 // What the records so far leave to know.
 pub struct State {
-    // the last tag, and the last option
+    // the last tag, 0 before the first record, and the last option
     pub last: u8,
     pub option: u8,
     // the last variable's name: its place in the payload, and its length
     pub at: usize,
     pub len: usize,
-    // of the last item's points: 1 for points, 2 for fill points
+    // which points the last item has had: 1 for those that are drawn, 2 for those of its fill, 3 for both
     pub roles: u8,
 }
 
@@ -55,10 +62,11 @@ fn name_before(s: &[u8], p: usize, n: usize, q: usize, m: usize) -> bool
     false
 }
 
+// Whether the last item has had points of this role.
 fn has_role(roles: u8, role: u8) -> bool
     ensures { λ r. ⌜ r ≡ hasRole roles role ⌝ }
 {
-    if role == 0 {
+    if role == ROLE_DRAWN {
         return roles % 2 == 1;
     }
     roles / 2 == 1
@@ -67,7 +75,11 @@ fn has_role(roles: u8, role: u8) -> bool
 fn step_if(ok: bool, st: State) -> OrderStep
     ensures { λ t. ⌜ t ≡ orderStepIf ok st ⌝ }
 {
-    if ok { OrderStep::InOrder(st) } else { OrderStep::Broken }
+    if ok {
+        OrderStep::InOrder(st)
+    } else {
+        OrderStep::Broken
+    }
 }
 
 // A record whose tag has its place after the tags from 1 to its own.
@@ -75,7 +87,7 @@ fn tag(st: State, tag: u8) -> OrderStep
     ensures { λ t. ⌜ t ≡ tagStepOf st tag ⌝ }
 {
     let last = st.last;
-    if last < 1 {
+    if last < TAG_RESCALE {
         return OrderStep::Broken;
     }
     let mut next = st;
@@ -86,7 +98,7 @@ fn tag(st: State, tag: u8) -> OrderStep
 // A variable, which stands at p.
 fn variable(s: &[u8], st: State, p: usize, name: u8) -> OrderStep
     requires { ⌜ StateWithin st (room (now s)) × (p + 2 + name ≤ room (now s)) ⌝ }
-    ensures { λ t. ⌜ passStepOf (payload (now (s .entry))) t ≡ stepOf (passOf (payload (now (s .entry))) st) (drop p (payload (now (s .entry)))) (Record.Variable name) ⌝ }
+    ensures { λ t. ⌜ LeadsTo (payload (now (s .entry))) st p (Record.Variable name) t ⌝ }
     ensures { λ t. ⌜ StepWithin t (room (now (s .entry))) ⌝ }
 {
     let at = st.at;
@@ -98,13 +110,13 @@ fn variable(s: &[u8], st: State, p: usize, name: u8) -> OrderStep
     let mut next = st;
     next.at = p + 2;
     next.len = n;
-    tag(next, 4)
+    tag(next, TAG_VARIABLE)
 }
 
-// One record, which stands at p and takes k bytes.
-fn step(s: &[u8], st: State, p: usize, r: Record, k: usize) -> OrderStep
-    requires { ⌜ StateWithin st (room (now s)) × (recordOf (drop p (payload (now s))) ≡ Step.Got r k) ⌝ }
-    ensures { λ t. ⌜ passStepOf (payload (now (s .entry))) t ≡ stepOf (passOf (payload (now (s .entry))) st) (drop p (payload (now (s .entry)))) r ⌝ }
+// One record, which stands at p.
+fn step(s: &[u8], st: State, p: usize, r: Record) -> OrderStep
+    requires { ⌜ StateWithin st (room (now s)) × Stands (drop p (payload (now s))) r ⌝ }
+    ensures { λ t. ⌜ LeadsTo (payload (now (s .entry))) st p r t ⌝ }
     ensures { λ t. ⌜ StepWithin t (room (now (s .entry))) ⌝ }
 {
     let last = st.last;
@@ -113,7 +125,7 @@ fn step(s: &[u8], st: State, p: usize, r: Record, k: usize) -> OrderStep
     let mut next = st;
     match r {
         Record::Rescale => {
-            next.last = 1;
+            next.last = TAG_RESCALE;
             step_if(last == 0, next)
         }
         Record::Option(o) => {
@@ -121,11 +133,11 @@ fn step(s: &[u8], st: State, p: usize, r: Record, k: usize) -> OrderStep
                 return OrderStep::Broken;
             }
             next.option = o;
-            tag(next, 2)
+            tag(next, TAG_OPTION)
         }
-        Record::Feature(_) => tag(st, 3),
+        Record::Feature(_) => tag(st, TAG_FEATURE),
         Record::Variable(name) => variable(s, st, p, name),
-        Record::Place(_) => tag(st, 5),
+        Record::Place(_) => tag(st, TAG_PLACE),
         Record::Item {
             kind: _,
             flags: _,
@@ -133,24 +145,25 @@ fn step(s: &[u8], st: State, p: usize, r: Record, k: usize) -> OrderStep
             has: _,
         } => {
             next.roles = 0;
-            tag(next, 6)
+            tag(next, TAG_ITEM)
         }
         Record::Points { role, count: _ } => {
             if has_role(roles, role) {
                 return OrderStep::Broken;
             }
             next.roles = roles + 1 + role;
-            step_if(last == 6, next)
+            step_if(last == TAG_ITEM, next)
         }
         Record::Path {
             role: _,
             closed: _,
             form: _,
             count: _,
-        } => step_if(last == 6, st),
+        } => step_if(last == TAG_ITEM, st),
     }
 }
 
+// Condition 3.
 pub fn layout(s: &[u8]) -> bool
     ensures { λ r. ⌜ r ≡ laidOut (payload (now (s .entry))) ⌝ }
 {
@@ -170,15 +183,15 @@ pub fn layout(s: &[u8]) -> bool
                 return false;
             }
             Step::End => {
-                return st.last >= 1;
+                return st.last >= TAG_RESCALE;
             }
-            Step::Got(r, k) => match step(s, st, p, r, k) {
+            Step::Got(r, k) => match step(s, st, p, r) {
                 OrderStep::Broken => {
                     return false;
                 }
                 OrderStep::InOrder(t) => {
                     st = t;
-                    p = p + k;
+                    p += k;
                 }
             },
         }

@@ -3,11 +3,29 @@ ghost use mathlib.Core.Path.{_≡_};
 ghost use Prim.Native.Nat.{_+_, _<_, _≤_};
 ghost use lib.ListN.{length, drop};
 ghost use Rattle.stream.specs.Contracts.Payload.{room, rest};
+ghost use Rattle.records.specs.Contracts.Records.{FormFits};
 ghost use Rattle.records.specs.Records.{asciiGraphic, allAsciiGraphic, named, labelled, namedThen, counted, allZero, optionWidth, optionFits, valuesWidth, itemBegins, endOf, rescaleOf, optionOf, featureOf, variableOf, placeOf, itemOf, pointsOf, pathWith, pathOf, recordOf};
+use crate::numbers::FORM_CUBICS;
+use crate::numbers::FORM_POLYLINE;
+use crate::numbers::KIND_BLOCK;
+use crate::numbers::MAX_NAME;
+use crate::numbers::OPTION_ANCHOR;
+use crate::numbers::OPTION_FRAME;
+use crate::numbers::OPTION_VIEW_SCALE;
+use crate::numbers::ROLE_FILL;
+use crate::numbers::TAG_END;
+use crate::numbers::TAG_FEATURE;
+use crate::numbers::TAG_ITEM;
+use crate::numbers::TAG_OPTION;
+use crate::numbers::TAG_PATH;
+use crate::numbers::TAG_PLACE;
+use crate::numbers::TAG_POINTS;
+use crate::numbers::TAG_RESCALE;
+use crate::numbers::TAG_VARIABLE;
 use stream::byte;
 use stream::remaining;
-use stream::u64_at;
 use stream::u16_at;
+use stream::u64_at;
 
 // A record. Names, floats and pairs stay in the stream, at places that the fields here settle.
 pub enum Record {
@@ -46,18 +64,21 @@ pub enum Step {
     Bad,
 }
 
+// A byte as a length.
 pub fn wide(x: u8) -> usize
     ensures { λ r. ⌜ (r ≡ x) × (r < 256) ⌝ }
 {
     x as usize
 }
 
+// A count as a length.
 pub fn wide16(x: u16) -> usize
     ensures { λ r. ⌜ (r ≡ x) × (r < 65536) ⌝ }
 {
     x as usize
 }
 
+// Whether a byte is one of 33 to 126.
 fn is_ascii_graphic(x: u8) -> bool
     ensures { λ r. ⌜ r ≡ asciiGraphic x ⌝ }
 {
@@ -82,7 +103,7 @@ fn split_ascii_graphic(part: &[u8], off: usize, p: usize, n: usize) -> bool
     true
 }
 
-// The same of n bytes of the part itself.
+// Whether n bytes of the part itself, from `at` on, are all of 33 to 126.
 fn contiguous_ascii_graphic(part: &[u8], at: usize, n: usize) -> bool
     requires { ⌜ at + n ≤ length (now part) ⌝ }
     ensures { λ r. ⌜ r ≡ allAsciiGraphic (now (part .entry)) at n ⌝ }
@@ -97,12 +118,13 @@ fn contiguous_ascii_graphic(part: &[u8], at: usize, n: usize) -> bool
     true
 }
 
-// A name seldom has a check between its bytes: it is read where it stands.
+// Whether n bytes from p on are all of 33 to 126. A name seldom has a check between its bytes: it is read where it
+// stands.
 fn all_ascii_graphic(part: &[u8], off: usize, p: usize, n: usize) -> bool
     requires { ⌜ (off ≤ room (now part)) × (p + n ≤ length (rest (now part) off)) ⌝ }
     ensures { λ r. ⌜ r ≡ allAsciiGraphic (rest (now (part .entry)) off) p n ⌝ }
 {
-    let run = stream::contiguous_at(part, off, p, n);
+    let run = stream::contiguous_at(off, p, n);
     if run.some {
         return contiguous_ascii_graphic(part, run.at, n);
     }
@@ -122,7 +144,7 @@ fn is_name(part: &[u8], off: usize, p: usize) -> bool
     if n < 1 {
         return false;
     }
-    if n > 31 {
+    if n > MAX_NAME {
         return false;
     }
     if len - p - 1 < n {
@@ -197,6 +219,7 @@ fn zeros(part: &[u8], off: usize) -> bool
     zeros_from(part, off, i)
 }
 
+// The end record: only zeros follow.
 fn read_end(part: &[u8], off: usize) -> Step
     requires { ⌜ off ≤ room (now part) ⌝ }
     ensures { λ r. ⌜ r ≡ endOf (rest (now (part .entry)) off) ⌝ }
@@ -222,29 +245,30 @@ fn read_rescale(part: &[u8], off: usize) -> Step
 pub fn option_width(option: u8) -> usize
     ensures { λ r. ⌜ (r ≡ optionWidth option) × (1 ≤ r) × (r ≤ 16) ⌝ }
 {
-    if option == 1 {
+    if option == OPTION_FRAME {
         return 1;
     }
-    if option == 2 {
+    if option == OPTION_ANCHOR {
         return 16;
     }
     8
 }
 
+// Whether there is such an option, and its value is within the payload and right.
 fn option_fits(part: &[u8], off: usize, option: u8) -> bool
     requires { ⌜ off ≤ room (now part) ⌝ }
     ensures { λ r. ⌜ r ≡ optionFits (rest (now (part .entry)) off) option ⌝ }
 {
-    if option < 1 {
+    if option < OPTION_FRAME {
         return false;
     }
-    if option > 6 {
+    if option > OPTION_VIEW_SCALE {
         return false;
     }
     if remaining(part, off) < 2 + option_width(option) {
         return false;
     }
-    if option > 1 {
+    if option > OPTION_FRAME {
         return true;
     }
     byte(part, off, 2) <= 1
@@ -317,7 +341,7 @@ fn item_begins(part: &[u8], off: usize) -> bool
     if remaining(part, off) < 4 {
         return false;
     }
-    if byte(part, off, 1) > 10 {
+    if byte(part, off, 1) > KIND_BLOCK {
         return false;
     }
     if byte(part, off, 2) >= 32 {
@@ -351,10 +375,10 @@ fn read_item(part: &[u8], off: usize) -> Step
     }
     Step::Got(
         Record::Item {
-            kind: kind,
-            flags: flags,
-            label: label,
-            has: has,
+            kind,
+            flags,
+            label,
+            has,
         },
         size,
     )
@@ -368,22 +392,16 @@ fn read_points(part: &[u8], off: usize) -> Step
         return Step::Bad;
     }
     let role = byte(part, off, 1);
-    if role > 1 {
+    if role > ROLE_FILL {
         return Step::Bad;
     }
     let count = u16_at(part, off, 2);
-    Step::Got(
-        Record::Points {
-            role: role,
-            count: count,
-        },
-        4 + 16 * wide16(count),
-    )
+    Step::Got(Record::Points { role, count }, 4 + 16 * wide16(count))
 }
 
 // A path of a form whose count stands at p, with `each` bytes for each after it.
 fn read_form(part: &[u8], off: usize, form: u8, p: usize, each: usize) -> Step
-    requires { ⌜ (off ≤ room (now part)) × (1 ≤ p) × (p < 256) × (each < 256) ⌝ }
+    requires { ⌜ (off ≤ room (now part)) × FormFits p each ⌝ }
     ensures { λ r. ⌜ r ≡ pathWith (rest (now (part .entry)) off) form p each ⌝ }
 {
     if !counts(part, off, p, each) {
@@ -394,10 +412,10 @@ fn read_form(part: &[u8], off: usize, form: u8, p: usize, each: usize) -> Step
     let count = u16_at(part, off, p);
     Step::Got(
         Record::Path {
-            role: role,
-            closed: closed,
-            form: form,
-            count: count,
+            role,
+            closed,
+            form,
+            count,
         },
         p + 2 + each * wide16(count),
     )
@@ -410,15 +428,15 @@ fn read_path(part: &[u8], off: usize) -> Step
     if remaining(part, off) < 4 {
         return Step::Bad;
     }
-    if byte(part, off, 1) > 1 {
+    if byte(part, off, 1) > ROLE_FILL {
         return Step::Bad;
     }
     if byte(part, off, 2) > 1 {
         return Step::Bad;
     }
     match byte(part, off, 3) {
-        0 => read_form(part, off, 0, 20, 48),
-        1 => read_form(part, off, 1, 4, 16),
+        FORM_CUBICS => read_form(part, off, FORM_CUBICS, 20, 48),
+        FORM_POLYLINE => read_form(part, off, FORM_POLYLINE, 4, 16),
         _ => Step::Bad,
     }
 }
@@ -432,15 +450,15 @@ pub fn next_record(part: &[u8], off: usize) -> Step
         return Step::Bad;
     }
     match byte(part, off, 0) {
-        0 => read_end(part, off),
-        1 => read_rescale(part, off),
-        2 => read_option(part, off),
-        3 => read_feature(part, off),
-        4 => read_variable(part, off),
-        5 => read_place(part, off),
-        6 => read_item(part, off),
-        7 => read_points(part, off),
-        8 => read_path(part, off),
+        TAG_END => read_end(part, off),
+        TAG_RESCALE => read_rescale(part, off),
+        TAG_OPTION => read_option(part, off),
+        TAG_FEATURE => read_feature(part, off),
+        TAG_VARIABLE => read_variable(part, off),
+        TAG_PLACE => read_place(part, off),
+        TAG_ITEM => read_item(part, off),
+        TAG_POINTS => read_points(part, off),
+        TAG_PATH => read_path(part, off),
         _ => Step::Bad,
     }
 }

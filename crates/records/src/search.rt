@@ -9,6 +9,16 @@ ghost use Rattle.records.specs.Records.{recordOf};
 ghost use Rattle.records.specs.Walk.{tagOf};
 ghost use Rattle.records.specs.Search.{keyOf, endsSearch, searchStepOf};
 ghost use Rattle.records.specs.Contracts.Hits.{recordsAt, RecordAt, hitsOf, SkipsTo};
+use crate::numbers::NO_KEY;
+use crate::numbers::TAG_END;
+use crate::numbers::TAG_FEATURE;
+use crate::numbers::TAG_ITEM;
+use crate::numbers::TAG_OPTION;
+use crate::numbers::TAG_PATH;
+use crate::numbers::TAG_PLACE;
+use crate::numbers::TAG_POINTS;
+use crate::numbers::TAG_RESCALE;
+use crate::numbers::TAG_VARIABLE;
 use crate::records::Record;
 use crate::records::Step;
 use crate::records::next_record;
@@ -38,46 +48,48 @@ pub fn record_at(s: &[u8], p: usize) -> Step
     next_record(stream::part_from(s, p), p % stream::PAYLOAD)
 }
 
+// A record's first byte.
 fn tag_of(r: Record) -> u8
     ensures { λ t. ⌜ t ≡ tagOf r ⌝ }
 {
     match r {
-        Record::Rescale => 1,
-        Record::Option(_) => 2,
-        Record::Feature(_) => 3,
-        Record::Variable(_) => 4,
-        Record::Place(_) => 5,
+        Record::Rescale => TAG_RESCALE,
+        Record::Option(_) => TAG_OPTION,
+        Record::Feature(_) => TAG_FEATURE,
+        Record::Variable(_) => TAG_VARIABLE,
+        Record::Place(_) => TAG_PLACE,
         Record::Item {
             kind: _,
             flags: _,
             label: _,
             has: _,
-        } => 6,
-        Record::Points { role: _, count: _ } => 7,
+        } => TAG_ITEM,
+        Record::Points { role: _, count: _ } => TAG_POINTS,
         Record::Path {
             role: _,
             closed: _,
             form: _,
             count: _,
-        } => 8,
+        } => TAG_PATH,
     }
 }
 
+// Which option it is, or what its points or path are for.
 fn key_of(r: Record) -> u8
     ensures { λ k. ⌜ k ≡ keyOf r ⌝ }
 {
     match r {
-        Record::Rescale => 0,
+        Record::Rescale => NO_KEY,
         Record::Option(option) => option,
-        Record::Feature(_) => 0,
-        Record::Variable(_) => 0,
-        Record::Place(_) => 0,
+        Record::Feature(_) => NO_KEY,
+        Record::Variable(_) => NO_KEY,
+        Record::Place(_) => NO_KEY,
         Record::Item {
             kind: _,
             flags: _,
             label: _,
             has: _,
-        } => 0,
+        } => NO_KEY,
         Record::Points { role, count: _ } => role,
         Record::Path {
             role,
@@ -92,13 +104,13 @@ fn key_of(r: Record) -> u8
 fn ends_search(t: u8, x: u8) -> bool
     ensures { λ r. ⌜ r ≡ endsSearch t x ⌝ }
 {
-    if t < 6 {
+    if t < TAG_ITEM {
         return t < x;
     }
-    if t == 6 {
+    if t == TAG_ITEM {
         return false;
     }
-    x < 7
+    x < TAG_POINTS
 }
 
 fn search_step(r: Record, tag: u8, key: u8) -> SearchStep
@@ -121,32 +133,25 @@ pub fn tag_at(s: &[u8], q: usize) -> u8
     ensures { λ r. ⌜ r ≡ getD (payload (now (s .entry))) q 0 ⌝ }
 {
     if q >= stream::remaining(s, 0) {
-        return 0;
+        return TAG_END;
     }
     stream::byte(s, 0, q)
 }
 
-// Whether a search for tag t ends at the end record or at a record of tag x: what stands there needs no further look.
+// Whether a search for tag t ends where a tag x stands, be it the end record's: what stands there needs no further
+// look.
 fn is_search_over(t: u8, x: u8) -> bool
     ensures { λ r. ⌜ r ≡ (eqb x 0 || endsSearch t x) ⌝ }
 {
-    if x == 0 {
+    if x == TAG_END {
         return true;
     }
     ends_search(t, x)
 }
 
-// The first record of a tag and key from p on, as far as such a record can stand.
+// The first record of a tag and key from p on, as far as such a record can stand. Up to where the search ends, no
+// record has a greater tag.
 pub fn find(s: &[u8], p: usize, tag: u8, key: u8) -> Hit
-    ensures { λ r. ⌜ recordsAt (payload (now (s .entry))) p tag key ≡ hitsOf (payload (now (s .entry))) tag key r ⌝ }
-    ensures { λ r. ⌜ (r .some ≡ true → RecordAt (payload (now (s .entry))) tag key (r .at) (r .next)) ⌝ }
-    ensures { λ r. ⌜ p ≤ r .at ⌝ }
-{
-    seek(s, p, tag, key)
-}
-
-// The same, and that up to where it ends no record has a greater tag.
-pub fn seek(s: &[u8], p: usize, tag: u8, key: u8) -> Hit
     ensures { λ r. ⌜ recordsAt (payload (now (s .entry))) p tag key ≡ hitsOf (payload (now (s .entry))) tag key r ⌝ }
     ensures { λ r. ⌜ (r .some ≡ true → RecordAt (payload (now (s .entry))) tag key (r .at) (r .next)) ⌝ }
     ensures { λ r. ⌜ p ≤ r .at ⌝ }
@@ -192,7 +197,7 @@ pub fn seek(s: &[u8], p: usize, tag: u8, key: u8) -> Hit
                     };
                 }
                 SearchStep::Skip => {
-                    q = q + k;
+                    q += k;
                 }
             },
         }

@@ -6,7 +6,7 @@ use mathlib.Core.List.{List, [], _∷_, _++_}
 use Prim.Native.Nat.{ℕ, zero, suc, _+_, _-_, _≤_, _<_}
 use native.Mathlib.Numerals.{add-one}
 use native.Mathlib.Omega.{arith}
-use lib.ListN.{length, take, drop, getD, length-drop}
+use lib.ListN.{length, take, drop, length-drop}
 use lib.Ieee.{Float}
 use Rattle.stream.specs.Payload.{payload}
 use Rattle.stream.specs.Contracts.Payload.{room}
@@ -16,7 +16,7 @@ use Rattle.records.specs.Laws.Tests.{or-cases}
 use Rattle.values.specs.Maybe.{none, some}
 use Rattle.scene.specs.Laws.Answers.{not-given, is-given}
 use Rattle.scene.specs.Laws.Rising.{same-eq}
-use Rattle.names.specs.Contracts.Table.{Table, NameFits, Unmarked, Contains, Inserted}
+use Rattle.names.specs.Contracts.Table.{Table, NewName, Unmarked, Contains, Inserted}
 use Rattle.register.specs.declared.controls.FilledBatch as code-filled
 use Rattle.register.specs.declared.mentions.Cursor.{Cursor}
 use Rattle.register.specs.declared.mentions.Mention as code-mention
@@ -56,16 +56,14 @@ module _ {more : ℕ} {l t : List ℕ} {n : ℕ} {m : Mention} where
       is-named x p = rw (e, p) (same-self (m .name))
 
 module _ (s : List ℕ) (more : ℕ) (m : code-mention.Mention) (h : MentionFits s more m) where
-  pub insertable : {t : List ℕ} {n : ℕ} → room s < 33554432 → n < length t → Table more (payload s) t n
-      → (m .at - 1 < 33554432) × NameFits more (payload s) (m .at - 1) × (m .len + more ≡ getD (payload s) (m .at - 1) 0) × (m .len + more ≤ 255) × (n < length t) × Table more (payload s) t n
-  insertable r k d = (
-    omega arith,
-    record { least = omega arith; fits = omega (arith, payload-length s) },
-    sym (h .prefix),
-    omega arith,
-    k,
-    d,
-  )
+  pub insertable : room s < 33554432 → NewName more (payload s) (m .at - 1) (m .len)
+  insertable r =
+      record {
+        low = omega arith;
+        stands = record { least = omega arith; fits = omega (arith, payload-length s) };
+        counted = sym (h .prefix);
+        short = omega arith;
+      }
 
   pub added-by : {t t′ : List ℕ} {n r : ℕ} → m .lat .some ≡ true → Inserted more (payload s) t t′ n r (bytesAt (payload s) (m .at - 1 + 1) (m .len))
       → Added more (payload s) t t′ n r (mentionBy (payload s) m)

@@ -1,6 +1,7 @@
--- The scene that a payload holds, with the fields of the source's scene.rs: each read off its record's bytes, from the tag on.
+-- The scene that a payload holds, with the fields of the source's scene.rs: each read off its record's bytes, from the
+-- tag on.
 use Prim.Native.Nat.{ℕ, zero, suc, _+_, _/_, _%_}
-use mathlib.Core.Bool.{Bool, true, false}
+use mathlib.Core.Bool.{Bool, false}
 use mathlib.Core.List.{List, [], _∷_, map}
 use lib.ListN.{getD}
 use lib.Dec.{eqb, ltb}
@@ -15,7 +16,8 @@ use Rattle.records.specs.Walk.{Entry, entries}
 use Rattle.records.specs.Search.{recordsOf}
 use Rattle.records.specs.Values.{flattenIn}
 
--- what the first of some records holds, if there is one: an option stands at most once, and so does an item's role of points
+-- what the first of some records holds, if there is one: an option stands at most once, and so does an item's role of
+-- points
 abbrev pub first : {A : Type 0} → (List ℕ → A) → List (List ℕ) → Maybe A
 first f [] = none
 first f (l ∷ ls) = some (f l)

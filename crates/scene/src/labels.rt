@@ -9,22 +9,25 @@ ghost use Rattle.scene.specs.Scene.{pointsAt};
 ghost use Rattle.values.specs.Maybe.{none};
 ghost use Rattle.scene.specs.Labels.{meanPoint, firstStart, meanOrStart, referencePoint, greater, consider, considerAt, itemKey, bestPlace, bestItem, pointOfLabel};
 ghost use Rattle.scene.specs.Contracts.Answers.{considerPlace, considerItem, maybePoint, keyBy, bestBy, pointsFrom, pathsFrom, placesAt, itemsAt, itemBy};
-use crate::names::label_at_equals;
-use crate::names::name_at_equals;
 use crate::fields::OptionalPoint;
 use crate::fields::point_at;
 use crate::fields::point_if;
+use crate::names::label_at_equals;
+use crate::names::name_at_equals;
 use crate::readers::Item;
 use crate::readers::next_item;
 use crate::readers::next_path;
 use crate::readers::next_place;
 use crate::readers::points_of;
+use records::NO_KEY;
+use records::ROLE_DRAWN;
+use records::TAG_ITEM;
+use records::TAG_PLACE;
 use records::find;
-use records::seek;
 use records::wide16;
 use values::Point;
 
-// Where in the source a label is defined. Of equal ones the first stays.
+// Where in the source a label is defined. Of two equal keys the first stays.
 pub struct Key {
     pub top: bool,
     pub line: u32,
@@ -32,7 +35,7 @@ pub struct Key {
     pub order: usize,
 }
 
-// Where `some` is false the other fields are free.
+// The best definition of a label so far, and its point. Where `some` is false the other fields are free.
 pub struct Best {
     pub some: bool,
     pub key: Key,
@@ -66,7 +69,7 @@ fn mean(s: &[u8], at: usize, count: u16) -> Point
 fn first_start(s: &[u8], p: usize) -> OptionalPoint
     ensures { λ r. ⌜ maybePoint r ≡ firstStart (pathsFrom (payload (now (s .entry))) p 0) ⌝ }
 {
-    let c = next_path(s, p, 0);
+    let c = next_path(s, p, ROLE_DRAWN);
     if !c.some {
         return OptionalPoint {
             some: false,
@@ -86,11 +89,12 @@ fn first_start(s: &[u8], p: usize) -> OptionalPoint
     point_if(s, true, c.start)
 }
 
+// The mean of the points that follow an item at p, else the start of its first path.
 fn mean_or_start(s: &[u8], p: usize) -> OptionalPoint
     ensures { λ r. ⌜ maybePoint r ≡ meanOrStart (pointsFrom (payload (now (s .entry))) p 0)
         (pathsFrom (payload (now (s .entry))) p 0) ⌝ }
 {
-    let ps = points_of(s, p, 0);
+    let ps = points_of(s, p, ROLE_DRAWN);
     if !ps.some {
         return first_start(s, p);
     }
@@ -132,7 +136,7 @@ fn is_greater(a: Key, b: Key) -> bool
     a.order > b.order
 }
 
-// Only a strictly greater key replaces.
+// A candidate, by its key: only a strictly greater one replaces the best.
 fn consider_point(b: Best, key: Key, x: f64, y: f64) -> Best
     ensures { λ r. ⌜ bestBy r ≡ consider (bestBy b) (keyBy key) (record { x = x; y = y }) ⌝ }
 {
@@ -144,13 +148,13 @@ fn consider_point(b: Best, key: Key, x: f64, y: f64) -> Best
     }
     Best {
         some: true,
-        key: key,
-        x: x,
-        y: y,
+        key,
+        x,
+        y,
     }
 }
 
-// The first place from q on, as the i-th.
+// The first place from q on, as the i-th, becomes a candidate.
 pub fn consider_place(s: &[u8], b: Best, q: usize, i: usize) -> Best
     ensures { λ r. ⌜ bestBy r ≡ considerPlace (bestBy b) i (placesAt (payload (now (s .entry))) q) ⌝ }
 {
@@ -188,7 +192,7 @@ fn best_place(s: &[u8], p: usize, at: usize, n: usize) -> BestPlace
     let mut q = p;
     let mut i = 0usize;
     loop {
-        let h = seek(s, q, 5, 0);
+        let h = find(s, q, TAG_PLACE, NO_KEY);
         if !h.some {
             return BestPlace { best: b, end: h.at };
         }
@@ -200,7 +204,7 @@ fn best_place(s: &[u8], p: usize, at: usize, n: usize) -> BestPlace
     }
 }
 
-// An item of the label: its reference point, if it has one.
+// The i-th item becomes a candidate, if it has a reference point.
 fn consider_reference(s: &[u8], b: Best, it: Item, i: usize) -> Best
     ensures { λ r. ⌜ bestBy r ≡ considerAt (bestBy b) (itemKey (itemBy (payload (now (s .entry))) it) i)
         (referencePoint (itemBy (payload (now (s .entry))) it)) ⌝ }
@@ -218,7 +222,7 @@ fn consider_reference(s: &[u8], b: Best, it: Item, i: usize) -> Best
     consider_point(b, key, spot.x, spot.y)
 }
 
-// The first item from q on, as the i-th.
+// The first item from q on, as the i-th, becomes a candidate.
 pub fn consider_item(s: &[u8], b: Best, q: usize, i: usize) -> Best
     ensures { λ r. ⌜ bestBy r ≡ considerItem (bestBy b) i (itemsAt (payload (now (s .entry))) q) ⌝ }
 {
@@ -229,7 +233,7 @@ pub fn consider_item(s: &[u8], b: Best, q: usize, i: usize) -> Best
     consider_reference(s, b, it, i)
 }
 
-// The best of these and of the items from p on.
+// The best of what was found among the places and of the items from p on, the label having n bytes at `at`.
 fn best_item(s: &[u8], p: usize, at: usize, n: usize, best: Best) -> Best
     requires { ⌜ at + n ≤ room (now s) ⌝ }
     ensures { λ r. ⌜ bestBy r ≡ bestItem (bytesAt (payload (now (s .entry))) at n) 0
@@ -239,7 +243,7 @@ fn best_item(s: &[u8], p: usize, at: usize, n: usize, best: Best) -> Best
     let mut q = p;
     let mut i = 0usize;
     loop {
-        let h = find(s, q, 6, 0);
+        let h = find(s, q, TAG_ITEM, NO_KEY);
         if !h.some {
             return b;
         }

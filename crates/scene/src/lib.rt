@@ -1,18 +1,14 @@
-// The scene that a stream holds. A position is one of the payload; a question that starts at a position asks of the records from there on.
-mod options;
+// The scene that a stream holds. A position is one of the payload; a question that starts at a position asks of the
+// records from there on.
+mod fields;
 mod labels;
 mod names;
-mod fields;
+mod options;
 mod readers;
 
-pub use options::FrameOption;
-pub use options::anchor;
-pub use options::bearing;
-pub use options::flatten;
-pub use options::frame;
-pub use options::rescale;
-pub use options::scale;
-pub use options::view_scale;
+pub use fields::OptionalFloat;
+pub use fields::OptionalPoint;
+pub use fields::point_at;
 pub use labels::Best;
 pub use labels::Key;
 pub use labels::consider_item;
@@ -21,9 +17,14 @@ pub use labels::point_of_label;
 pub use names::name_at_equals;
 pub use names::name_is;
 pub use names::names_equal;
-pub use fields::OptionalPoint;
-pub use fields::OptionalFloat;
-pub use fields::point_at;
+pub use options::FrameOption;
+pub use options::anchor;
+pub use options::bearing;
+pub use options::flatten;
+pub use options::frame;
+pub use options::rescale;
+pub use options::scale;
+pub use options::view_scale;
 pub use readers::Feature;
 pub use readers::FeatureName;
 pub use readers::Item;

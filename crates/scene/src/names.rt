@@ -28,7 +28,7 @@ pub fn names_equal(s: &[u8], p: usize, n: usize, q: usize, m: usize) -> bool
     true
 }
 
-// Whether the n bytes at p are these.
+// Whether the n bytes at p are those of `name`.
 pub fn name_is(s: &[u8], p: usize, n: usize, name: &[u8]) -> bool
     requires { ⌜ p + n ≤ room (now s) ⌝ }
     ensures { λ r. ⌜ r ≡ sameBytes (bytesAt (payload (now (s .entry))) p n) (now (name .entry)) ⌝ }
@@ -67,7 +67,7 @@ pub fn name_at_equals(s: &[u8], q: usize, at: usize, n: usize) -> bool
     names_equal(s, q + 1, wide(byte(s, 0, q)), at, n)
 }
 
-// The same of an item's label, none where its length is 0.
+// Whether the label that stands at q, its length first and 0 for none, is the n bytes at `at`.
 pub fn label_at_equals(s: &[u8], q: usize, at: usize, n: usize) -> bool
     requires { ⌜ (q + 1 + getD (payload (now s)) q 0 ≤ room (now s)) × (at + n ≤ room (now s)) ⌝ }
     ensures { λ r. ⌜ r ≡ labelIs (labelBy (payload (now (s .entry))) (q + 1)

@@ -5,15 +5,23 @@ ghost use Rattle.stream.specs.Payload.{payload};
 ghost use Rattle.records.specs.Contracts.Hits.{recordsAt};
 ghost use Rattle.scene.specs.Scene.{sceneOf, floatValueAt, first};
 ghost use Rattle.scene.specs.Contracts.Answers.{maybeFloat, maybePoint, frameBy};
-use crate::fields::OptionalPoint;
 use crate::fields::OptionalFloat;
+use crate::fields::OptionalPoint;
 use crate::fields::float_at;
-use crate::fields::point_if;
 use crate::fields::float_if;
+use crate::fields::point_if;
+use records::FLATTEN;
+use records::OPTION_ANCHOR;
+use records::OPTION_BEARING;
+use records::OPTION_FLATTEN;
+use records::OPTION_FRAME;
+use records::OPTION_SCALE;
+use records::OPTION_VIEW_SCALE;
+use records::TAG_OPTION;
 use records::find;
 use stream::byte;
 
-// Where `some` is false, `frame` is free.
+// The frame that the options name. Where `some` is false, `frame` is free.
 #[repr(C)]
 pub struct FrameOption {
     pub some: bool,
@@ -26,7 +34,7 @@ fn float_option(s: &[u8], option: u8) -> OptionalFloat
     requires { ⌜ 3 ≤ option ⌝ }
     ensures { λ r. ⌜ maybeFloat r ≡ first (λ b. floatValueAt b 2) (recordsAt (payload (now (s .entry))) 0 2 option) ⌝ }
 {
-    let h = find(s, 0, 2, option);
+    let h = find(s, 0, TAG_OPTION, option);
     if !h.some {
         return OptionalFloat {
             some: false,
@@ -39,36 +47,36 @@ fn float_option(s: &[u8], option: u8) -> OptionalFloat
 pub fn scale(s: &[u8]) -> OptionalFloat
     ensures { λ r. ⌜ maybeFloat r ≡ sceneOf (payload (now (s .entry))) .scale ⌝ }
 {
-    float_option(s, 3)
+    float_option(s, OPTION_SCALE)
 }
 
 pub fn bearing(s: &[u8]) -> OptionalFloat
     ensures { λ r. ⌜ maybeFloat r ≡ sceneOf (payload (now (s .entry))) .bearing ⌝ }
 {
-    float_option(s, 4)
+    float_option(s, OPTION_BEARING)
 }
 
 pub fn view_scale(s: &[u8]) -> OptionalFloat
     ensures { λ r. ⌜ maybeFloat r ≡ sceneOf (payload (now (s .entry))) .viewScale ⌝ }
 {
-    float_option(s, 6)
+    float_option(s, OPTION_VIEW_SCALE)
 }
 
-// 0.001 where the option is absent.
+// The tolerance of curves, FLATTEN where the option is absent.
 pub fn flatten(s: &[u8]) -> f64
     ensures { λ r. ⌜ r ≡ sceneOf (payload (now (s .entry))) .flatten ⌝ }
 {
-    let v = float_option(s, 5);
+    let v = float_option(s, OPTION_FLATTEN);
     if v.some {
         return v.value;
     }
-    0.001
+    FLATTEN
 }
 
 pub fn frame(s: &[u8]) -> FrameOption
     ensures { λ r. ⌜ frameBy r ≡ sceneOf (payload (now (s .entry))) .frame ⌝ }
 {
-    let h = find(s, 0, 2, 1);
+    let h = find(s, 0, TAG_OPTION, OPTION_FRAME);
     if !h.some {
         return FrameOption {
             some: false,
@@ -84,7 +92,7 @@ pub fn frame(s: &[u8]) -> FrameOption
 pub fn anchor(s: &[u8]) -> OptionalPoint
     ensures { λ r. ⌜ maybePoint r ≡ sceneOf (payload (now (s .entry))) .anchor ⌝ }
 {
-    let h = find(s, 0, 2, 2);
+    let h = find(s, 0, TAG_OPTION, OPTION_ANCHOR);
     if !h.some {
         return OptionalPoint {
             some: false,
@@ -95,6 +103,7 @@ pub fn anchor(s: &[u8]) -> OptionalPoint
     point_if(s, true, h.at + 2)
 }
 
+// The first record's float, 0 in a stream without a block.
 pub fn rescale(s: &[u8]) -> f64
     ensures { λ r. ⌜ r ≡ sceneOf (payload (now (s .entry))) .rescale ⌝ }
 {

@@ -8,23 +8,53 @@ ghost use lib.ListN.{drop};
 ghost use Rattle.records.specs.Contracts.Hits.{SkipsTo};
 ghost use Rattle.scene.specs.Scene.{itemAt};
 ghost use Rattle.scene.specs.Contracts.Answers.{Within, LengthPrefixed, PathWithin, featuresAt, featuresBy, featureBy, variablesAt, variablesBy, placesAt, placesBy, ItemRecordAt, itemsAt, itemBy, itemsBy, pointsFrom, pointsBy, pathsFrom, pathsBy};
-use crate::fields::OptionalPoint;
 use crate::fields::OptionalFloat;
-use crate::fields::has_bit;
+use crate::fields::OptionalPoint;
 use crate::fields::float_at;
-use crate::fields::point_if;
 use crate::fields::float_if;
+use crate::fields::has_bit;
+use crate::fields::point_if;
+use records::FORM_CUBICS;
+use records::NO_KEY;
+use records::TAG_FEATURE;
+use records::TAG_ITEM;
+use records::TAG_PATH;
+use records::TAG_PLACE;
+use records::TAG_POINTS;
+use records::TAG_VARIABLE;
 use records::find;
-use records::seek;
 use records::values_width;
 use records::wide;
 use stream::byte;
 use stream::u16_at;
 use stream::u32_at;
 
-// In each answer `some` says whether there is one; `next` is where to ask for the one after it. A name stands at `at` and takes `len` bytes.
-// Where `some` is false the other fields are free, except `next` of a FeatureName or a Variable: records of greater
-// tags stand from there on.
+// The weights of an item's flags.
+const HIDDEN: u8 = 1;
+
+const NESTED: u8 = 2;
+
+const CLOSED: u8 = 4;
+
+const FILL: u8 = 8;
+
+const SCREEN: u8 = 16;
+
+// The weights of a presence byte's bits. The values that are there stand in this order, so that one of weight k stands
+// behind those that the byte modulo k names.
+const HAS_AT: u8 = 1;
+
+const HAS_W: u8 = 2;
+
+const HAS_H: u8 = 4;
+
+const HAS_R: u8 = 8;
+
+const HAS_RAD: u8 = 16;
+
+// In each answer `some` says whether there is one; `next` is where to ask for the one after it. A name stands at `at`
+// and takes `len` bytes. Where `some` is false the other fields are free, except `next` of a FeatureName or a Variable:
+// records of greater tags stand from there on.
 #[repr(C)]
 pub struct Feature {
     pub some: bool,
@@ -86,7 +116,7 @@ pub struct Item {
     pub next: usize,
 }
 
-// Points stand at `at`, for `point`.
+// Points that follow an item: they stand at `at`, for `point_at`.
 #[repr(C)]
 pub struct Points {
     pub some: bool,
@@ -94,7 +124,8 @@ pub struct Points {
     pub count: u16,
 }
 
-// A curve starts at the point at `start` and has three points at `at` for each of its cubics; any other path has its points there.
+// A curve starts at the point at `start` and has three points at `at` for each of its cubics; any other path has its
+// points there.
 #[repr(C)]
 pub struct Path {
     pub some: bool,
@@ -114,7 +145,7 @@ pub fn next_name(s: &[u8], p: usize) -> FeatureName
     ensures { λ r. ⌜ SkipsTo (payload (now (s .entry))) 3 p (r .next) ⌝ }
     ensures { λ r. ⌜ (r .some ≡ true → LengthPrefixed (payload (now (s .entry))) (r .at) (r .len)) ⌝ }
 {
-    let h = seek(s, p, 3, 0);
+    let h = find(s, p, TAG_FEATURE, NO_KEY);
     if !h.some {
         return FeatureName {
             some: false,
@@ -167,7 +198,7 @@ pub fn next_variable(s: &[u8], p: usize) -> Variable
     ensures { λ r. ⌜ (r .some ≡ true → LengthPrefixed (payload (now (s .entry))) (r .at) (r .len)) ⌝ }
     ensures { λ r. ⌜ SkipsTo (payload (now (s .entry))) 4 p (r .next) ⌝ }
 {
-    let h = seek(s, p, 4, 0);
+    let h = find(s, p, TAG_VARIABLE, NO_KEY);
     if !h.some {
         return Variable {
             some: false,
@@ -193,7 +224,7 @@ pub fn next_place(s: &[u8], p: usize) -> Place
     ensures { λ r. ⌜ placesAt (payload (now (s .entry))) p ≡ placesBy (payload (now (s .entry))) r ⌝ }
     ensures { λ r. ⌜ (r .some ≡ true → Within (room (now (s .entry))) p (r .at) (r .len) (r .next)) ⌝ }
 {
-    let h = find(s, p, 5, 0);
+    let h = find(s, p, TAG_PLACE, NO_KEY);
     if !h.some {
         return Place {
             some: false,
@@ -234,24 +265,25 @@ fn item_at(s: &[u8], q: usize, n: usize, m: u8, next: usize) -> Item
     Item {
         some: true,
         kind: byte(s, 0, q + 1),
-        hidden: has_bit(flags, 1),
-        nested: has_bit(flags, 2),
-        closed: has_bit(flags, 4),
-        fill: has_bit(flags, 8),
-        screen: has_bit(flags, 16),
+        hidden: has_bit(flags, HIDDEN),
+        nested: has_bit(flags, NESTED),
+        closed: has_bit(flags, CLOSED),
+        fill: has_bit(flags, FILL),
+        screen: has_bit(flags, SCREEN),
         label: q + 4,
         len: n,
         line: u32_at(s, 0, q + 4 + n),
         col: u32_at(s, 0, q + 8 + n),
-        at: point_if(s, has_bit(m, 1), b),
-        w: float_if(s, has_bit(m, 2), b + values_width(has % 2)),
-        h: float_if(s, has_bit(m, 4), b + values_width(has % 4)),
-        r: float_if(s, has_bit(m, 8), b + values_width(has % 8)),
-        rad: float_if(s, has_bit(m, 16), b + values_width(has % 16)),
-        next: next,
+        at: point_if(s, has_bit(m, HAS_AT), b),
+        w: float_if(s, has_bit(m, HAS_W), b + values_width(has % 2)),
+        h: float_if(s, has_bit(m, HAS_H), b + values_width(has % 4)),
+        r: float_if(s, has_bit(m, HAS_R), b + values_width(has % 8)),
+        rad: float_if(s, has_bit(m, HAS_RAD), b + values_width(has % 16)),
+        next,
     }
 }
 
+// The answer that there is no item.
 fn no_item(next: usize) -> Item
     ensures { λ r. ⌜ (r .some ≡ false) × (r .next ≡ next) ⌝ }
 {
@@ -276,12 +308,12 @@ fn no_item(next: usize) -> Item
         len: 0,
         line: 0,
         col: 0,
-        at: at,
+        at,
         w: none,
         h: none,
         r: none,
         rad: none,
-        next: next,
+        next,
     }
 }
 
@@ -290,7 +322,7 @@ pub fn next_item(s: &[u8], p: usize) -> Item
     ensures { λ r. ⌜ itemsAt (payload (now (s .entry))) p ≡ itemsBy (payload (now (s .entry))) r ⌝ }
     ensures { λ r. ⌜ (r .some ≡ true → Within (room (now (s .entry))) p (r .label) (r .len) (r .next)) ⌝ }
 {
-    let h = find(s, p, 6, 0);
+    let h = find(s, p, TAG_ITEM, NO_KEY);
     if !h.some {
         return no_item(h.next);
     }
@@ -305,7 +337,7 @@ pub fn points_of(s: &[u8], p: usize, role: u8) -> Points
     ensures { λ r. ⌜ pointsFrom (payload (now (s .entry))) p role ≡ pointsBy (payload (now (s .entry))) r ⌝ }
     ensures { λ r. ⌜ (r .some ≡ true → r .at + 16 * r .count ≤ room (now (s .entry))) ⌝ }
 {
-    let h = find(s, p, 7, role);
+    let h = find(s, p, TAG_POINTS, role);
     if !h.some {
         return Points {
             some: false,
@@ -326,7 +358,7 @@ pub fn next_path(s: &[u8], p: usize, role: u8) -> Path
     ensures { λ r. ⌜ pathsFrom (payload (now (s .entry))) p role ≡ pathsBy (payload (now (s .entry))) role r ⌝ }
     ensures { λ r. ⌜ (r .some ≡ true → PathWithin (room (now (s .entry))) p r) ⌝ }
 {
-    let h = find(s, p, 8, role);
+    let h = find(s, p, TAG_PATH, role);
     if !h.some {
         return Path {
             some: false,
@@ -340,10 +372,10 @@ pub fn next_path(s: &[u8], p: usize, role: u8) -> Path
     }
     let at = h.at;
     let closed = byte(s, 0, at + 2) == 1;
-    if byte(s, 0, at + 3) == 0 {
+    if byte(s, 0, at + 3) == FORM_CUBICS {
         return Path {
             some: true,
-            closed: closed,
+            closed,
             curve: true,
             start: at + 4,
             at: at + 22,
@@ -353,7 +385,7 @@ pub fn next_path(s: &[u8], p: usize, role: u8) -> Path
     }
     Path {
         some: true,
-        closed: closed,
+        closed,
         curve: false,
         start: at + 6,
         at: at + 6,

@@ -1,4 +1,5 @@
--- Conditions with their numbers. A stream is refused by the first that holds, in the order of checking, which is not the order of the numbers.
+-- Conditions with their numbers. A stream is refused by the first that holds, in the order of checking, which is not
+-- the order of the numbers.
 use Prim.Native.Nat.{ℕ}
 use mathlib.Core.Path.{_≡_}
 use mathlib.Core.Bool.{Bool, false, cond}

@@ -1,4 +1,5 @@
--- The little-endian numbers that stand at p of a list of bytes. A NaN and an infinity are told apart from values here, and refused later.
+-- The little-endian numbers that stand at p of a list of bytes. A NaN and an infinity are told apart from values here,
+-- and refused later.
 use Prim.Native.Nat.{ℕ, _+_, _*_}
 use mathlib.Core.List.{List}
 use lib.ListN.{getD}

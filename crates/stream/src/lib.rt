@@ -6,16 +6,21 @@ ghost use lib.ListN.{length, getD};
 ghost use Rattle.stream.specs.Numbers.{u16At, u32At, u64At, floatAt};
 ghost use Rattle.stream.specs.Blocks.{checked};
 ghost use Rattle.stream.specs.Contracts.Blocks.{BlocksChecked};
-ghost use Rattle.stream.specs.Contracts.Payload.{room, streamOffset, rest, partFrom, oneBlock, IsContiguous};
+ghost use Rattle.stream.specs.Contracts.Payload.{room, streamOffset, rest, partFrom, oneBlock, AreContiguous};
 
 mod little_endian;
 
 pub use little_endian::float_of;
 
-// The bytes of a block, and how many of them come before its check.
+// The bytes of a block, how many of them come before its check, and how many words of four bytes these are.
 const BLOCK: usize = 512;
 
 pub const PAYLOAD: usize = 508;
+
+const WORDS: usize = 127;
+
+// A stream has so many blocks at most.
+const MAX_BLOCKS: usize = 65536;
 
 // What the blocks of a stream are found to be.
 pub enum Blocks {
@@ -47,7 +52,7 @@ fn check(s: &[u8], i: usize) -> bool
     let base = BLOCK * i;
     let mut sum = i as u32;
     let mut k = 0usize;
-    while k < 127 {
+    while k < WORDS {
         sum = std::num::wrapping_add_u32(sum, little_endian::u32_le(s, base + 4 * k));
         k += 1;
     }
@@ -65,7 +70,7 @@ pub fn check_blocks(s: &[u8]) -> Blocks
     if s.len() % BLOCK != 0 {
         return Blocks::Size;
     }
-    if n > 65536 {
+    if n > MAX_BLOCKS {
         return Blocks::Size;
     }
     let mut i = 0usize;
@@ -110,16 +115,17 @@ pub fn byte(part: &[u8], off: usize, i: usize) -> u8
     part[stream_offset(off + i)]
 }
 
-// Where the byte i stands, and whether the n bytes from it on lie in one block, with no check between them.
-pub fn contiguous_at(part: &[u8], off: usize, i: usize, n: usize) -> Contiguous
-    requires { ⌜ (off ≤ room (now part)) × (i + n ≤ length (rest (now part) off)) ⌝ }
+// Where the byte i stands, and whether the n bytes from it on lie in one block, with no check between them. Of every
+// part that has these bytes it says where they stand side by side.
+pub fn contiguous_at(off: usize, i: usize, n: usize) -> Contiguous
+    requires { ⌜ streamOffset (off + i) + n < 18446744073709551616 ⌝ }
     ensures { λ r. ⌜ (r .at ≡ streamOffset (off + i)) × (r .some ≡ oneBlock off i n) ⌝ }
-    ensures { λ r. ⌜ (r .some ≡ true → IsContiguous (now (part .entry)) off i n (r .at)) ⌝ }
+    ensures { λ r. ⌜ (r .some ≡ true → AreContiguous off i n (r .at)) ⌝ }
 {
     let at = stream_offset(off + i);
     Contiguous {
         some: at % BLOCK + n <= PAYLOAD,
-        at: at,
+        at,
     }
 }
 
@@ -130,7 +136,7 @@ pub fn u16_at(part: &[u8], off: usize, i: usize) -> u16
     little_endian::join16(byte(part, off, i), byte(part, off, i + 1))
 }
 
-// Four or eight bytes are read side by side where no check stands between them.
+// Four bytes are read side by side where no check stands between them, else as two numbers of two bytes.
 pub fn u32_at(part: &[u8], off: usize, i: usize) -> u32
     requires { ⌜ (off ≤ room (now part)) × (i + 4 ≤ length (rest (now part) off)) ⌝ }
     ensures { λ r. ⌜ r ≡ u32At (rest (now (part .entry)) off) i ⌝ }
@@ -142,7 +148,8 @@ pub fn u32_at(part: &[u8], off: usize, i: usize) -> u32
     little_endian::join32(u16_at(part, off, i), u16_at(part, off, i + 2))
 }
 
-// A caller that wants a float's value soon takes its bits from here and `float_of` itself: a number comes back in a register, an enum in memory.
+// Eight bytes, as `u32_at` reads four. A caller that wants a float's value soon takes its bits from here and `float_of`
+// itself: a number comes back in a register, an enum in memory.
 pub fn u64_at(part: &[u8], off: usize, i: usize) -> u64
     requires { ⌜ (off ≤ room (now part)) × (i + 8 ≤ length (rest (now part) off)) ⌝ }
     ensures { λ r. ⌜ r ≡ u64At (rest (now (part .entry)) off) i ⌝ }

@@ -6,7 +6,14 @@ ghost use lib.Ieee.{ofBits, binary64};
 ghost use Rattle.stream.specs.Numbers.{u16At, u32At, u64At, floatOf};
 use crate::Float64;
 
-// A number from its two halves.
+// The weights of a pattern's sign and of its exponent's lowest bit, and an exponent of all ones.
+const SIGN: u64 = 9223372036854775808;
+
+const EXPONENT: u64 = 4503599627370496;
+
+const ALL_ONES: u64 = 2047;
+
+// A number of two bytes from its halves; then those of four and of eight bytes.
 pub fn join16(low: u8, high: u8) -> u16
     ensures { λ r. ⌜ r ≡ low + 256 * high ⌝ }
 {
@@ -25,7 +32,7 @@ pub fn join64(low: u32, high: u32) -> u64
     low as u64 + 4294967296 * (high as u64)
 }
 
-// The numbers of two, four and eight bytes at p.
+// The number of two bytes at p; then those of four and of eight.
 pub fn u16_le(s: &[u8], p: usize) -> u16
     requires { ⌜ p + 2 ≤ length (now s) ⌝ }
     ensures { λ r. ⌜ r ≡ u16At (now (s .entry)) p ⌝ }
@@ -47,11 +54,11 @@ pub fn u64_le(s: &[u8], p: usize) -> u64
     join64(u32_le(s, p), u32_le(s, p + 4))
 }
 
-// A pattern's value. An exponent field of all ones is an infinity or a NaN.
+// A pattern's value. An exponent of all ones is an infinity or a NaN.
 pub fn float_of(bits: u64) -> Float64
     ensures { λ r. ⌜ r ≡ floatOf (ofBits binary64 bits) ⌝ }
 {
-    if bits % 9223372036854775808 / 4503599627370496 == 2047 {
+    if bits % SIGN / EXPONENT == ALL_ONES {
         Float64::NotFinite
     } else {
         Float64::Finite(f64::from_bits(bits))

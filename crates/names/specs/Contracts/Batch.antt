@@ -1,13 +1,15 @@
 -- What the marks of a table tell of its names, once all labels were met.
 use mathlib.Core.Path.{_≡_}
 use mathlib.Core.Logic.{_⊎_}
-use mathlib.Core.Bool.{Bool, true, false, not}
+use mathlib.Core.Bool.{true, false, not}
 use mathlib.Core.List.{List}
 use Prim.Native.Nat.{ℕ, _+_, _-_, _*_, _%_, _≤_, _<_}
 use lib.ListN.{length, getD}
 use lib.Dec.{eqb}
 use lib.Ieee.{Float}
 use Rattle.values.specs.Maybe.{isSome, Maybe, none, some}
+use Rattle.stream.specs.Payload.{payload}
+use Rattle.stream.specs.Contracts.Payload.{room}
 use Rattle.records.specs.Records.{bytesAt}
 use Rattle.scene.specs.declared.labels.Best as code-best
 use Rattle.values.specs.declared.Point.{Point}
@@ -19,7 +21,9 @@ use Rattle.names.specs.Contracts.Table.{nameOf, markOf, marked, Table}
 abbrev pub slotPoint : List Float → ℕ → Float → Point
 slotPoint spots m d = record { x = getD spots (2 * m - 2) d; y = getD spots (2 * m - 1) d }
 
--- Of the names of the first n entries of t, where the labels stand from p on: mark 0 is a name that nothing has, mark m from 1 to 64 one whose point is in slot m, mark 65 one that has a point as well, for which there was no slot left.
+-- What the marks of the first n entries of t tell of their names, where the labels stand from p on: mark 0 is a name
+-- that nothing has, mark m from 1 to 64 one whose point is in slot m, mark 65 one that has a point as well, for which
+-- there was no slot left.
 pub record LabelsMatched (more : ℕ) (l t t′ : List ℕ) (n : ℕ) (spots : List Float) (used p : ℕ) : Type 0 where
   pub names : (i : ℕ) → getD t′ i 0 % 33554432 ≡ getD t i 0 % 33554432
   pub table : Table more l t′ n
@@ -38,6 +42,18 @@ pub record Slots : Type 0 where
   pub keys : List ℕ
   pub spots : List Float
   pub used : ℕ
+
+-- there is room for 64 slots
+pub record SlotRoom (keys : List ℕ) (spots : List Float) : Type 0 where
+  pub keys-sized : length keys ≡ 256
+  pub spots-sized : length spots ≡ 128
+
+-- what a walk over the labels of a stream needs: the table of the first n entries of t, and the slots
+pub record Batch (more : ℕ) (s t : List ℕ) (n : ℕ) (keys : List ℕ) (spots : List Float) : Type 0 where
+  pub small : room s < 33554432
+  pub ending : more ≤ 4
+  pub table : Table more (payload s) t n
+  pub slots : SlotRoom keys spots
 
 abbrev pub slotsOf : List ℕ → List ℕ → List Float → ℕ → Slots
 slotsOf t keys spots used = record { t = t; keys = keys; spots = spots; used = used }
@@ -72,7 +88,7 @@ pub record SlotSet (keys keys′ : List ℕ) (spots spots′ : List Float) (m : 
   pub is : (d : Float) → slotAt keys′ spots′ m d ≡ record { key = keyBy (b .key); at = record { x = b .x; y = b .y } }
   pub others : (j : ℕ) → (j ≡ m → ⊥) → (d : Float) → slotAt keys′ spots′ j d ≡ slotAt keys spots j d
 
--- of the first n entries, bs being what the plain search has found for their names
+-- the slots hold bs, what the plain search has found for the names of the first n entries
 pub record SlotsHold (n : ℕ) (z : Slots) (bs : ℕ → Maybe Best) : Type 0 where
   pub few : z .used ≤ 64
   pub most : (i : ℕ) → i < n → markOf (getD (z .t) i 0) ≤ 65

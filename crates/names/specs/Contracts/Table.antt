@@ -1,4 +1,5 @@
--- A table of names: entries, each the position of a name's length in the payload, in the order of the names, none twice. Lengths are `more` too great: 4 where the names are those of `_lon` variables without their ending.
+-- A table of names: entries, each the position of a name's length in the payload, in the order of the names, none
+-- twice. Lengths are `more` too great: 4 where the names are those of `_lon` variables without their ending.
 use mathlib.Core.Path.{_≡_}
 use mathlib.Core.Logic.{_⊎_}
 use mathlib.Core.Bool.{Bool, true, false, cond}
@@ -6,6 +7,7 @@ use mathlib.Core.List.{List, _∷_}
 use Prim.Native.Nat.{ℕ, zero, suc, _+_, _-_, _/_, _%_, _≤_, _<_}
 use lib.ListN.{length, getD}
 use lib.Dec.{eqb}
+use Rattle.stream.specs.Contracts.Payload.{room}
 use Rattle.records.specs.Layout.{before}
 use Rattle.records.specs.Records.{bytesAt}
 use Rattle.scene.specs.Labels.{sameBytes}
@@ -32,6 +34,18 @@ orderOf a b = cond (sameBytes a b) 1 (cond (before (keyOf a) (keyOf b)) 0 2)
 pub record NameFits (more : ℕ) (l : List ℕ) (p : ℕ) : Type 0 where
   pub least : more ≤ getD l p 0
   pub fits : p + 9 + (getD l p 0 - more) ≤ length l
+
+-- the n bytes behind p, to be looked for: they lie within, with eight more behind them
+pub record NameQuery (s : List ℕ) (p n more : ℕ) : Type 0 where
+  pub fits : p + 9 + n ≤ room s
+  pub short : n + more ≤ 255
+
+-- the name of n bytes whose length stands at p can become an entry
+pub record NewName (more : ℕ) (l : List ℕ) (p n : ℕ) : Type 0 where
+  pub low : p < 33554432
+  pub stands : NameFits more l p
+  pub counted : n + more ≡ getD l p 0
+  pub short : n + more ≤ 255
 
 -- the first n entries of t
 pub record Table (more : ℕ) (l t : List ℕ) (n : ℕ) : Type 0 where

@@ -16,6 +16,6 @@ be64At l p = 4294967296 * be32At l p + be32At l (p + 4)
 unfoldable pub wordOf : List ℕ → ℕ → ℕ → ℕ
 wordOf l p v = be64At l p % 72057594037927936 + v * 72057594037927936
 
--- of eight bytes a name's length and its first bytes, where it has n
+-- what of eight bytes is a name's length and its first bytes, where the name has n
 abbrev pub frontOf : ℕ → ℕ → ℕ
 frontOf x n = x / 2 ^ (8 * (7 - n))

@@ -36,7 +36,7 @@ before-else (x ∷ xs) (y ∷ ys) h k =
           ]
     ]
 
--- keys are the sameBytes where names are
+-- keys have the same bytes where names have
 pub same-keys : (a b : List ℕ) → sameBytes (keyOf a) (keyOf b) ≡ sameBytes a b
 unfolding sameBytes
 same-keys a b =
@@ -55,7 +55,7 @@ same-keys a b =
 pub key-else : (a b : List ℕ) → sameBytes a b ≡ false → before (keyOf a) (keyOf b) ≡ false → before (keyOf b) (keyOf a) ≡ true
 key-else a b h k = before-else (keyOf a) (keyOf b) (same-keys a b ∙ h) k
 
--- of two names, the one that comes before the other is not the sameBytes
+-- a name that comes before another has not the same bytes
 pub key-not-same : (a b : List ℕ) → before (keyOf a) (keyOf b) ≡ true → (sameBytes a b ≡ false) × (sameBytes b a ≡ false)
 key-not-same a b h =
     let d = before-not-same (keyOf a) (keyOf b) h in

@@ -11,6 +11,11 @@ use Rattle.records.specs.Records.{recordOf}
 use Rattle.records.specs.Walk.{tagOf, entries}
 use Rattle.records.specs.Search.{keyOf, recordsOf}
 
+-- the record r stands at the front of l
+pub record Stands (l : List ℕ) (r : Record) : Type 0 where
+  pub size : ℕ
+  pub got : recordOf l ≡ Got r size
+
 -- from position p of a payload on
 abbrev pub recordsAt : List ℕ → ℕ → ℕ → ℕ → List (List ℕ)
 recordsAt l p t k = recordsOf t k (entries (drop p l) 0)

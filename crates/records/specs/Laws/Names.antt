@@ -18,7 +18,7 @@ pub part-at : (l : List ℕ) (p n i : ℕ) → i < n → getD (bytesAt l p n) i 
 unfolding bytesAt
 part-at l p n i h = rw (getD-take, getD-drop)
 
--- the same of a stream's payload, and of the byte that the code read
+-- in a stream's payload, by the byte that the code read
 module _ (s : List ℕ) (p n : ℕ) where
   pub name-length : p + n ≤ room s → length (bytesAt (payload s) p n) ≡ n
   name-length h = part-length (payload s) p n (omega (arith, payload-length s))

@@ -1,4 +1,5 @@
--- The definitions on known bytes: a record of each tag, the same cut off by a byte, and for each rule a record that breaks it.
+-- The definitions on known bytes: a record of each tag, the same cut off by a byte, and for each rule a record that
+-- breaks it.
 use mathlib.Core.Path.{_≡_, refl}
 use mathlib.Core.List.{List, [], _∷_, _++_, map}
 use Prim.Native.Nat.{ℕ, _-_}

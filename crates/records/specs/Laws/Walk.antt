@@ -1,4 +1,5 @@
--- The records of a payload one record further, for any fold over them: what stands at a position, and what is left behind it.
+-- The records of a payload one record further, for any fold over them: what stands at a position, and what is left
+-- behind it.
 use mathlib.Core.Path.{_≡_, refl, sym, ap, subst, _∙_}
 use mathlib.Core.List.{List, [], _∷_}
 use mathlib.Core.Bool.{true, false}
@@ -99,7 +100,7 @@ unfolding ends
 ends-bad [] e = refl
 ends-bad (x ∷ xs) e = rw e refl
 
--- ---- the same at position p of a list: a pass goes from p to p + k
+-- ---- at position p of a list: a pass goes from p to p + k
 module _ (l : List ℕ) (p : ℕ) {r : Record} {k : ℕ} (e : recordOf (drop p l) ≡ Got r k) where
   pub entries-on : entries (drop p l) 0 ≡ record { bytes = drop p l; parsed = r } ∷ entries (drop (p + k) l) 0
   entries-on = rw (← drop-drop k p l) (entries-got (drop p l) e)

@@ -56,7 +56,7 @@ pointsFrom l p role = first (λ b. pointsAt b 4 (u16At b 2)) (recordsAt l p 7 ro
 abbrev pub pathsFrom : List ℕ → ℕ → ℕ → List DrawnPath
 pathsFrom l p role = map pathAt (recordsAt l p 8 role)
 
--- ---- the same lists by an answer: its own entry, then those from where the next is asked for
+-- ---- these lists by an answer: its own entry, then those from where the next is asked for
 abbrev pub featuresBy : List ℕ → Feature → List NamedFeature
 featuresBy l r = cond (r .some) (record { name = bytesAt l (r .at) (r .len); lon = r .lon; lat = r .lat } ∷ featuresAt l (r .next)) []
 

@@ -1,4 +1,5 @@
--- What an answer decides of a fold over the list that it was asked for: it ends there, or goes on from where the next is asked for.
+-- What an answer decides of a fold over the list that it was asked for: it ends there, or goes on from where the next
+-- is asked for.
 use mathlib.Core.Path.{_≡_, refl, ap, _∙_}
 use mathlib.Core.Logic.{_⊎_, inl, inr}
 use mathlib.Core.Bool.{Bool, true, false, not}

@@ -1,4 +1,5 @@
--- What an answer of `find` says: of the records that a question asks for, each read by f, and of where the one that was found lies.
+-- What an answer of `find` says: of the records that a question asks for, each read by f, and of where the one that was
+-- found lies.
 use mathlib.Core.Path.{_≡_, refl, sym, subst, _∙_}
 use mathlib.Core.Logic.{⊎-elim}
 use mathlib.Core.Bool.{true, false, not}
@@ -31,14 +32,7 @@ nothing e = absurd (subst T (sym e) tt)
 
 -- what `find` ensures
 abbrev pub Answer : List ℕ → ℕ → ℕ → ℕ → Hit → Type 0
-Answer s p t k h = (recordsAt (payload s) p t k ≡ hitsOf (payload s) t k h) × ((h .some ≡ true → RecordAt (payload s) t k (h .at) (h .next)) × (p ≤ h .at))
-
--- and `seek`
-abbrev pub Sought : List ℕ → ℕ → ℕ → ℕ → Hit → Type 0
-Sought s p t k h = (recordsAt (payload s) p t k ≡ hitsOf (payload s) t k h) × ((h .some ≡ true → RecordAt (payload s) t k (h .at) (h .next)) × ((p ≤ h .at) × SkipsTo (payload s) t p (h .at)))
-
-pub answer : (s : List ℕ) (p t k : ℕ) (h : Hit) → Sought s p t k h → Answer s p t k h
-answer s p t k h a = (a .0, (a .1 .0, a .1 .1 .0))
+Answer s p t k h = (recordsAt (payload s) p t k ≡ hitsOf (payload s) t k h) × ((h .some ≡ true → RecordAt (payload s) t k (h .at) (h .next)) × ((p ≤ h .at) × SkipsTo (payload s) t p (h .at)))
 
 -- a record of tag t and key k was found from p on
 pub record One (s : List ℕ) (p t k : ℕ) (h : Hit) : Type 0 where
@@ -54,7 +48,7 @@ module _ (s : List ℕ) (p t k : ℕ) (h : Hit) (a : Answer s p t k h) where
   one-found n =
       let m = not-false (h .some) n in
       let o = a .1 .0 m in
-      record { all = rw (a .0, m) refl; stands = o; from = a .1 .1; more = standing-less o; fits = omega (arith, standing-fits o, payload-length s) }
+      record { all = rw (a .0, m) refl; stands = o; from = a .1 .1 .0; more = standing-less o; fits = omega (arith, standing-fits o, payload-length s) }
 
   module _ {A : Type 0} (f : List ℕ → A) (n : not (h .some) ≡ true) where
     pub none-listed : map f (recordsAt (payload s) p t k) ≡ []

@@ -1,4 +1,5 @@
--- What condition 4 leaves of a scene: every place and every measure of an item is at most 1,000,000 in magnitude, and so is each point that a label names. Assumes nothing.
+-- What condition 4 leaves of a scene: every place and every measure of an item is at most 1,000,000 in magnitude, and
+-- so is each point that a label names. Assumes nothing.
 use mathlib.Core.Path.{_≡_, refl, sym, subst}
 use mathlib.Core.Bool.{Bool, true, false, _&&_, cond, false≢true}
 use mathlib.Core.List.{List, [], _∷_, map}
@@ -315,7 +316,7 @@ point-of : (b : Maybe Best) → Holds AtNear b → Holds NearPoint (pointOf b)
 point-of none h = tt
 point-of (some b) h = h
 
--- of a scene whose points are onCanvas
+-- a scene whose points are on the canvas
 pub record NearScene (sc : Scene) : Type 0 where
   pub places : Each (λ p. NearPoint (p .at)) (sc .places)
   pub items : Each NearItem (sc .items)

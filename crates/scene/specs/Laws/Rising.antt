@@ -1,4 +1,5 @@
--- The variables of a payload that is laid out stand in the order of their names, and what follows for a name that is looked for among them.
+-- The variables of a payload that is laid out stand in the order of their names, and what follows for a name that is
+-- looked for among them.
 use mathlib.Core.Path.{_≡_, refl, sym, _∙_}
 use mathlib.Core.Logic.{_⊎_, inl, inr, ⊎-elim}
 use mathlib.Core.Bool.{Bool, true, false, _&&_, and-false, or-true, true≢false, false≢true}

@@ -1,4 +1,5 @@
--- The definitions on known scenes: rows 7 and 8 of document 01's table, and what else decides which point a label names.
+-- The definitions on known scenes: rows 7 and 8 of document 01's table, and what else decides which point a label
+-- names.
 use mathlib.Core.Path.{_≡_, refl}
 use mathlib.Core.List.{List, [], _∷_, _++_}
 use Prim.Native.Nat.{ℕ}

@@ -1,4 +1,4 @@
--- What an answer of `judge` stands for: document 01's number, and how many blocks it counts.
+-- What an answer of `check_blocks` stands for: document 01's number, and how many blocks it counts.
 use Prim.Native.Nat.{ℕ, _/_}
 use mathlib.Core.Path.{_≡_}
 use mathlib.Core.Bool.{cond}

@@ -31,3 +31,7 @@ oneBlock off i n = leb ((off + i) % 508 + n) 508
 pub record IsContiguous (s : List ℕ) (off i n at : ℕ) : Type 0 where
   pub fits : at + n ≤ length s
   pub same : (k : ℕ) → k < n → getD s (at + k) 0 ≡ getD (rest s off) (i + k) 0
+
+-- they do so in every part that has these bytes
+abbrev pub AreContiguous : ℕ → ℕ → ℕ → ℕ → Type 0
+AreContiguous off i n at = (s : List ℕ) → off ≤ room s → i + n ≤ length (rest s off) → IsContiguous s off i n at

@@ -11,7 +11,7 @@ use Rattle.stream.specs.Laws.Numbers.{Bytes}
 use Rattle.stream.specs.Payload.{payloads, payload}
 use Rattle.stream.specs.Contracts.Payload.{room, streamOffset, rest, partFrom}
 
--- ---- of the first n blocks
+-- ---- the first n blocks
 payloads-length : (n : ℕ) (s : List ℕ) → 512 * n ≤ length s → length (payloads n s) ≡ 508 * n
 unfolding payloads
 payloads-length zero s h = refl
@@ -57,7 +57,7 @@ payloads-drop (suc k) n s h =
     let f : 512 + 512 * k ≡ 512 * suc k = omega arith in
     rw (suc-add, e, drop-append-add) (payloads-drop k n (drop 512 s) r ∙ ap (payloads n) (drop-drop (512 * k) 512 s ∙ ap (λ (m : ℕ). drop m s) f))
 
--- ---- of a stream, or of a part
+-- ---- a stream, or a part
 pub payload-length : (s : List ℕ) → length (payload s) ≡ room s
 unfolding payload
 payload-length s = payloads-length (length s / 512) s (omega arith)

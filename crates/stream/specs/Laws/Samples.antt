@@ -16,7 +16,7 @@ first = replicate 508 1 ++ replicate 4 127
 abbrev second : List ℕ
 second = replicate 508 3 ++ replicate 4 126
 
--- the same without the index: 0x17e7e7e7d
+-- the sum without the index: 0x17e7e7e7d
 abbrev unindexed : List ℕ
 unindexed = replicate 508 3 ++ (125 ∷ replicate 3 126)
 

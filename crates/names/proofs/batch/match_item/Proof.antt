@@ -30,7 +30,7 @@ find-name-requires c κs =
     let c1 = c .before .before .before in
     let o = c1 .before .before .before .before .before in
     let e = length-is (o .args .s .now) _ (c1 .byte .ensures) (c .before .before .wide .ensures .0) in
-    (omega arith, omega arith, o .pre .3)
+    (omega arith, omega arith, o .pre .2 .table)
 
 same-length : tie.Need-same-length
 same-length c = search needs
@@ -48,7 +48,7 @@ mul-best-of c =
     let c1 = c .before .before .before .before in
     let o = c1 .before .before .before .before .before .before .before .before .before in
     let h = c1 .find-name .ensures .within (not-false _ (c .before .before .if2 .left)) in
-    let f = o .pre .3 .fits in
+    let f = o .pre .2 .table .fits in
     search needs
 
 slice-read-best-of : tie.Need-slice-read-best-of
@@ -57,7 +57,7 @@ slice-read-best-of c =
     let c2 = c1 .before .before in
     let o = c2 .before .before .before .before .before .before .before .before .before in
     let h = c2 .find-name .ensures .within (not-false _ (c1 .if2 .left)) in
-    let f = o .pre .3 .fits in
+    let f = o .pre .2 .table .fits in
     omega arith
 
 cast-best-of : tie.Need-cast-best-of
@@ -77,8 +77,8 @@ store-best-requires c κs =
     let c4 = c3 .before .before in
     let o = c4 .before .before .before .before .before .before .before .before .before in
     let h = c4 .find-name .ensures .within (not-false _ (c3 .if2 .left)) in
-    let f = o .pre .3 .fits in
-    (omega arith, o .pre .4, o .pre .5, new-order (c1 .consider-item .result) (c2 .best-of .ensures) (item-steps (payload (o .args .s .now)) (o .args .q) _ (o .pre .2)) (c1 .consider-item .ensures))
+    let f = o .pre .2 .table .fits in
+    (omega arith, o .pre .2 .slots, new-order (c1 .consider-item .result) (c2 .best-of .ensures) (item-steps (payload (o .args .s .now)) (o .args .q) _ (o .pre .1)) (c1 .consider-item .ensures))
 
 same-length-2 : tie.Need-same-length-2
 same-length-2 c = search needs
@@ -100,7 +100,7 @@ returns-3 c =
     let c7 = c6 .before in
     let c8 = c7 .before in
     let o = c8 .before .before .before .before .before in
-    met-one (slotsOf (o .args .t .now) (o .args .keys .now) (o .args .spots .now) (o .args .used)) (item-touches _ (o .args .q) (o .args .i) (length-is (o .args .s .now) _ (c8 .byte .ensures) (c7 .wide .ensures .0)) (c6 .if1 .left)) (o .pre .3) _ (c5 .find-name .ensures .within (not-false _ (c4 .if2 .left))) (c5 .find-name .ensures .is (not-false _ (c4 .if2 .left))) (c3 .best-of .result) (c2 .consider-item .result) (c3 .best-of .ensures) (item-steps (payload (o .args .s .now)) (o .args .q) _ (o .pre .2)) (c2 .consider-item .ensures) (c1 .store-best .ensures)
+    met-one (slotsOf (o .args .t .now) (o .args .keys .now) (o .args .spots .now) (o .args .used)) (item-touches _ (o .args .q) (o .args .i) (length-is (o .args .s .now) _ (c8 .byte .ensures) (c7 .wide .ensures .0)) (c6 .if1 .left)) (o .pre .2 .table) _ (c5 .find-name .ensures .within (not-false _ (c4 .if2 .left))) (c5 .find-name .ensures .is (not-false _ (c4 .if2 .left))) (c3 .best-of .result) (c2 .consider-item .result) (c3 .best-of .ensures) (item-steps (payload (o .args .s .now)) (o .args .q) _ (o .pre .1)) (c2 .consider-item .ensures) (c1 .store-best .ensures)
 
 pub match-item-spec : {M : Type 1} → statement M
 match-item-spec =

@@ -1,5 +1,5 @@
 use borrow.Author.Needs.{needs}
-use mathlib.Core.Path.{refl, _∙_}
+use mathlib.Core.Path.{refl}
 use Prim.Native.Nat.{ℕ, _+_, _-_, _≤_}
 use native.Mathlib.Omega.{arith}
 use mathlib.Core.List.{List}
@@ -12,7 +12,7 @@ use Rattle.records.specs.Laws.Search.{ItemFound, standing-tells}
 use Rattle.scene.specs.Laws.Found.{One, one-found}
 use Rattle.scene.specs.Laws.Items.{label-ends}
 use Rattle.names.specs.Contracts.Batch.{slotsOf, itemsStep}
-use Rattle.names.proofs.Walking.{Walk, walk-start, walk-on, walk-end, table-same, itemsFrom, items-all, items-none, items-one}
+use Rattle.names.proofs.Walking.{Walk, walk-start, walk-on, walk-end, batch-same, itemsFrom, items-all, items-none, items-one}
 use Rattle.names.proofs.batch.match_items.Statement.{statement}
 use Rattle.names.proofs.batch.match_items.Tie as tie
 
@@ -61,7 +61,7 @@ match-item-requires c κs =
     let m = short o (standing-tells (o .stands)) in
     let w = c2 .loop .inv .1 .met .stays in
     let i = c2 .loop .inv .0 in
-    (omega arith, omega arith, omega (arith, o), table-same (c3 .pre .2) w, w .keys ∙ c3 .pre .3, w .spots ∙ c3 .pre .4)
+    (record { fits = omega arith; short = omega arith }, omega (arith, o), batch-same (c3 .pre) w)
 
 add-i : tie.Need-add-i Inv-loop μ-loop
 add-i c =

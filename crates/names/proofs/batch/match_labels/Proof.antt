@@ -1,6 +1,5 @@
 use borrow.Author.Needs.{needs}
-use mathlib.Core.Path.{_∙_}
-use Rattle.names.proofs.Walking.{table-same, noted}
+use Rattle.names.proofs.Walking.{batch-same, noted}
 use Rattle.names.proofs.batch.match_labels.Statement.{statement}
 use Rattle.names.proofs.batch.match_labels.Tie as tie
 
@@ -13,7 +12,7 @@ match-items-requires c κs =
     let c2 = c1 .before .before .before .before .before .before .before .before in
     let o = c2 .pre in
     let w = c1 .match-places .ensures .0 .stays in
-    (o .0, o .1, table-same (o .2) w, w .keys ∙ o .4, w .spots ∙ o .5)
+    batch-same (o .0) w
 
 same-length : tie.Need-same-length
 same-length c = search needs
@@ -30,7 +29,7 @@ returns c =
     let c2 = c1 .before .before .before .before .before .before .before .before .before .before in
     let o = c2 .before .before .before .before .before .before .before .before in
     let v = c2 .match-places in
-    noted (o .args .more) _ (o .args .t .now) (o .args .count) (o .args .p) (v .result .end) (o .pre .2) (o .pre .3) (v .ensures .0) (v .ensures .1) (c1 .match-items .ensures)
+    noted (o .args .more) _ (o .args .t .now) (o .args .count) (o .args .p) (v .result .end) (o .pre .0 .table) (o .pre .1) (v .ensures .0) (v .ensures .1) (c1 .match-items .ensures)
 
 pub match-labels-spec : {M : Type 1} → statement M
 match-labels-spec =

@@ -24,7 +24,7 @@ find-name-requires : tie.Need-find-name-requires
 find-name-requires c κs =
     let o = c .before .before .before .before .before .before .before in
     let e = length-is (o .args .s .now) _ (c .before .before .byte .ensures) (c .before .wide .ensures .0) in
-    (omega arith, omega arith, o .pre .3)
+    (omega arith, omega arith, o .pre .2 .table)
 
 same-length : tie.Need-same-length
 same-length c = search needs
@@ -41,7 +41,7 @@ mul-best-of c =
     let c1 = c .before .before .before .before in
     let o = c1 .before .before .before .before .before .before .before .before in
     let h = c1 .find-name .ensures .within (not-false _ (c .before .before .if1 .left)) in
-    let f = o .pre .3 .fits in
+    let f = o .pre .2 .table .fits in
     search needs
 
 slice-read-best-of : tie.Need-slice-read-best-of
@@ -50,7 +50,7 @@ slice-read-best-of c =
     let c2 = c1 .before .before in
     let o = c2 .before .before .before .before .before .before .before .before in
     let h = c2 .find-name .ensures .within (not-false _ (c1 .if1 .left)) in
-    let f = o .pre .3 .fits in
+    let f = o .pre .2 .table .fits in
     omega arith
 
 cast-best-of : tie.Need-cast-best-of
@@ -70,8 +70,8 @@ store-best-requires c κs =
     let c4 = c3 .before .before in
     let o = c4 .before .before .before .before .before .before .before .before in
     let h = c4 .find-name .ensures .within (not-false _ (c3 .if1 .left)) in
-    let f = o .pre .3 .fits in
-    (omega arith, o .pre .4, o .pre .5, new-order (c1 .consider-place .result) (c2 .best-of .ensures) (place-steps (payload (o .args .s .now)) (o .args .q) _ (o .pre .2)) (c1 .consider-place .ensures))
+    let f = o .pre .2 .table .fits in
+    (omega arith, o .pre .2 .slots, new-order (c1 .consider-place .result) (c2 .best-of .ensures) (place-steps (payload (o .args .s .now)) (o .args .q) _ (o .pre .1)) (c1 .consider-place .ensures))
 
 same-length-2 : tie.Need-same-length-2
 same-length-2 c = search needs
@@ -92,7 +92,7 @@ returns-2 c =
     let c6 = c5 .before .before in
     let c7 = c6 .before in
     let o = c7 .before .before .before .before .before in
-    met-one (slotsOf (o .args .t .now) (o .args .keys .now) (o .args .spots .now) (o .args .used)) (place-touches _ (o .args .q) (o .args .i) (length-is (o .args .s .now) _ (c7 .byte .ensures) (c6 .wide .ensures .0))) (o .pre .3) _ (c5 .find-name .ensures .within (not-false _ (c4 .if1 .left))) (c5 .find-name .ensures .is (not-false _ (c4 .if1 .left))) (c3 .best-of .result) (c2 .consider-place .result) (c3 .best-of .ensures) (place-steps (payload (o .args .s .now)) (o .args .q) _ (o .pre .2)) (c2 .consider-place .ensures) (c1 .store-best .ensures)
+    met-one (slotsOf (o .args .t .now) (o .args .keys .now) (o .args .spots .now) (o .args .used)) (place-touches _ (o .args .q) (o .args .i) (length-is (o .args .s .now) _ (c7 .byte .ensures) (c6 .wide .ensures .0))) (o .pre .2 .table) _ (c5 .find-name .ensures .within (not-false _ (c4 .if1 .left))) (c5 .find-name .ensures .is (not-false _ (c4 .if1 .left))) (c3 .best-of .result) (c2 .consider-place .result) (c3 .best-of .ensures) (place-steps (payload (o .args .s .now)) (o .args .q) _ (o .pre .1)) (c2 .consider-place .ensures) (c1 .store-best .ensures)
 
 pub match-place-spec : {M : Type 1} → statement M
 match-place-spec =

@@ -8,9 +8,9 @@ use Rattle.stream.specs.Contracts.Payload.{room}
 use Rattle.records.specs.Laws.Search.{standing-tells}
 use Rattle.scene.specs.Scene.{itemAt}
 use Rattle.scene.specs.Contracts.Answers.{itemsAt}
-use Rattle.scene.specs.Laws.Found.{answer, One, one-found, beyond, named}
+use Rattle.scene.specs.Laws.Found.{One, one-found, beyond, named}
 use Rattle.names.specs.Contracts.Batch.{slotsOf, placesStep}
-use Rattle.names.proofs.Walking.{Walk, walk-start, walk-on, walk-end, table-same, placesFrom, places-all, places-none, places-one}
+use Rattle.names.proofs.Walking.{Walk, walk-start, walk-on, walk-end, batch-same, placesFrom, places-all, places-none, places-one}
 use Rattle.names.proofs.batch.match_places.Statement.{statement}
 use Rattle.names.proofs.batch.match_places.Tie as tie
 
@@ -23,14 +23,14 @@ Inv-loop s p t₀ count more keys₀ spots₀ used₀ q₀ i₀ t keys spots use
 abbrev μ-loop : tie.MeasureT-loop
 μ-loop s p t₀ count more keys₀ spots₀ used₀ q₀ i₀ t keys spots used q i = room s - q
 
-one : (w : tie.Else1 Inv-loop μ-loop) → let v = w .before .before in One (v .before .before .before .before .before .before .args .s .now) (v .before .loop .q) 5 0 (v .seek .result)
-one w = let v = w .before .before in one-found _ (v .before .loop .q) _ _ _ (answer _ (v .before .loop .q) _ _ _ (v .seek .ensures)) (w .if1 .left)
+one : (w : tie.Else1 Inv-loop μ-loop) → let v = w .before .before in One (v .before .before .before .before .before .before .args .s .now) (v .before .loop .q) 5 0 (v .find .result)
+one w = let v = w .before .before in one-found _ (v .before .loop .q) _ _ _ (v .find .ensures) (w .if1 .left)
 
 loop-holds : tie.Need-loop-holds Inv-loop μ-loop
 loop-holds c = (omega arith, refl, walk-start _ (places-all _ _))
 
-seek-requires : tie.Need-seek-requires Inv-loop μ-loop
-seek-requires c κs = search needs
+find-requires : tie.Need-find-requires Inv-loop μ-loop
+find-requires c κs = search needs
 
 same-length : tie.Need-same-length Inv-loop μ-loop
 same-length c = c .before .before .before .loop .inv .2 .met .stays .size
@@ -44,7 +44,7 @@ same-length-3 c = c .before .before .before .loop .inv .2 .met .stays .spots
 returns : tie.Need-returns Inv-loop μ-loop
 returns c =
     let c1 = c .before .before .before in
-    (walk-end (c1 .loop .inv .2) (places-none _ (c1 .loop .q) (c1 .loop .i) (c .before .before .seek .result) (answer _ (c1 .loop .q) _ _ _ (c .before .before .seek .ensures)) (c .if1 .taken)), c1 .loop .inv .1 ∙ ap (map itemAt) (c .before .before .seek .ensures .1 .1 .1 6 0 (omega arith) (omega arith)))
+    (walk-end (c1 .loop .inv .2) (places-none _ (c1 .loop .q) (c1 .loop .i) (c .before .before .find .result) (c .before .before .find .ensures) (c .if1 .taken)), c1 .loop .inv .1 ∙ ap (map itemAt) (c .before .before .find .ensures .1 .1 .1 6 0 (omega arith) (omega arith)))
 
 match-place-requires : tie.Need-match-place-requires Inv-loop μ-loop
 match-place-requires c κs =
@@ -55,7 +55,7 @@ match-place-requires c κs =
     let n = named o (standing-tells (o .stands)) refl in
     let w = c2 .loop .inv .2 .met .stays in
     let i = c2 .loop .inv .0 in
-    (omega (arith, n, o .fits), omega (arith, n), omega (arith, o), table-same (c3 .pre .2) w, w .keys ∙ c3 .pre .3, w .spots ∙ c3 .pre .4)
+    (record { fits = omega (arith, n, o .fits); short = omega (arith, n) }, omega (arith, o), batch-same (c3 .pre) w)
 
 add-i : tie.Need-add-i Inv-loop μ-loop
 add-i c =
@@ -76,8 +76,8 @@ loop-again c =
     let c4 = c3 .before in
     let o = one c2 in (
       omega (arith, o, c4 .loop .inv .0),
-      c4 .loop .inv .1 ∙ ap (map itemAt) (beyond o (c3 .seek .ensures .1 .1 .1) 6 0 (omega arith) (omega arith)),
-      walk-on (c4 .loop .inv .2) (c1 .match-place .ensures) (places-one _ (c4 .loop .q) (c4 .loop .i) (c3 .seek .result) o),
+      c4 .loop .inv .1 ∙ ap (map itemAt) (beyond o (c3 .find .ensures .1 .1 .1) 6 0 (omega arith) (omega arith)),
+      walk-on (c4 .loop .inv .2) (c1 .match-place .ensures) (places-one _ (c4 .loop .q) (c4 .loop .i) (c3 .find .result) o),
     )
 
 pub match-places-spec : {M : Type 1} → statement M
@@ -87,7 +87,7 @@ match-places-spec =
     Inv-loop
     μ-loop
     loop-holds
-    seek-requires
+    find-requires
     same-length
     same-length-2
     same-length-3

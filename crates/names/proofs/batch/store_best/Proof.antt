@@ -27,7 +27,7 @@ put-best-requires : tie.Need-put-best-requires
 put-best-requires c κs =
     let c1 = c .before .before .before .before .before in
     let o = c1 .before .before .before .before .before in
-    (omega arith, omega arith, o .pre .3 (not-false _ (c1 .if1 .left)))
+    (omega arith, omega arith, o .pre .2 (not-false _ (c1 .if1 .left)))
 
 same-length : tie.Need-same-length
 same-length c = search needs
@@ -64,7 +64,7 @@ put-best-requires-2 : tie.Need-put-best-requires-2
 put-best-requires-2 c κs =
     let c1 = c .before .before .before .before .before .before in
     let o = c1 .before .before .before .before .before in
-    (omega arith, omega arith, o .pre .3 (not-false _ (c1 .if1 .left)))
+    (omega arith, omega arith, o .pre .2 (not-false _ (c1 .if1 .left)))
 
 cast-t : tie.Need-cast-t
 cast-t c = search needs

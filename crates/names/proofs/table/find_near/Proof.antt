@@ -28,7 +28,7 @@ middle : (v : tie.In-loop Inv-loop μ-loop) → let l = v .before .loop in let a
 middle v =
     let i = v .before .loop .inv in
     let m = i .1 (omega arith) in
-    record { low = m .0; high = m .1; within = i .0 .within; fits = v .before .before .before .before .before .before .pre .2 .fits }
+    record { low = m .0; high = m .1; within = i .0 .within; fits = v .before .before .before .before .before .before .pre .1 .fits }
 
 word-of-requires : tie.Need-word-of-requires Inv-loop μ-loop
 word-of-requires c κs = search needs
@@ -40,7 +40,7 @@ shr-w : tie.Need-shr-w Inv-loop μ-loop
 shr-w c = search needs
 
 loop-holds : tie.Need-loop-holds Inv-loop μ-loop
-loop-holds c = (between-all _ _ _ _ _, λ h. (omega arith, c .before .before .before .before .pre .3 h))
+loop-holds c = (between-all _ _ _ _ _, λ h. (omega arith, c .before .before .before .before .pre .2 h))
 
 mul-order : tie.Need-mul-order Inv-loop μ-loop
 mul-order c = let m = middle c in search needs
@@ -53,12 +53,12 @@ cast-order c = omega (arith, middle (c .before), c .shared-slice-known3 .given (
 
 order-requires : tie.Need-order-requires Inv-loop μ-loop
 order-requires c κs =
-    (c .before .before .before .before .before .before .before .pre .2 .stands _ (omega (arith, middle (c .before))), c .before .before .before .before .before .before .before .pre .0, c .before .before .before .before .before .before .before .pre .1, front-is _ (c .before .before .before .before .word-of .ensures) (c .before .before .before .spare-bits .ensures))
+    (c .before .before .before .before .before .before .before .pre .1 .stands _ (omega (arith, middle (c .before))), c .before .before .before .before .before .before .before .pre .0, front-is _ (c .before .before .before .before .word-of .ensures) (c .before .before .before .spare-bits .ensures))
 
 returns : tie.Need-returns Inv-loop μ-loop
 returns c =
     let m = middle (c .before .before .before) in
-    between-hit _ _ _ _ _ (c .before .before .before .before .before .before .before .before .before .pre .2) _ (omega arith) (told-same _ _ (c .before .order .ensures) (omega arith))
+    between-hit _ _ _ _ _ (c .before .before .before .before .before .before .before .before .before .pre .1) _ (omega arith) (told-same _ _ (c .before .order .ensures) (omega arith))
 
 add-lo : tie.Need-add-lo Inv-loop μ-loop
 add-lo c = omega (arith, middle (c .before .before .before .before))
@@ -76,7 +76,7 @@ loop-again : tie.Need-loop-again Inv-loop μ-loop
 loop-again c =
     let l = c .before .before .before .before .before .loop in
     let m = middle (c .before .before .before .before) in
-    (between-up _ _ _ _ _ (c .before .before .before .before .before .before .before .before .before .before .pre .2) _ (omega arith) (l .lo) (l .hi) (l .inv .0) (m .high) (told-before _ _ (c .before .before .order .ensures) (omega arith)), λ h. (omega arith, omega arith))
+    (between-up _ _ _ _ _ (c .before .before .before .before .before .before .before .before .before .before .pre .1) _ (omega arith) (l .lo) (l .hi) (l .inv .0) (m .high) (told-before _ _ (c .before .before .order .ensures) (omega arith)), λ h. (omega arith, omega arith))
 
 sub-mid-2 : tie.Need-sub-mid-2 Inv-loop μ-loop
 sub-mid-2 c = omega (arith, middle (c .before .before .before .before))
@@ -91,7 +91,7 @@ loop-again-2 : tie.Need-loop-again-2 Inv-loop μ-loop
 loop-again-2 c =
     let l = c .before .before .before .before .before .loop in
     let m = middle (c .before .before .before .before) in
-    (between-down _ _ _ _ _ (c .before .before .before .before .before .before .before .before .before .before .pre .2) _ (omega arith) (l .lo) (l .hi) (l .inv .0) (m .low) (told-after _ _ (c .before .before .order .ensures) (λ e. omega arith) (λ e. omega arith)), λ h. (omega arith, omega arith))
+    (between-down _ _ _ _ _ (c .before .before .before .before .before .before .before .before .before .before .pre .1) _ (omega arith) (l .lo) (l .hi) (l .inv .0) (m .low) (told-after _ _ (c .before .before .order .ensures) (λ e. omega arith) (λ e. omega arith)), λ h. (omega arith, omega arith))
 
 returns-2 : tie.Need-returns-2 Inv-loop μ-loop
 returns-2 c = between-none _ _ _ _ _ (c .before .loop .lo) (c .before .loop .hi) (c .before .loop .inv .0) (omega arith)

@@ -17,7 +17,7 @@ pair v =
       stands = o .pre .0;
       fits = omega (arith, payload-length s);
       own = front-is _ (v .before .word-at .ensures) (v .spare-bits .ensures);
-      sought = o .pre .3;
+      sought = o .pre .2;
     }
 
 -- the name has n bytes too

@@ -11,7 +11,7 @@ enum-told : tie.Need-enum-told
 enum-told c = search needs
 
 all-within-limit-requires : tie.Need-all-within-limit-requires
-all-within-limit-requires c κs = (c .before .before .before .pre .0, omega (arith, got-size _ (c .before .before .before .pre .1) (c .enum-told .given .1)))
+all-within-limit-requires c κs = (c .before .before .before .pre .0, omega (arith, got-size _ (c .before .before .before .pre .1 .got) (c .enum-told .given .1)))
 
 enum-known-r : tie.Need-enum-known-r
 enum-known-r c = search needs
@@ -20,7 +20,7 @@ option-width-requires : tie.Need-option-width-requires
 option-width-requires c κs = search needs
 
 all-within-limit-requires-2 : tie.Need-all-within-limit-requires-2
-all-within-limit-requires-2 c κs = (c .before .before .before .before .before .pre .0, omega (arith, got-size _ (c .before .before .before .before .before .pre .1) (c .before .before .r .given .1)))
+all-within-limit-requires-2 c κs = (c .before .before .before .before .before .pre .0, omega (arith, got-size _ (c .before .before .before .before .before .pre .1 .got) (c .before .before .r .given .1)))
 
 enum-known-r-2 : tie.Need-enum-known-r-2
 enum-known-r-2 c = search needs
@@ -32,7 +32,7 @@ add-all-within-limit : tie.Need-add-all-within-limit
 add-all-within-limit c = search needs
 
 all-within-limit-requires-3 : tie.Need-all-within-limit-requires-3
-all-within-limit-requires-3 c κs = (c .before .before .before .before .before .pre .0, omega (arith, got-size _ (c .before .before .before .before .before .pre .1) (c .before .before .r2 .given .1)))
+all-within-limit-requires-3 c κs = (c .before .before .before .before .before .pre .0, omega (arith, got-size _ (c .before .before .before .before .before .pre .1 .got) (c .before .before .r2 .given .1)))
 
 enum-known-r-3 : tie.Need-enum-known-r-3
 enum-known-r-3 c = search needs
@@ -44,7 +44,7 @@ add-all-within-limit-2 : tie.Need-add-all-within-limit-2
 add-all-within-limit-2 c = search needs
 
 all-within-limit-requires-4 : tie.Need-all-within-limit-requires-4
-all-within-limit-requires-4 c κs = (c .before .before .before .before .before .pre .0, omega (arith, got-size _ (c .before .before .before .before .before .pre .1) (c .before .before .r3 .given .1)))
+all-within-limit-requires-4 c κs = (c .before .before .before .before .before .pre .0, omega (arith, got-size _ (c .before .before .before .before .before .pre .1 .got) (c .before .before .r3 .given .1)))
 
 enum-known-r-4 : tie.Need-enum-known-r-4
 enum-known-r-4 c = search needs
@@ -56,7 +56,7 @@ add-all-within-limit-3 : tie.Need-add-all-within-limit-3
 add-all-within-limit-3 c = search needs
 
 all-within-limit-requires-5 : tie.Need-all-within-limit-requires-5
-all-within-limit-requires-5 c κs = (c .before .before .before .before .before .pre .0, omega (arith, got-size _ (c .before .before .before .before .before .pre .1) (c .before .before .r4 .given .1)))
+all-within-limit-requires-5 c κs = (c .before .before .before .before .before .pre .0, omega (arith, got-size _ (c .before .before .before .before .before .pre .1 .got) (c .before .before .r4 .given .1)))
 
 enum-known-r-5 : tie.Need-enum-known-r-5
 enum-known-r-5 c = search needs
@@ -71,10 +71,10 @@ wide-requires-5 : tie.Need-wide-requires-5
 wide-requires-5 c κs = search needs
 
 values-width-requires : tie.Need-values-width-requires
-values-width-requires c κs = omega (arith, got-has _ (c .before .before .before .before .before .before .pre .1) (c .before .before .before .r5 .given .1))
+values-width-requires c κs = omega (arith, got-has _ (c .before .before .before .before .before .before .pre .1 .got) (c .before .before .before .r5 .given .1))
 
 all-within-limit-requires-6 : tie.Need-all-within-limit-requires-6
-all-within-limit-requires-6 c κs = (c .before .before .before .before .before .before .before .pre .0, omega (arith, got-size _ (c .before .before .before .before .before .before .before .pre .1) (c .before .before .before .before .r5 .given .1), c .values-width .ensures .0 ∙ ap valuesWidth (c .before .wide5 .ensures .0)))
+all-within-limit-requires-6 c κs = (c .before .before .before .before .before .before .before .pre .0, omega (arith, got-size _ (c .before .before .before .before .before .before .before .pre .1 .got) (c .before .before .before .before .r5 .given .1), c .values-width .ensures .0 ∙ ap valuesWidth (c .before .wide5 .ensures .0)))
 
 enum-known-r-6 : tie.Need-enum-known-r-6
 enum-known-r-6 c = search needs
@@ -86,13 +86,13 @@ mul-all-within-limit : tie.Need-mul-all-within-limit
 mul-all-within-limit c = search needs
 
 all-within-limit-requires-7 : tie.Need-all-within-limit-requires-7
-all-within-limit-requires-7 c κs = (c .before .before .before .before .before .pre .0, omega (arith, got-size _ (c .before .before .before .before .before .pre .1) (c .before .before .r6 .given .1)))
+all-within-limit-requires-7 c κs = (c .before .before .before .before .before .pre .0, omega (arith, got-size _ (c .before .before .before .before .before .pre .1 .got) (c .before .before .r6 .given .1)))
 
 enum-known-r-7 : tie.Need-enum-known-r-7
 enum-known-r-7 c = search needs
 
 all-within-limit-requires-8 : tie.Need-all-within-limit-requires-8
-all-within-limit-requires-8 c κs = (c .before .before .before .before .before .pre .0, omega (arith, got-cubics _ (c .before .before .before .before .before .pre .1) (c .before .before .r7 .given .1) (c .if1 .taken)))
+all-within-limit-requires-8 c κs = (c .before .before .before .before .before .pre .0, omega (arith, got-cubics _ (c .before .before .before .before .before .pre .1 .got) (c .before .before .r7 .given .1) (c .if1 .taken)))
 
 wide16-requires-2 : tie.Need-wide16-requires-2
 wide16-requires-2 c κs = search needs
@@ -101,7 +101,7 @@ mul-all-within-limit-2 : tie.Need-mul-all-within-limit-2
 mul-all-within-limit-2 c = search needs
 
 all-within-limit-requires-9 : tie.Need-all-within-limit-requires-9
-all-within-limit-requires-9 c κs = (c .before .before .before .before .before .before .before .before .pre .0, omega (arith, got-cubics _ (c .before .before .before .before .before .before .before .before .pre .1) (c .before .before .before .before .before .r7 .given .1) (c .before .before .before .if1 .taken)))
+all-within-limit-requires-9 c κs = (c .before .before .before .before .before .before .before .before .pre .0, omega (arith, got-cubics _ (c .before .before .before .before .before .before .before .before .pre .1 .got) (c .before .before .before .before .before .r7 .given .1) (c .before .before .before .if1 .taken)))
 
 wide16-requires-3 : tie.Need-wide16-requires-3
 wide16-requires-3 c κs = search needs
@@ -110,7 +110,7 @@ mul-all-within-limit-3 : tie.Need-mul-all-within-limit-3
 mul-all-within-limit-3 c = search needs
 
 all-within-limit-requires-10 : tie.Need-all-within-limit-requires-10
-all-within-limit-requires-10 c κs = (c .before .before .before .before .before .before .pre .0, omega (arith, got-polyline _ (c .before .before .before .before .before .before .pre .1) (c .before .before .before .r7 .given .1) (c .before .if1 .left)))
+all-within-limit-requires-10 c κs = (c .before .before .before .before .before .before .pre .0, omega (arith, got-polyline _ (c .before .before .before .before .before .before .pre .1 .got) (c .before .before .before .r7 .given .1) (c .before .if1 .left)))
 
 returns : tie.Need-returns
 returns c = rescale-floats _ (c .before .enum-told .given .1) (c .all-within-limit .ensures)

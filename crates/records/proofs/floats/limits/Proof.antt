@@ -88,7 +88,7 @@ enum-known-r c = search needs
 limited-at-requires : tie.Need-limited-at-requires Inv-loop μ-loop
 limited-at-requires c κs =
     let w = c .before .before .before in
-    (part-room _ _ (at w .loop .inv .0) (w .before .part-from .ensures), sym (w .next-record .ensures) ∙ c .before .r .given .1)
+    (part-room _ _ (at w .loop .inv .0) (w .before .part-from .ensures), record { size = _; got = sym (w .next-record .ensures) ∙ c .before .r .given .1 })
 
 returns-4 : tie.Need-returns-4 Inv-loop μ-loop
 returns-4 c =

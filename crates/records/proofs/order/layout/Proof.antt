@@ -54,7 +54,7 @@ enum-known-r : tie.Need-enum-known-r Inv-loop μ-loop
 enum-known-r c = search needs
 
 step-requires : tie.Need-step-requires Inv-loop μ-loop
-step-requires c κs = (c .before .before .before .before .before .loop .inv .1, stands (c .before .before .before) ∙ c .before .r .given .1)
+step-requires c κs = (c .before .before .before .before .before .loop .inv .1, record { size = _; got = stands (c .before .before .before) ∙ c .before .r .given .1 })
 
 enum-told-3 : tie.Need-enum-told-3 Inv-loop μ-loop
 enum-told-3 c = search needs

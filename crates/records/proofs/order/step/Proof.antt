@@ -34,7 +34,7 @@ enum-known-r-2 c = search needs
 variable-requires : tie.Need-variable-requires
 variable-requires c κs =
     let o = c .before .before .before .before in
-    let e = o .pre .1 in
+    let e = o .pre .1 .got in
     (o .pre .0, omega (arith, got-room (o .args .s .now) (o .args .p) e, stands _ e .size, ap sizeOf (c .before .r2 .given .1)))
 
 enum-told-3 : tie.Need-enum-told-3
@@ -62,7 +62,7 @@ add-next : tie.Need-add-next
 add-next c = search needs
 
 add-next-2 : tie.Need-add-next-2
-add-next-2 c = omega (arith, got-role _ (c .before .before .before .before .before .before .pre .1) (c .before .before .before .r3 .given .1))
+add-next-2 c = omega (arith, got-role _ (c .before .before .before .before .before .before .pre .1 .got) (c .before .before .before .r3 .given .1))
 
 step-if-requires-2 : tie.Need-step-if-requires-2
 step-if-requires-2 c κs = search needs
@@ -93,7 +93,7 @@ returns-8 c = item-is _ _ (c .before .before .before .before .args .st) _ (c .be
 
 returns-9 : tie.Need-returns-9
 returns-9 c =
-    points-is _ _ (c .before .before .before .before .before .before .before .args .st) _ (c .before .before .before .before .before .before .before .pre .0) (c .before .before .before .before .r3 .given .1) (got-role _ (c .before .before .before .before .before .before .before .pre .1) (c .before .before .before .before .r3 .given .1)) (sym (c .before .before .has-role .ensures) ∙ c .before .if2 .left)
+    points-is _ _ (c .before .before .before .before .before .before .before .args .st) _ (c .before .before .before .before .before .before .before .pre .0) (c .before .before .before .before .r3 .given .1) (got-role _ (c .before .before .before .before .before .before .before .pre .1 .got) (c .before .before .before .before .r3 .given .1)) (sym (c .before .before .has-role .ensures) ∙ c .before .if2 .left)
     (c .step-if2 .ensures)
 
 returns-10 : tie.Need-returns-10

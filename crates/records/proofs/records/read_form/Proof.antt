@@ -29,10 +29,10 @@ wide16-requires : tie.Need-wide16-requires
 wide16-requires c κs = search needs
 
 mul-t14 : tie.Need-mul-t14
-mul-t14 c = omega (arith, product (c .before .before .before .before .before .before .before .pre .3) (c .wide16 .ensures .1))
+mul-t14 c = omega (arith, product (c .before .before .before .before .before .before .before .pre .1 .short) (c .wide16 .ensures .1))
 
 add-t15 : tie.Need-add-t15
-add-t15 c = omega (arith, product (c .before .before .before .before .before .before .before .pre .3) (c .wide16 .ensures .1))
+add-t15 c = omega (arith, product (c .before .before .before .before .before .before .before .pre .1 .short) (c .wide16 .ensures .1))
 
 returns-2 : tie.Need-returns-2
 returns-2 c =

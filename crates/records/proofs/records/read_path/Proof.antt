@@ -28,10 +28,10 @@ byte-requires-3 : tie.Need-byte-requires-3
 byte-requires-3 c κs = search needs
 
 read-form-requires : tie.Need-read-form-requires
-read-form-requires c κs = search needs
+read-form-requires c κs = (search needs, record { behind = omega arith; near = omega arith; short = omega arith })
 
 read-form-requires-2 : tie.Need-read-form-requires-2
-read-form-requires-2 c κs = search needs
+read-form-requires-2 c κs = (search needs, record { behind = omega arith; near = omega arith; short = omega arith })
 
 returns-4 : tie.Need-returns-4
 unfolding cubicsOf

@@ -11,7 +11,7 @@ sub-insert : tie.Need-sub-insert
 sub-insert c = search needs
 
 insert-requires : tie.Need-insert-requires
-insert-requires c κs = insertable _ _ _ (c .before .before .before .before .before .before .before .pre .1) (c .before .before .before .before .before .before .before .pre .0 .small) (c .before .before .before .before .before .before .before .pre .0 .free) (c .before .before .before .before .before .before .before .pre .0 .table)
+insert-requires c κs = let o = c .before .before .before .before .before .before .before .pre in (insertable _ _ _ (o .1) (o .0 .small), o .0 .free, o .0 .table)
 
 same-length : tie.Need-same-length
 same-length c = search needs

@@ -21,8 +21,15 @@ slice-aggregate-match-labels-2 c = search needs
 match-labels-requires : tie.Need-match-labels-requires
 match-labels-requires c κs =
     let pre = c .before .before .before .before .before .before .before .before .before .pre in
-    let e = c .before .before .before .more-of .ensures in
-    (pre .0 .small, more-few (c .before .before .before .before .before .before .before .before .before .args .lons) e, rw e (pre .1 .filling .table), pre .1 .filling .unmarked, search needs, search needs)
+    let e = c .before .before .before .more-of .ensures in (
+      record {
+        small = pre .0 .small;
+        ending = more-few (c .before .before .before .before .before .before .before .before .before .args .lons) e;
+        table = rw e (pre .1 .filling .table);
+        slots = record { keys-sized = search needs; spots-sized = search needs };
+      },
+      pre .1 .filling .unmarked,
+    )
 
 -- src/controls.rt:307:9
 same-length : tie.Need-same-length

@@ -13,7 +13,7 @@ use Rattle.scene.specs.Scene.{itemAt}
 use Rattle.values.specs.Maybe.{none}
 use Rattle.scene.specs.Labels.{bestPlace}
 use Rattle.scene.specs.Contracts.Answers.{placesAt, itemsAt, bestBy}
-use Rattle.scene.specs.Laws.Found.{answer, One, one-found, beyond, named}
+use Rattle.scene.specs.Laws.Found.{One, one-found, beyond, named}
 use Rattle.scene.specs.Laws.Folds.{no-place, next-place}
 use Rattle.scene.proofs.labels.best_place.Statement.{statement}
 use Rattle.scene.proofs.labels.best_place.Tie as tie
@@ -27,24 +27,24 @@ Inv-loop s p at n b₀ q₀ i₀ b q i =
 abbrev μ-loop : tie.MeasureT-loop
 μ-loop s p at n b₀ q₀ i₀ b q i = room s - q
 
-one : (w : tie.Else1 Inv-loop μ-loop) → let v = w .before .before in One (v .before .before .before .args .s .now) (v .before .loop .q) 5 0 (v .seek .result)
-one w = let v = w .before .before in one-found _ (v .before .loop .q) _ _ _ (answer _ (v .before .loop .q) _ _ _ (v .seek .ensures)) (w .if1 .left)
+one : (w : tie.Else1 Inv-loop μ-loop) → let v = w .before .before in One (v .before .before .before .args .s .now) (v .before .loop .q) 5 0 (v .find .result)
+one w = let v = w .before .before in one-found _ (v .before .loop .q) _ _ _ (v .find .ensures) (w .if1 .left)
 
 -- its name lies within
-ends : (w : tie.Else1 Inv-loop μ-loop) → let v = w .before .before in let s = v .before .before .before .args .s .now in v .seek .result .at + 1 + 1 + getD (payload s) (v .seek .result .at + 1) 0 ≤ room s
+ends : (w : tie.Else1 Inv-loop μ-loop) → let v = w .before .before in let s = v .before .before .before .args .s .now in v .find .result .at + 1 + 1 + getD (payload s) (v .find .result .at + 1) 0 ≤ room s
 ends w = omega (arith, named (one w) (standing-tells (one w .stands)) refl, one w .fits)
 
 loop-holds : tie.Need-loop-holds Inv-loop μ-loop
 loop-holds c = (omega arith, refl, refl)
 
-seek-requires : tie.Need-seek-requires Inv-loop μ-loop
-seek-requires c κs = search needs
+find-requires : tie.Need-find-requires Inv-loop μ-loop
+find-requires c κs = search needs
 
 returns : tie.Need-returns Inv-loop μ-loop
 returns c =
     let v = c .before .before in
     let a = v .before in
-    (no-place _ _ (a .loop .q) (a .loop .i) _ (v .seek .result) (answer _ (a .loop .q) _ _ _ (v .seek .ensures)) (c .if1 .taken) ∙ sym (a .loop .inv .2), a .loop .inv .1 ∙ ap (map itemAt) (v .seek .ensures .1 .1 .1 6 0 (omega arith) (omega arith)))
+    (no-place _ _ (a .loop .q) (a .loop .i) _ (v .find .result) (v .find .ensures) (c .if1 .taken) ∙ sym (a .loop .inv .2), a .loop .inv .1 ∙ ap (map itemAt) (v .find .ensures .1 .1 .1 6 0 (omega arith) (omega arith)))
 
 add-name-at-equals : tie.Need-add-name-at-equals Inv-loop μ-loop
 add-name-at-equals c = omega (arith, ends (c .before))
@@ -66,9 +66,9 @@ loop-again c =
     let v = c .before .before .before .before .before in
     let a = v .before in (
       omega (arith, one (c .before .before .before), a .loop .inv .0),
-      a .loop .inv .1 ∙ ap (map itemAt) (beyond (one (c .before .before .before)) (v .seek .ensures .1 .1 .1) 6 0 (omega arith) (omega arith)),
+      a .loop .inv .1 ∙ ap (map itemAt) (beyond (one (c .before .before .before)) (v .find .ensures .1 .1 .1) 6 0 (omega arith) (omega arith)),
       a .loop .inv .2
-          ∙ next-place _ _ (a .loop .q) (a .loop .i) _ (v .seek .result) (one (c .before .before .before)) (c .before .name-at-equals .ensures)
+          ∙ next-place _ _ (a .loop .q) (a .loop .i) _ (v .find .result) (one (c .before .before .before)) (c .before .name-at-equals .ensures)
           (⊎-elim (λ w. inl (w .0 .taken, ap bestBy (w .2) ∙ w .1 .ensures)) (λ w. inr (w .0 .left, ap bestBy (w .1))) (c .if2 .came)),
     )
 
@@ -79,7 +79,7 @@ best-place-spec =
     Inv-loop
     μ-loop
     loop-holds
-    seek-requires
+    find-requires
     returns
     add-name-at-equals
     name-at-equals-requires

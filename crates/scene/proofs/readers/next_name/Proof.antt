@@ -6,24 +6,24 @@ use Rattle.stream.specs.Contracts.Payload.{room, rest}
 use Rattle.stream.specs.Laws.Payload.{rest-length}
 use Rattle.records.specs.Laws.Search.{standing-tells}
 use Rattle.scene.specs.Scene.{featureAt}
-use Rattle.scene.specs.Laws.Found.{nothing, answer, One, one-found, beyond, none-listed, name-begins, named, headed}
+use Rattle.scene.specs.Laws.Found.{nothing, One, one-found, beyond, none-listed, name-begins, named, headed}
 use Rattle.scene.proofs.Reading.{feature-found}
 use Rattle.scene.proofs.readers.next_name.Statement.{statement}
 use Rattle.scene.proofs.readers.next_name.Tie as tie
 
-one : (w : tie.Else1) → One (w .before .before .before .before .args .s .now) (w .before .before .before .before .args .p) 3 0 (w .before .before .seek .result)
-one w = one-found _ (w .before .before .before .before .args .p) _ _ _ (answer _ (w .before .before .before .before .args .p) _ _ _ (w .before .before .seek .ensures)) (w .if1 .left)
+one : (w : tie.Else1) → One (w .before .before .before .before .args .s .now) (w .before .before .before .before .args .p) 3 0 (w .before .before .find .result)
+one w = one-found _ (w .before .before .before .before .args .p) _ _ _ (w .before .before .find .ensures) (w .if1 .left)
 
-begins : (w : tie.Else1) → w .before .before .seek .result .at + 18 + 1 ≤ room (w .before .before .before .before .args .s .now)
+begins : (w : tie.Else1) → w .before .before .find .result .at + 18 + 1 ≤ room (w .before .before .before .before .args .s .now)
 begins w = name-begins (one w) (standing-tells (one w .stands))
 
-seek-requires : tie.Need-seek-requires
-seek-requires c κs = search needs
+find-requires : tie.Need-find-requires
+find-requires c κs = search needs
 
 returns : tie.Need-returns
 returns c =
     let p = c .before .before .before .before .args .p in
-    (none-listed _ p _ _ _ (answer _ p _ _ _ (c .before .before .seek .ensures)) featureAt (c .if1 .taken), (nothing, (c .before .before .seek .ensures .1 .1 .1, nothing)))
+    (none-listed _ p _ _ _ (c .before .before .find .ensures) featureAt (c .if1 .taken), (nothing, (c .before .before .find .ensures .1 .1 .1, nothing)))
 
 add-t6 : tie.Need-add-t6
 add-t6 c = omega (arith, begins c)
@@ -44,7 +44,7 @@ returns-2 c =
     let o = one w in
     let d = named o (standing-tells (o .stands)) (c .wide .ensures .0 ∙ c .before .byte .ensures) in
     let f = feature-found d in
-    (f .0, (f .1, (beyond o (w .before .before .seek .ensures .1 .1 .1), λ h. headed d (omega arith))))
+    (f .0, (f .1, (beyond o (w .before .before .find .ensures .1 .1 .1), λ h. headed d (omega arith))))
 
 pub next-name-spec : {M : Type 1} → statement M
-next-name-spec = tie.close (tie.spec seek-requires returns add-t6 add-byte byte-requires wide-requires returns-2)
+next-name-spec = tie.close (tie.spec find-requires returns add-t6 add-byte byte-requires wide-requires returns-2)
