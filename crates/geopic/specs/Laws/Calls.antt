@@ -28,11 +28,9 @@ use Rattle.register.specs.Contracts.Gathered.{Kept}
 use Rattle.register.specs.Register.{f0, controlsOf, anchorOf, registrationBy, registrationOf, registerWarnings}
 use Rattle.values.specs.Warnings.{Warning}
 use Rattle.register.specs.Contracts.Outcome.{registerRefusal, accepted, refusedBy, pickOutcome, outcomeOf}
-use Rattle.values.specs.Contracts.Warnings.{pushed, allPushed}
-use Rattle.register.specs.Contracts.Warnings as register
+use Rattle.values.specs.Contracts.Warnings.{WarningSlice, pushed, allPushed}
 use Rattle.budget.specs.declared.Budget.{Budget}
 use Rattle.values.specs.Slices.{put}
-use Rattle.values.specs.Laws.Put.{pair-put}
 use Rattle.geopic.specs.declared.Answer.{Answer}
 use Rattle.convert.specs.Convert.{warned, Trace, onScreen, convertOf}
 use Rattle.convert.specs.Space.{Output, outOfRoom, withWarning}
@@ -47,7 +45,7 @@ use Rattle.geopic.specs.Laws.Conditions.{number-is, early-stream, early-
 
 -- ---- the registration's warnings: what `register` pushes is what is played
 abbrev Pushed : Type 0
-Pushed = register.WarningSlice
+Pushed = WarningSlice
 
 abbrev pushing : List ℕ → Bool → ℕ → Pushed
 pushing out ok n = record { out = out; cursor = record { ok = ok; used = n } }
@@ -72,7 +70,7 @@ toldBy t r =
 module _ (w : Warning) (out : List ℕ) (n : ℕ) where
   push-fits : leb (n + 2) (length out) ≡ true → pushed w (pushing out true n) ≡ pushing (put out n (w .kind ∷ w .index ∷ [])) true (n + 2)
   unfolding pushed
-  push-fits e = rw (e, pair-put out n (w .kind) (w .index) (leb-true _ _ e))
+  push-fits e = rw e
 
   push-lacks : leb (n + 2) (length out) ≡ false → pushed w (pushing out true n) ≡ pushing out false n
   unfolding pushed
