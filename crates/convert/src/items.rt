@@ -8,9 +8,7 @@ ghost use Rattle.stream.specs.Payload.{payload};
 ghost use Rattle.stream.specs.Contracts.Payload.{room};
 ghost use Rattle.scene.specs.Contracts.Answers.{LabelsFrom, PathWithin, pointsFrom, pathsFrom, pathsBy, itemsAt, itemBy};
 ghost use Rattle.convert.specs.Convert.{pointsTrace, pathsOf, pathsTrace, withPart, onScreen, itemOf, itemsOf, convertOf};
-ghost use Rattle.convert.specs.Contracts.Space.{outputBy, Fits, Draws, boxTrace, ellipseTrace};
-use crate::workspace::load_path;
-use crate::workspace::load_points;
+ghost use Rattle.convert.specs.Contracts.Space.{outputBy, Fits, Draws, DrawsQuietly, Ready, boxTrace, ellipseTrace};
 use crate::positions::point_feature;
 use crate::shapes::Shape;
 use crate::shapes::props_of;
@@ -21,6 +19,8 @@ use crate::state::State;
 use crate::state::warn;
 use crate::strokes::draw_ring;
 use crate::strokes::polyline_or_polygon;
+use crate::workspace::load_path;
+use crate::workspace::load_points;
 use densify::box_ring;
 use densify::ellipse_ring;
 use scene::Item;
@@ -40,14 +40,12 @@ fn draw_box(
     work: &mut [f64],
     positions: &mut [f64],
     features: &mut [u32],
-    warnings: &mut [u32],
     st: State,
 ) -> State
-    requires { ⌜ Fits (outputBy (length (now work)) (now positions) (now features) (now warnings) st)
-        (st .budget) ⌝ }
-    ensures { λ r. ⌜ Draws (boxTrace cx p x y w h rad (st .budget))
-        (now (work .entry)) (now (positions .entry)) (now (features .entry)) (now (warnings .entry)) st
-        (now (work .exit)) (now (positions .exit)) (now (features .exit)) (now (warnings .exit)) r ⌝ }
+    requires { ⌜ Ready (now positions) (now features) st ⌝ }
+    ensures { λ r. ⌜ DrawsQuietly (boxTrace cx p x y w h rad (st .budget))
+        (now (work .entry)) (now (positions .entry)) (now (features .entry)) st
+        (now (work .exit)) (now (positions .exit)) (now (features .exit)) r ⌝ }
 {
     let scale = cx.projection.registration.scale;
     let d = box_ring(
@@ -75,14 +73,12 @@ fn draw_ellipse(
     work: &mut [f64],
     positions: &mut [f64],
     features: &mut [u32],
-    warnings: &mut [u32],
     st: State,
 ) -> State
-    requires { ⌜ Fits (outputBy (length (now work)) (now positions) (now features) (now warnings) st)
-        (st .budget) ⌝ }
-    ensures { λ r. ⌜ Draws (ellipseTrace cx p x y rx ry (st .budget))
-        (now (work .entry)) (now (positions .entry)) (now (features .entry)) (now (warnings .entry)) st
-        (now (work .exit)) (now (positions .exit)) (now (features .exit)) (now (warnings .exit)) r ⌝ }
+    requires { ⌜ Ready (now positions) (now features) st ⌝ }
+    ensures { λ r. ⌜ DrawsQuietly (ellipseTrace cx p x y rx ry (st .budget))
+        (now (work .entry)) (now (positions .entry)) (now (features .entry)) st
+        (now (work .exit)) (now (positions .exit)) (now (features .exit)) r ⌝ }
 {
     let scale = cx.projection.registration.scale;
     let d = ellipse_ring(
@@ -160,7 +156,7 @@ fn part_of(p: Props, many: bool, i: usize) -> Props
     Props {
         item: p.item,
         placement: p.placement,
-        part: part,
+        part,
         fill: p.fill,
     }
 }
@@ -286,7 +282,6 @@ fn draw_item(
             work,
             positions,
             features,
-            warnings,
             st,
         ),
         Shape::Ellipse(x, y, w, h) => draw_ellipse(
@@ -299,22 +294,9 @@ fn draw_item(
             work,
             positions,
             features,
-            warnings,
             st,
         ),
-        Shape::Circle(x, y, r) => draw_ellipse(
-            cx,
-            p,
-            x,
-            y,
-            r,
-            r,
-            work,
-            positions,
-            features,
-            warnings,
-            st,
-        ),
+        Shape::Circle(x, y, r) => draw_ellipse(cx, p, x, y, r, r, work, positions, features, st),
         Shape::Dot(x, y) => point_feature(cx, p, x, y, positions, features, st),
         Shape::Points => draw_points(
             s,

@@ -1,12 +1,10 @@
 // Features: their positions, then their line.
 ghost use mathlib.Core.Path.{_≡_};
-ghost use mathlib.Core.List.{List};
-ghost use Prim.Native.Nat.{ℕ, _+_, _≤_};
-ghost use lib.Ieee.{Float};
+ghost use Prim.Native.Nat.{_+_, _≤_};
 ghost use lib.ListN.{length};
-ghost use Rattle.values.specs.Contracts.Points.{pointsIn};
+ghost use Rattle.values.specs.Contracts.Points.{pointWith, pointsIn};
 ghost use Rattle.convert.specs.Convert.{strokeOf, drawWithoutWriting, pointOf};
-ghost use Rattle.convert.specs.Contracts.Space.{outputBy, most, longest, firstRepeatedIn, Finished, Fits, Applied};
+ghost use Rattle.convert.specs.Contracts.Space.{firstRepeatedIn, Finished, Strokes, Warns, StrokeReady};
 use crate::state::Ctx;
 use crate::state::Props;
 use crate::state::State;
@@ -49,11 +47,11 @@ fn finish(
 {
     let line = Feature {
         item: p.item,
-        geometry: geometry,
-        role: role,
+        geometry,
+        role,
         placement: p.placement,
         part: p.part,
-        count: count,
+        count,
     };
     let at = st.features;
     if !write_feature(features, at, line) {
@@ -64,11 +62,12 @@ fn finish(
         positions: to,
         features: at + 6,
         warnings: st.warnings,
-        budget: budget,
+        budget,
     }
 }
 
-// The points in `work` from `from` to `to`, densified and carried to the Earth: a line (geometry 1) or a ring (2). The tail of the position slice is lent on to be filled.
+// The points in `work` from `from` to `to`, densified and carried to the Earth: a line (geometry 1) or a ring (2). The
+// tail of the position slice is lent on to be filled.
 pub fn stroke(
     cx: Ctx,
     p: Props,
@@ -81,8 +80,9 @@ pub fn stroke(
     features: &mut [u32],
     st: State,
 ) -> State
-    requires { ⌜ (from + 2 ≤ to) × (to ≤ length (now work)) × (to ≤ longest) × (st .positions ≤ length (now positions)) × (st .features ≤ length (now features)) × (st .budget .left ≤ most) ⌝ }
-    ensures { λ r. ⌜ ((w : ℕ) (v : List ℕ) → Fits (outputBy w (now (positions .entry)) (now (features .entry)) v st) (st .budget) → Applied (strokeOf cx p geometry role (pointsIn (now (work .entry)) from to) (st .budget)) (outputBy w (now (positions .entry)) (now (features .entry)) v st) (outputBy w (now (positions .exit)) (now (features .exit)) v r) (r .budget)) ⌝ }
+    requires { ⌜ StrokeReady (length (now work)) from to (now positions) (now features) st ⌝ }
+    ensures { λ r. ⌜ Strokes (strokeOf cx p geometry role (pointsIn (now (work .entry)) from to) (st .budget))
+        (now (positions .entry)) (now (features .entry)) st (now (positions .exit)) (now (features .exit)) r ⌝ }
 {
     if st.number != 0 {
         return st;
@@ -128,7 +128,8 @@ pub fn point_feature(
     st: State,
 ) -> State
     requires { ⌜ (st .positions ≤ length (now positions)) × (st .features ≤ length (now features)) ⌝ }
-    ensures { λ r. ⌜ ((w : ℕ) (v : List ℕ) → Fits (outputBy w (now (positions .entry)) (now (features .entry)) v st) (st .budget) → Applied (pointOf cx p (record { x = x; y = y }) (st .budget)) (outputBy w (now (positions .entry)) (now (features .entry)) v st) (outputBy w (now (positions .exit)) (now (features .exit)) v r) (r .budget)) ⌝ }
+    ensures { λ r. ⌜ Strokes (pointOf cx p (pointWith x y) (st .budget))
+        (now (positions .entry)) (now (features .entry)) st (now (positions .exit)) (now (features .exit)) r ⌝ }
 {
     if st.number != 0 {
         return st;
@@ -152,7 +153,8 @@ pub fn draw_without_writing(
     st: State,
 ) -> State
     requires { ⌜ (from ≤ to) × (to ≤ length (now work)) × (st .warnings ≤ length (now warnings)) ⌝ }
-    ensures { λ r. ⌜ ((w : ℕ) (q : List Float) (f : List ℕ) → Fits (outputBy w q f (now (warnings .entry)) st) (st .budget) → Applied (drawWithoutWriting cx item (pointsIn (now (work .entry)) from to) (st .budget)) (outputBy w q f (now (warnings .entry)) st) (outputBy w q f (now (warnings .exit)) r) (r .budget)) ⌝ }
+    ensures { λ r. ⌜ Warns (drawWithoutWriting cx item (pointsIn (now (work .entry)) from to) (st .budget))
+        (now (warnings .entry)) st (now (warnings .exit)) r ⌝ }
 {
     let left = spend_polyline(
         cx.step,

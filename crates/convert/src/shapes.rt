@@ -121,7 +121,7 @@ pub fn props_of(it: Item, i: u32) -> Props
     }
     Props {
         item: i,
-        placement: placement,
+        placement,
         part: 0,
         fill: it.fill,
     }

@@ -45,10 +45,10 @@ whole : (c : tie.After-densify-polyline) → let b = c .before .before .before .
     Written q (putMid at (length q - at) q (c .densify-polyline .last .1 .1 .1 .1 .1 .1 .0)) at (made b) (record { ok = d .ok; at = at + d .at; budget = d .budget })
 whole c =
     let b = c .before .before .before .before .before .before .before in
-    tail-written (b .args .positions .now) (b .args .st .positions) (b .pre .3) {m = made b} (c .densify-polyline .ensures)
+    tail-written (b .args .positions .now) (b .args .st .positions) (b .pre .positions) {m = made b} (c .densify-polyline .ensures)
 
 some : (c : tie.After-densify-polyline) → 1 ≤ length (made (c .before .before .before .before .before .before .before) .points)
-some c = let b = c .before .before .before .before .before .before .before in stroke-some (b .args .cx) _ _ _ _ (b .pre .0)
+some c = let b = c .before .before .before .before .before .before .before in stroke-some (b .args .cx) _ _ _ _ (b .pre .some)
 
 size : (c : tie.After-densify-polyline) → c .densify-polyline .result .ok ≡ true → c .densify-polyline .result .at ≡ 2 * length (made (c .before .before .before .before .before .before .before) .points)
 size c fits = omega (arith, whole c .next fits, flats-length (made (c .before .before .before .before .before .before .before) .points))
@@ -77,7 +77,7 @@ cast-finish : tie.Need-cast-finish
 cast-finish c =
     let a = c .before .before .before .before .before .before .before in
     let b = a .before .before .before .before .before .before .before in
-    let few : length (made b .points) ≤ most + longest = stroke-few (b .args .cx) _ _ _ _ (b .pre .2) (b .pre .5) in
+    let few : length (made b .points) ≤ most + longest = stroke-few (b .args .cx) _ _ _ _ (b .pre .few) (b .pre .left) in
     omega (arith, size a (not-false _ (c .before .before .before .if2 .left)))
 
 -- where the positions stand when the line is written
