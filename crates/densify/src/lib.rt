@@ -1,12 +1,15 @@
 // Points on the canvas, after the source's densify.rs.
+mod append;
 mod counts;
 mod cubic;
 mod paths;
 mod placing;
 mod rings;
 mod segments;
-mod append;
 
+pub use append::PointCursor;
+pub use append::close_ring;
+pub use append::put_point;
 pub use counts::arc_vertices;
 pub use paths::copy_points;
 pub use paths::path_points;
@@ -15,6 +18,3 @@ pub use rings::ellipse_ring;
 pub use segments::densify_polyline;
 pub use segments::segment_want;
 pub use segments::spend_polyline;
-pub use append::PointCursor;
-pub use append::close_ring;
-pub use append::put_point;

@@ -7,10 +7,10 @@ ghost use Rattle.scene.specs.Scene.{pointsAt, cubicsAt};
 ghost use Rattle.scene.specs.Contracts.Answers.{formBy};
 ghost use Rattle.densify.specs.Densify.{withoutDraws, cubicsOf, formPoints, pathPointsOf};
 ghost use Rattle.densify.specs.Contracts.Written.{Written, drawnBy, PathFits};
-use crate::cubic::flatten_cubic;
 use crate::append::PointCursor;
 use crate::append::close_ring;
 use crate::append::put_point;
+use crate::cubic::flatten_cubic;
 use budget::Budget;
 use scene::Path;
 use scene::point_at;
@@ -92,7 +92,14 @@ fn flatten_cubics(
     }
 }
 
-fn form_points(s: &[u8], p: Path, tol: f64, budget: Budget, work: &mut [f64], at: usize) -> PointCursor
+fn form_points(
+    s: &[u8],
+    p: Path,
+    tol: f64,
+    budget: Budget,
+    work: &mut [f64],
+    at: usize,
+) -> PointCursor
     requires { ⌜ PathFits (room (now s)) p × (at ≤ length (now work)) ⌝ }
     ensures { λ r. ⌜ Written (now (work .entry)) (now (work .exit)) at (formPoints tol (formBy (payload (now (s .entry))) p) budget) r ⌝ }
 {
@@ -111,7 +118,14 @@ fn form_points(s: &[u8], p: Path, tol: f64, budget: Budget, work: &mut [f64], at
 }
 
 // The points of a path; a closed one ends with its first.
-pub fn path_points(s: &[u8], p: Path, tol: f64, budget: Budget, work: &mut [f64], at: usize) -> PointCursor
+pub fn path_points(
+    s: &[u8],
+    p: Path,
+    tol: f64,
+    budget: Budget,
+    work: &mut [f64],
+    at: usize,
+) -> PointCursor
     requires { ⌜ PathFits (room (now s)) p × (at ≤ length (now work)) ⌝ }
     ensures { λ r. ⌜ Written (now (work .entry)) (now (work .exit)) at (pathPointsOf tol (drawnBy (payload (now (s .entry))) p) budget) r ⌝ }
 {

@@ -5,10 +5,10 @@ ghost use lib.ListN.{length};
 ghost use Rattle.densify.specs.Densify.{withoutDraws, roundTo, ellipsePoint, ellipseRingOf, sharpCorners, cornerPoint, roundedCorners, quarterOf, boxRingOf};
 ghost use Rattle.densify.specs.Contracts.Written.{Written};
 ghost use Rattle.values.specs.Contracts.Points.{pointIn};
-use crate::counts::arc_vertices;
 use crate::append::PointCursor;
 use crate::append::close_ring;
 use crate::append::put_point;
+use crate::counts::arc_vertices;
 use budget::Budget;
 use budget::take;
 use elementary::sin_cos;
@@ -77,7 +77,14 @@ pub fn ellipse_ring(
 }
 
 // The four corners of a box, counter-clockwise from the south-west.
-fn sharp_corners(c: [f64; 2], hw: f64, hh: f64, budget: Budget, work: &mut [f64], at: usize) -> PointCursor
+fn sharp_corners(
+    c: [f64; 2],
+    hw: f64,
+    hh: f64,
+    budget: Budget,
+    work: &mut [f64],
+    at: usize,
+) -> PointCursor
     requires { ⌜ at ≤ length (now work) ⌝ }
     ensures { λ r. ⌜ Written (now (work .entry)) (now (work .exit)) at (withoutDraws (sharpCorners (pointIn c) hw hh) budget) r ⌝ }
 {

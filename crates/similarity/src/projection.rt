@@ -10,11 +10,11 @@ use elementary::to_radians;
 use float::round;
 use geodesy::LonLat;
 use geodesy::Metres;
+use geodesy::exp_ordinate;
+use geodesy::latitude;
 use geodesy::longitude;
 use geodesy::mercator_forward;
 use geodesy::mercator_inverse;
-use geodesy::latitude;
-use geodesy::exp_ordinate;
 
 // A canvas point p goes to the anchor's plane: p less the origin, times the scale, turned so that the canvas's y axis points to the bearing.
 #[repr(C)]

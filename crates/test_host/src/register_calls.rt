@@ -5,8 +5,8 @@ ghost use Rattle.test_host.specs.Contracts.Answer.{answerOf, warnedOf};
 use geodesy::LonLat;
 use register::Outcome;
 use similarity::Registration;
-use similarity::to_lonlat;
 use similarity::projection_of;
+use similarity::to_lonlat;
 use values::WarningCursor;
 
 // Refusals 1 to 14, or 0 and the registration.
