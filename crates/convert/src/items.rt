@@ -6,9 +6,12 @@ ghost use Prim.Native.Nat.{_+_, _<_};
 ghost use lib.ListN.{length};
 ghost use Rattle.stream.specs.Payload.{payload};
 ghost use Rattle.stream.specs.Contracts.Payload.{room};
-ghost use Rattle.scene.specs.Contracts.Answers.{LabelsFrom, PathWithin, pointsFrom, pathsFrom, pathsBy, itemsAt, itemBy};
-ghost use Rattle.convert.specs.Convert.{pointsTrace, pathsOf, pathsTrace, withPart, onScreen, itemOf, itemsOf, convertOf};
-ghost use Rattle.convert.specs.Contracts.Space.{outputBy, Fits, Draws, DrawsQuietly, Ready, boxTrace, ellipseTrace};
+ghost use Rattle.scene.specs.Contracts.Answers.{LabelsFrom, PathWithin, pointsFrom, pathsFrom};
+ghost use Rattle.scene.specs.Contracts.Answers.{pathsBy, itemsAt, itemBy};
+ghost use Rattle.convert.specs.Convert.{pointsTrace, pathsOf, pathsTrace, withPart};
+ghost use Rattle.convert.specs.Convert.{onScreen, itemOf, itemsOf, convertOf};
+ghost use Rattle.convert.specs.Contracts.Space.{outputBy, Fits, Draws, DrawsQuietly};
+ghost use Rattle.convert.specs.Contracts.Space.{Ready, boxTrace, ellipseTrace};
 use crate::positions::point_feature;
 use crate::shapes::Shape;
 use crate::shapes::props_of;
@@ -16,6 +19,8 @@ use crate::shapes::shape_of;
 use crate::state::Ctx;
 use crate::state::Props;
 use crate::state::State;
+use crate::state::WARNING_ALLOWANCE_SPENT;
+use crate::state::WARNING_MISSING_GEOMETRY;
 use crate::state::warn;
 use crate::strokes::draw_ring;
 use crate::strokes::polyline_or_polygon;
@@ -117,7 +122,7 @@ fn draw_points(
 {
     let points = points_of(s, next, 0);
     if !points.some {
-        return warn(warnings, st, 5, p.item);
+        return warn(warnings, st, WARNING_MISSING_GEOMETRY, p.item);
     }
     let outline = points_of(s, next, 1);
     let l = load_points(s, closed, points, outline, st.budget, work);
@@ -235,7 +240,7 @@ fn draw_paths(
 {
     let first = next_path(s, next, 0);
     if !first.some {
-        return warn(warnings, st, 5, p.item);
+        return warn(warnings, st, WARNING_MISSING_GEOMETRY, p.item);
     }
     let second = next_path(s, first.next, 0);
     draw_each(
@@ -311,7 +316,7 @@ fn draw_item(
             st,
         ),
         Shape::Paths => draw_paths(s, cx, p, it.next, work, positions, features, warnings, st),
-        Shape::Missing => warn(warnings, st, 5, i),
+        Shape::Missing => warn(warnings, st, WARNING_MISSING_GEOMETRY, i),
         Shape::Nothing => st,
     }
 }
@@ -383,5 +388,5 @@ pub fn convert(
     if !left.hit {
         return r;
     }
-    warn(warnings, r, 6, 0)
+    warn(warnings, r, WARNING_ALLOWANCE_SPENT, 0)
 }

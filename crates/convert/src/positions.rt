@@ -6,8 +6,11 @@ ghost use Rattle.values.specs.Contracts.Points.{pointWith, pointsIn};
 ghost use Rattle.convert.specs.Convert.{strokeOf, drawWithoutWriting, pointOf};
 ghost use Rattle.convert.specs.Contracts.Space.{firstRepeatedIn, Finished, Strokes, Warns, StrokeReady};
 use crate::state::Ctx;
+use crate::state::FEATURE_ROOM;
+use crate::state::POSITION_ROOM;
 use crate::state::Props;
 use crate::state::State;
+use crate::state::WARNING_MISSING_GEOMETRY;
 use crate::state::out_of_room;
 use crate::state::warn;
 use crate::state::with_budget;
@@ -15,7 +18,9 @@ use budget::Budget;
 use densify::densify_polyline;
 use densify::put_point;
 use densify::spend_polyline;
+use geojson::FEATURE_WORDS;
 use geojson::Feature;
+use geojson::POINT;
 use geojson::write_feature;
 use similarity::geo;
 
@@ -55,12 +60,12 @@ fn finish(
     };
     let at = st.features;
     if !write_feature(features, at, line) {
-        return out_of_room(st, 17);
+        return out_of_room(st, FEATURE_ROOM);
     }
     State {
         number: 0,
         positions: to,
-        features: at + 6,
+        features: at + FEATURE_WORDS,
         warnings: st.warnings,
         budget,
     }
@@ -137,9 +142,9 @@ pub fn point_feature(
     let g = geo(cx.projection, x, y);
     let d = put_point(g.lon, g.lat, st.budget, positions, st.positions);
     if !d.ok {
-        return out_of_room(st, 16);
+        return out_of_room(st, POSITION_ROOM);
     }
-    finish(p, 0, 0, d.at, 1, st.budget, features, st)
+    finish(p, POINT, 0, d.at, 1, st.budget, features, st)
 }
 
 // Fewer positions than a ring has: the draws stand, and a warning takes the place.
@@ -164,5 +169,5 @@ pub fn draw_without_writing(
         to,
         st.budget,
     );
-    warn(warnings, with_budget(st, left), 5, item)
+    warn(warnings, with_budget(st, left), WARNING_MISSING_GEOMETRY, item)
 }

@@ -9,6 +9,16 @@ use similarity::Projection;
 use values::WarningCursor;
 use values::push_warning;
 
+// Numbers of refusals: what lacks room.
+pub const WORK_ROOM: u8 = 15;
+pub const POSITION_ROOM: u8 = 16;
+pub const FEATURE_ROOM: u8 = 17;
+pub const WARNING_ROOM: u8 = 18;
+
+// Kinds of warnings: an item without its geometry; the allowance was spent.
+pub const WARNING_MISSING_GEOMETRY: u32 = 5;
+pub const WARNING_ALLOWANCE_SPENT: u32 = 6;
+
 // The same for a whole sheet: the projection, the longest step in metres, and the tolerance for curves in inches.
 pub struct Ctx {
     pub projection: Projection,
@@ -74,7 +84,7 @@ pub fn warn(warnings: &mut [u32], st: State, kind: u32, index: u32) -> State
     };
     let pushed = push_warning(warnings, cursor, kind, index);
     if !pushed.ok {
-        return out_of_room(st, 18);
+        return out_of_room(st, WARNING_ROOM);
     }
     let budget = st.budget;
     State {

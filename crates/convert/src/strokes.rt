@@ -10,11 +10,15 @@ use crate::positions::stroke;
 use crate::state::Ctx;
 use crate::state::Props;
 use crate::state::State;
+use crate::state::WORK_ROOM;
 use crate::state::out_of_room;
 use crate::state::with_budget;
 use crate::workspace::Workspace;
 use densify::PointCursor;
 use densify::close_ring;
+use geojson::FILL;
+use geojson::LINE;
+use geojson::POLYGON;
 
 // A separate fill, of the outline where there is one, else of the points, closed.
 fn fill(
@@ -59,7 +63,7 @@ fn fill(
     if ring.at < 8 {
         return st;
     }
-    stroke(cx, p, 2, 1, work, 0, ring.at, positions, features, st)
+    stroke(cx, p, POLYGON, FILL, work, 0, ring.at, positions, features, st)
 }
 
 // An open or closed stroke: a polygon, or a line with its fill before it.
@@ -84,7 +88,7 @@ pub fn polyline_or_polygon(
         return st;
     }
     if !l.ok {
-        return out_of_room(st, 15);
+        return out_of_room(st, WORK_ROOM);
     }
     let drawn = with_budget(st, l.budget);
     if l.points < 4 {
@@ -92,14 +96,14 @@ pub fn polyline_or_polygon(
     }
     if closed {
         if l.ring >= 8 {
-            return stroke(cx, p, 2, 0, work, 0, l.ring, positions, features, drawn);
+            return stroke(cx, p, POLYGON, 0, work, 0, l.ring, positions, features, drawn);
         }
     }
     let filled = fill(cx, p, l, work, positions, features, drawn);
     if closed {
         return draw_without_writing(cx, p.item, work, 0, l.points, warnings, filled);
     }
-    stroke(cx, p, 1, 0, work, 0, l.points, positions, features, filled)
+    stroke(cx, p, LINE, 0, work, 0, l.points, positions, features, filled)
 }
 
 // A ring whose points end at d.at.
@@ -121,15 +125,15 @@ pub fn draw_ring(
         return st;
     }
     if !d.ok {
-        return out_of_room(st, 15);
+        return out_of_room(st, WORK_ROOM);
     }
     if work.len() - d.at < 2 {
-        return out_of_room(st, 15);
+        return out_of_room(st, WORK_ROOM);
     }
     stroke(
         cx,
         p,
-        2,
+        POLYGON,
         0,
         work,
         0,

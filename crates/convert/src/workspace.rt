@@ -17,8 +17,8 @@ use densify::path_points;
 use scene::Path;
 use scene::Points;
 
-// Where a shape's points end, where they end once closed, and where the closed outline ends that stands behind them. Not
-// `ok` where they and one point more lack room.
+// Where a shape's points end, where they end once closed, and where the closed outline behind them ends. Not `ok` where
+// they and one point more lack room.
 pub struct Workspace {
     pub ok: bool,
     pub points: usize,
