@@ -2,7 +2,8 @@
 ghost use mathlib.Core.Path.{_≡_};
 ghost use Prim.Native.Nat.{suc, _≤_, _<_};
 ghost use lib.ListN.{length};
-ghost use Rattle.densify.specs.Densify.{withoutDraws, roundTo, ellipsePoint, ellipseRingOf, sharpCorners, cornerPoint, roundedCorners, quarterOf, boxRingOf};
+ghost use Rattle.densify.specs.Densify.{withoutDraws, roundTo, ellipsePoint, ellipseRingOf, sharpCorners};
+ghost use Rattle.densify.specs.Densify.{cornerPoint, roundedCorners, quarterOf, boxRingOf};
 ghost use Rattle.densify.specs.Contracts.Written.{Written};
 ghost use Rattle.values.specs.Contracts.Points.{pointIn};
 use crate::append::PointCursor;
@@ -29,7 +30,8 @@ fn ellipse_points(
     at: usize,
 ) -> PointCursor
     requires { ⌜ (n < 4294967296) × (at ≤ length (now work)) ⌝ }
-    ensures { λ r. ⌜ Written (now (work .entry)) (now (work .exit)) at (withoutDraws (roundTo (ellipsePoint (pointIn c) rx ry n) n) budget) r ⌝ }
+    ensures { λ r. ⌜ Written (now (work .entry)) (now (work .exit)) at
+        (withoutDraws (roundTo (ellipsePoint (pointIn c) rx ry n) n) budget) r ⌝ }
 {
     let mut next = at;
     let mut k = 0usize;
@@ -46,7 +48,7 @@ fn ellipse_points(
     PointCursor {
         ok: true,
         at: next,
-        budget: budget,
+        budget,
     }
 }
 
@@ -63,7 +65,8 @@ pub fn ellipse_ring(
     at: usize,
 ) -> PointCursor
     requires { ⌜ at ≤ length (now work) ⌝ }
-    ensures { λ r. ⌜ Written (now (work .entry)) (now (work .exit)) at (ellipseRingOf step scale tol (pointIn c) rx ry budget) r ⌝ }
+    ensures { λ r. ⌜ Written (now (work .entry)) (now (work .exit)) at
+        (ellipseRingOf step scale tol (pointIn c) rx ry budget) r ⌝ }
 {
     let t = take(budget, arc_vertices(step, scale, max(rx, ry), tol), 8);
     let n = t.granted;
@@ -86,7 +89,8 @@ fn sharp_corners(
     at: usize,
 ) -> PointCursor
     requires { ⌜ at ≤ length (now work) ⌝ }
-    ensures { λ r. ⌜ Written (now (work .entry)) (now (work .exit)) at (withoutDraws (sharpCorners (pointIn c) hw hh) budget) r ⌝ }
+    ensures { λ r. ⌜ Written (now (work .entry)) (now (work .exit)) at
+        (withoutDraws (sharpCorners (pointIn c) hw hh) budget) r ⌝ }
 {
     let west = c[0] - hw;
     let east = c[0] + hw;
@@ -122,7 +126,8 @@ fn corner(
     at: usize,
 ) -> PointCursor
     requires { ⌜ (per < 4294967295) × (at ≤ length (now work)) ⌝ }
-    ensures { λ d. ⌜ Written (now (work .entry)) (now (work .exit)) at (withoutDraws (roundTo (cornerPoint (record { x = x; y = y }) r start per) (suc per)) budget) d ⌝ }
+    ensures { λ d. ⌜ Written (now (work .entry)) (now (work .exit)) at
+        (withoutDraws (roundTo (cornerPoint (record { x = x; y = y }) r start per) (suc per)) budget) d ⌝ }
 {
     let mut next = at;
     let mut k = 0usize;
@@ -139,7 +144,7 @@ fn corner(
     PointCursor {
         ok: true,
         at: next,
-        budget: budget,
+        budget,
     }
 }
 
@@ -155,7 +160,8 @@ fn rounded_corners(
     at: usize,
 ) -> PointCursor
     requires { ⌜ (per < 4294967295) × (at ≤ length (now work)) ⌝ }
-    ensures { λ d. ⌜ Written (now (work .entry)) (now (work .exit)) at (withoutDraws (roundedCorners (pointIn c) hw hh r per) budget) d ⌝ }
+    ensures { λ d. ⌜ Written (now (work .entry)) (now (work .exit)) at
+        (withoutDraws (roundedCorners (pointIn c) hw hh r per) budget) d ⌝ }
 {
     let west = c[0] - hw + r;
     let east = c[0] + hw - r;
@@ -204,7 +210,8 @@ pub fn box_ring(
     at: usize,
 ) -> PointCursor
     requires { ⌜ at ≤ length (now work) ⌝ }
-    ensures { λ r. ⌜ Written (now (work .entry)) (now (work .exit)) at (boxRingOf step scale tol (pointIn c) w h rad budget) r ⌝ }
+    ensures { λ r. ⌜ Written (now (work .entry)) (now (work .exit)) at
+        (boxRingOf step scale tol (pointIn c) w h rad budget) r ⌝ }
 {
     let hw = w / 2.0;
     let hh = h / 2.0;
