@@ -6,11 +6,12 @@ ghost use Prim.Native.Nat.{_+_, _<_};
 ghost use lib.ListN.{length};
 ghost use Rattle.stream.specs.Payload.{payload};
 ghost use Rattle.stream.specs.Contracts.Payload.{room};
-ghost use Rattle.scene.specs.Contracts.Answers.{LabelsFrom, PathWithin, pointsFrom, pathsFrom, pathsBy, itemsAt, itemBy};
-ghost use Rattle.convert.specs.Convert.{pointsTrace, pathsOf, pathsTrace, withPart, onScreen, itemOf, itemsOf, convertOf};
-ghost use Rattle.convert.specs.Contracts.Space.{outputBy, Fits, Draws, boxTrace, ellipseTrace};
-use crate::workspace::load_path;
-use crate::workspace::load_points;
+ghost use Rattle.scene.specs.Contracts.Answers.{LabelsFrom, PathWithin, pointsFrom, pathsFrom};
+ghost use Rattle.scene.specs.Contracts.Answers.{pathsBy, itemsAt, itemBy};
+ghost use Rattle.convert.specs.Convert.{pointsTrace, pathsOf, pathsTrace, withPart};
+ghost use Rattle.convert.specs.Convert.{onScreen, itemOf, itemsOf, convertOf};
+ghost use Rattle.convert.specs.Contracts.Space.{outputBy, Fits, Draws, DrawsQuietly};
+ghost use Rattle.convert.specs.Contracts.Space.{Ready, boxTrace, ellipseTrace};
 use crate::positions::point_feature;
 use crate::shapes::Shape;
 use crate::shapes::props_of;
@@ -18,9 +19,13 @@ use crate::shapes::shape_of;
 use crate::state::Ctx;
 use crate::state::Props;
 use crate::state::State;
+use crate::state::WARNING_ALLOWANCE_SPENT;
+use crate::state::WARNING_MISSING_GEOMETRY;
 use crate::state::warn;
 use crate::strokes::draw_ring;
 use crate::strokes::polyline_or_polygon;
+use crate::workspace::load_path;
+use crate::workspace::load_points;
 use densify::box_ring;
 use densify::ellipse_ring;
 use scene::Item;
@@ -40,14 +45,12 @@ fn draw_box(
     work: &mut [f64],
     positions: &mut [f64],
     features: &mut [u32],
-    warnings: &mut [u32],
     st: State,
 ) -> State
-    requires { ⌜ Fits (outputBy (length (now work)) (now positions) (now features) (now warnings) st)
-        (st .budget) ⌝ }
-    ensures { λ r. ⌜ Draws (boxTrace cx p x y w h rad (st .budget))
-        (now (work .entry)) (now (positions .entry)) (now (features .entry)) (now (warnings .entry)) st
-        (now (work .exit)) (now (positions .exit)) (now (features .exit)) (now (warnings .exit)) r ⌝ }
+    requires { ⌜ Ready (now positions) (now features) st ⌝ }
+    ensures { λ r. ⌜ DrawsQuietly (boxTrace cx p x y w h rad (st .budget))
+        (now (work .entry)) (now (positions .entry)) (now (features .entry)) st
+        (now (work .exit)) (now (positions .exit)) (now (features .exit)) r ⌝ }
 {
     let scale = cx.projection.registration.scale;
     let d = box_ring(
@@ -75,14 +78,12 @@ fn draw_ellipse(
     work: &mut [f64],
     positions: &mut [f64],
     features: &mut [u32],
-    warnings: &mut [u32],
     st: State,
 ) -> State
-    requires { ⌜ Fits (outputBy (length (now work)) (now positions) (now features) (now warnings) st)
-        (st .budget) ⌝ }
-    ensures { λ r. ⌜ Draws (ellipseTrace cx p x y rx ry (st .budget))
-        (now (work .entry)) (now (positions .entry)) (now (features .entry)) (now (warnings .entry)) st
-        (now (work .exit)) (now (positions .exit)) (now (features .exit)) (now (warnings .exit)) r ⌝ }
+    requires { ⌜ Ready (now positions) (now features) st ⌝ }
+    ensures { λ r. ⌜ DrawsQuietly (ellipseTrace cx p x y rx ry (st .budget))
+        (now (work .entry)) (now (positions .entry)) (now (features .entry)) st
+        (now (work .exit)) (now (positions .exit)) (now (features .exit)) r ⌝ }
 {
     let scale = cx.projection.registration.scale;
     let d = ellipse_ring(
@@ -121,7 +122,7 @@ fn draw_points(
 {
     let points = points_of(s, next, 0);
     if !points.some {
-        return warn(warnings, st, 5, p.item);
+        return warn(warnings, st, WARNING_MISSING_GEOMETRY, p.item);
     }
     let outline = points_of(s, next, 1);
     let l = load_points(s, closed, points, outline, st.budget, work);
@@ -160,7 +161,7 @@ fn part_of(p: Props, many: bool, i: usize) -> Props
     Props {
         item: p.item,
         placement: p.placement,
-        part: part,
+        part,
         fill: p.fill,
     }
 }
@@ -239,7 +240,7 @@ fn draw_paths(
 {
     let first = next_path(s, next, 0);
     if !first.some {
-        return warn(warnings, st, 5, p.item);
+        return warn(warnings, st, WARNING_MISSING_GEOMETRY, p.item);
     }
     let second = next_path(s, first.next, 0);
     draw_each(
@@ -286,7 +287,6 @@ fn draw_item(
             work,
             positions,
             features,
-            warnings,
             st,
         ),
         Shape::Ellipse(x, y, w, h) => draw_ellipse(
@@ -299,22 +299,9 @@ fn draw_item(
             work,
             positions,
             features,
-            warnings,
             st,
         ),
-        Shape::Circle(x, y, r) => draw_ellipse(
-            cx,
-            p,
-            x,
-            y,
-            r,
-            r,
-            work,
-            positions,
-            features,
-            warnings,
-            st,
-        ),
+        Shape::Circle(x, y, r) => draw_ellipse(cx, p, x, y, r, r, work, positions, features, st),
         Shape::Dot(x, y) => point_feature(cx, p, x, y, positions, features, st),
         Shape::Points => draw_points(
             s,
@@ -329,7 +316,7 @@ fn draw_item(
             st,
         ),
         Shape::Paths => draw_paths(s, cx, p, it.next, work, positions, features, warnings, st),
-        Shape::Missing => warn(warnings, st, 5, i),
+        Shape::Missing => warn(warnings, st, WARNING_MISSING_GEOMETRY, i),
         Shape::Nothing => st,
     }
 }
@@ -401,5 +388,5 @@ pub fn convert(
     if !left.hit {
         return r;
     }
-    warn(warnings, r, 6, 0)
+    warn(warnings, r, WARNING_ALLOWANCE_SPENT, 0)
 }

@@ -2,18 +2,21 @@
 ghost use mathlib.Core.Path.{_≡_};
 ghost use mathlib.Core.Bool.{true};
 ghost use mathlib.Core.List.{List, map};
-ghost use Prim.Native.Nat.{ℕ, _+_, _≤_};
+ghost use Prim.Native.Nat.{_+_, _≤_};
 ghost use lib.Ieee.{Float};
 ghost use lib.ListN.{length};
-ghost use Rattle.values.specs.Contracts.Points.{pointsIn};
+ghost use Rattle.values.specs.Contracts.Points.{pointWith, pointsIn};
 ghost use Rattle.projection.specs.Projection.{projectPoint};
 ghost use Rattle.densify.specs.Densify.{Made};
 ghost use Rattle.densify.specs.Contracts.Written.{onPoints, Written};
 ghost use Rattle.convert.specs.Convert.{positionsOf, strokeOf, drawWithoutWriting, pointOf};
-ghost use Rattle.convert.specs.Contracts.Space.{outputBy, most, longest, behindAt, firstRepeatedIn, Finished, Fits, Applied};
+ghost use Rattle.convert.specs.Contracts.Space.{behindAt, firstRepeatedIn, Finished, Strokes, Warns, StrokeReady};
 use crate::state::Ctx;
+use crate::state::FEATURE_ROOM;
+use crate::state::POSITION_ROOM;
 use crate::state::Props;
 use crate::state::State;
+use crate::state::WARNING_MISSING_GEOMETRY;
 use crate::state::out_of_room;
 use crate::state::warn;
 use crate::state::with_budget;
@@ -22,7 +25,9 @@ use densify::PointCursor;
 use densify::densify_polyline;
 use densify::put_point;
 use densify::spend_polyline;
+use geojson::FEATURE_WORDS;
 use geojson::Feature;
+use geojson::POINT;
 use geojson::write_feature;
 use projection::Projection;
 use projection::geo;
@@ -39,7 +44,8 @@ fn repeat_first_position(out: &mut [f64], from: usize, to: usize)
     out[to - 1] = lat;
 }
 
-// The points that a polyline left behind `at`, as d tells, become the positions of a line or a ring where they stand: carried to the Earth, and a ring's last the first.
+// The points that a polyline left behind `at`, as d tells, become the positions of a line or a ring where they stand:
+// carried to the Earth, and a ring's last the first.
 fn project_and_close(
     t: Projection,
     geometry: u32,
@@ -48,7 +54,9 @@ fn project_and_close(
     d: PointCursor,
 ) -> PointCursor
     requires { ⌜ (d .ok ≡ true → (2 ≤ d .at) × (at + d .at ≤ length (now positions))) ⌝ }
-    ensures { λ r. ⌜ ((q : List Float) (m : Made) → Written q (now (positions .entry)) at m (behindAt at d) → Written q (now (positions .exit)) at (onPoints (λ ps. positionsOf geometry (map (projectPoint t) ps)) m) r) ⌝ }
+    ensures { λ r. ⌜ ((q : List Float) (m : Made) → Written q (now (positions .entry)) at m (behindAt at d)
+        → Written q (now (positions .exit)) at
+        (onPoints (λ ps. positionsOf geometry (map (projectPoint t) ps)) m) r) ⌝ }
 {
     if !d.ok {
         return d;
@@ -84,26 +92,27 @@ fn finish(
 {
     let line = Feature {
         item: p.item,
-        geometry: geometry,
-        role: role,
+        geometry,
+        role,
         placement: p.placement,
         part: p.part,
-        count: count,
+        count,
     };
     let at = st.features;
     if !write_feature(features, at, line) {
-        return out_of_room(st, 17);
+        return out_of_room(st, FEATURE_ROOM);
     }
     State {
         number: 0,
         positions: to,
-        features: at + 6,
+        features: at + FEATURE_WORDS,
         warnings: st.warnings,
-        budget: budget,
+        budget,
     }
 }
 
-// The points in `work` from `from` to `to`, densified and carried to the Earth: a line (geometry 1) or a ring (2). The tail of the position slice is lent on to be filled.
+// The points in `work` from `from` to `to`, densified and carried to the Earth: a line (geometry 1) or a ring (2). The
+// tail of the position slice is lent on to be filled.
 pub fn stroke(
     cx: Ctx,
     p: Props,
@@ -116,8 +125,9 @@ pub fn stroke(
     features: &mut [u32],
     st: State,
 ) -> State
-    requires { ⌜ (from + 2 ≤ to) × (to ≤ length (now work)) × (to ≤ longest) × (st .positions ≤ length (now positions)) × (st .features ≤ length (now features)) × (st .budget .left ≤ most) ⌝ }
-    ensures { λ r. ⌜ ((w : ℕ) (v : List ℕ) → Fits (outputBy w (now (positions .entry)) (now (features .entry)) v st) (st .budget) → Applied (strokeOf cx p geometry role (pointsIn (now (work .entry)) from to) (st .budget)) (outputBy w (now (positions .entry)) (now (features .entry)) v st) (outputBy w (now (positions .exit)) (now (features .exit)) v r) (r .budget)) ⌝ }
+    requires { ⌜ StrokeReady (length (now work)) from to (now positions) (now features) st ⌝ }
+    ensures { λ r. ⌜ Strokes (strokeOf cx p geometry role (pointsIn (now (work .entry)) from to) (st .budget))
+        (now (positions .entry)) (now (features .entry)) st (now (positions .exit)) (now (features .exit)) r ⌝ }
 {
     if st.number != 0 {
         return st;
@@ -160,7 +170,8 @@ pub fn point_feature(
     st: State,
 ) -> State
     requires { ⌜ (st .positions ≤ length (now positions)) × (st .features ≤ length (now features)) ⌝ }
-    ensures { λ r. ⌜ ((w : ℕ) (v : List ℕ) → Fits (outputBy w (now (positions .entry)) (now (features .entry)) v st) (st .budget) → Applied (pointOf cx p (record { x = x; y = y }) (st .budget)) (outputBy w (now (positions .entry)) (now (features .entry)) v st) (outputBy w (now (positions .exit)) (now (features .exit)) v r) (r .budget)) ⌝ }
+    ensures { λ r. ⌜ Strokes (pointOf cx p (pointWith x y) (st .budget))
+        (now (positions .entry)) (now (features .entry)) st (now (positions .exit)) (now (features .exit)) r ⌝ }
 {
     if st.number != 0 {
         return st;
@@ -168,9 +179,9 @@ pub fn point_feature(
     let g = geo(cx.projection, x, y);
     let d = put_point(g.lon, g.lat, st.budget, positions, st.positions);
     if !d.ok {
-        return out_of_room(st, 16);
+        return out_of_room(st, POSITION_ROOM);
     }
-    finish(p, 0, 0, d.at, 1, st.budget, features, st)
+    finish(p, POINT, 0, d.at, 1, st.budget, features, st)
 }
 
 // Fewer positions than a ring has: the draws stand, and a warning takes the place.
@@ -184,7 +195,8 @@ pub fn draw_without_writing(
     st: State,
 ) -> State
     requires { ⌜ (from ≤ to) × (to ≤ length (now work)) × (st .warnings ≤ length (now warnings)) ⌝ }
-    ensures { λ r. ⌜ ((w : ℕ) (q : List Float) (f : List ℕ) → Fits (outputBy w q f (now (warnings .entry)) st) (st .budget) → Applied (drawWithoutWriting cx item (pointsIn (now (work .entry)) from to) (st .budget)) (outputBy w q f (now (warnings .entry)) st) (outputBy w q f (now (warnings .exit)) r) (r .budget)) ⌝ }
+    ensures { λ r. ⌜ Warns (drawWithoutWriting cx item (pointsIn (now (work .entry)) from to) (st .budget))
+        (now (warnings .entry)) st (now (warnings .exit)) r ⌝ }
 {
     let left = spend_polyline(
         cx.step,
@@ -194,5 +206,5 @@ pub fn draw_without_writing(
         to,
         st.budget,
     );
-    warn(warnings, with_budget(st, left), 5, item)
+    warn(warnings, with_budget(st, left), WARNING_MISSING_GEOMETRY, item)
 }

@@ -5,7 +5,18 @@ ghost use Prim.Native.Nat.{ℕ};
 ghost use Rattle.scene.specs.Contracts.Answers.{itemBy};
 ghost use Rattle.convert.specs.Convert.{boxOf, ellipseOf, circleOf, dotOf, shapeOf, onScreen, propsOf};
 use crate::state::Props;
+use geojson::SCREEN;
 use scene::Item;
+
+// Kinds of items, by their place in the source's KINDS. Arcs (3), splines (6) and braces (9) are drawn by their paths.
+const KIND_BOX: u8 = 0;
+const KIND_CIRCLE: u8 = 1;
+const KIND_ELLIPSE: u8 = 2;
+const KIND_LINE: u8 = 4;
+const KIND_ARROW: u8 = 5;
+const KIND_TEXT: u8 = 7;
+const KIND_DOT: u8 = 8;
+const KIND_BLOCK: u8 = 10;
 
 // A drawn shape with its centre, sizes and radii, or a list of points or paths.
 pub enum Shape {
@@ -77,7 +88,7 @@ fn dot_of(it: Item) -> Shape
 fn is_on_screen(kind: u8) -> bool
     ensures { λ r. ⌜ r ≡ onScreen kind ⌝ }
 {
-    kind == 7 || kind == 8
+    kind == KIND_TEXT || kind == KIND_DOT
 }
 
 pub fn shape_of(it: Item) -> Shape
@@ -87,25 +98,25 @@ pub fn shape_of(it: Item) -> Shape
     if it.hidden {
         return Shape::Nothing;
     }
-    if k == 10 {
+    if k == KIND_BLOCK {
         return Shape::Nothing;
     }
-    if k == 0 {
+    if k == KIND_BOX {
         return box_of(it);
     }
-    if k == 1 {
+    if k == KIND_CIRCLE {
         return circle_of(it);
     }
-    if k == 2 {
+    if k == KIND_ELLIPSE {
         return ellipse_of(it);
     }
     if is_on_screen(k) {
         return dot_of(it);
     }
-    if k == 4 {
+    if k == KIND_LINE {
         return Shape::Points;
     }
-    if k == 5 {
+    if k == KIND_ARROW {
         return Shape::Points;
     }
     Shape::Paths
@@ -117,11 +128,11 @@ pub fn props_of(it: Item, i: u32) -> Props
 {
     let mut placement = 0u32;
     if it.screen || is_on_screen(it.kind) {
-        placement = 1;
+        placement = SCREEN;
     }
     Props {
         item: i,
-        placement: placement,
+        placement,
         part: 0,
         fill: it.fill,
     }

@@ -1,14 +1,23 @@
 // What is handed from item to item.
 ghost use mathlib.Core.Path.{_≡_};
 ghost use Prim.Native.Nat.{_≤_};
-ghost use lib.Ieee.{Float};
-ghost use mathlib.Core.List.{List};
-ghost use Prim.Native.Nat.{ℕ};
 ghost use lib.ListN.{length};
 ghost use Rattle.convert.specs.Convert.{oneEvent, warned};
-ghost use Rattle.convert.specs.Contracts.Space.{outputBy, Fits, Applied};
+ghost use Rattle.convert.specs.Contracts.Space.{outOfRoomBy, withBudget, Warns};
 use budget::Budget;
 use projection::Projection;
+use values::WarningCursor;
+use values::push_warning;
+
+// Numbers of refusals: what lacks room.
+pub const WORK_ROOM: u8 = 15;
+pub const POSITION_ROOM: u8 = 16;
+pub const FEATURE_ROOM: u8 = 17;
+pub const WARNING_ROOM: u8 = 18;
+
+// Kinds of warnings: an item without its geometry; the allowance was spent.
+pub const WARNING_MISSING_GEOMETRY: u32 = 5;
+pub const WARNING_ALLOWANCE_SPENT: u32 = 6;
 
 // The same for a whole sheet: the projection, the longest step in metres, and the tolerance for curves in inches.
 pub struct Ctx {
@@ -36,50 +45,53 @@ pub struct State {
 
 // Something lacks room.
 pub fn out_of_room(st: State, number: u8) -> State
-    ensures { λ r. ⌜ (r .number ≡ number) × (r .positions ≡ st .positions) × (r .features ≡ st .features) × (r .warnings ≡ st .warnings) × (r .budget ≡ st .budget) ⌝ }
+    ensures { λ r. ⌜ r ≡ outOfRoomBy st number ⌝ }
 {
     let budget = st.budget;
     State {
-        number: number,
+        number,
         positions: st.positions,
         features: st.features,
         warnings: st.warnings,
-        budget: budget,
+        budget,
     }
 }
 
 pub fn with_budget(st: State, budget: Budget) -> State
-    ensures { λ r. ⌜ (r .number ≡ st .number) × (r .positions ≡ st .positions) × (r .features ≡ st .features) × (r .warnings ≡ st .warnings) × (r .budget ≡ budget) ⌝ }
+    ensures { λ r. ⌜ r ≡ withBudget st budget ⌝ }
 {
     State {
         number: st.number,
         positions: st.positions,
         features: st.features,
         warnings: st.warnings,
-        budget: budget,
+        budget,
     }
 }
 
 // One warning more.
 pub fn warn(warnings: &mut [u32], st: State, kind: u32, index: u32) -> State
     requires { ⌜ st .warnings ≤ length (now warnings) ⌝ }
-    ensures { λ r. ⌜ ((w : ℕ) (p : List Float) (f : List ℕ) → Fits (outputBy w p f (now (warnings .entry)) st) (st .budget) → Applied (oneEvent (warned (record { kind = kind; index = index })) (st .budget)) (outputBy w p f (now (warnings .entry)) st) (outputBy w p f (now (warnings .exit)) r) (r .budget)) ⌝ }
+    ensures { λ r. ⌜ Warns (oneEvent (warned (record { kind = kind; index = index })) (st .budget))
+        (now (warnings .entry)) st (now (warnings .exit)) r ⌝ }
 {
     if st.number != 0 {
         return st;
     }
-    let n = st.warnings;
-    if warnings.len() - n < 2 {
-        return out_of_room(st, 18);
+    let cursor = WarningCursor {
+        ok: true,
+        used: st.warnings,
+    };
+    let pushed = push_warning(warnings, cursor, kind, index);
+    if !pushed.ok {
+        return out_of_room(st, WARNING_ROOM);
     }
-    warnings[n] = kind;
-    warnings[n + 1] = index;
     let budget = st.budget;
     State {
         number: 0,
         positions: st.positions,
         features: st.features,
-        warnings: n + 2,
-        budget: budget,
+        warnings: pushed.used,
+        budget,
     }
 }

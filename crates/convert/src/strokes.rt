@@ -1,26 +1,24 @@
 // Lines, paths and rings: the source's polyline_or_polygon.
 ghost use mathlib.Core.Path.{_≡_};
-ghost use mathlib.Core.Bool.{Bool, true};
-ghost use mathlib.Core.List.{List};
-ghost use Prim.Native.Nat.{ℕ, _≤_};
-ghost use lib.Ieee.{Float};
+ghost use mathlib.Core.Bool.{true};
+ghost use Prim.Native.Nat.{_≤_};
 ghost use lib.ListN.{length, take};
-ghost use Rattle.values.specs.declared.Point.{Point};
-ghost use Rattle.values.specs.Maybe.{Maybe};
-ghost use Rattle.budget.specs.declared.Budget.{Budget};
-ghost use Rattle.densify.specs.Densify.{Made, closeRingOf};
-ghost use Rattle.convert.specs.Convert.{closedOutline, fillOf, polylineOrPolygonOf, ringTrace};
-ghost use Rattle.convert.specs.Contracts.Space.{outputBy, most, longest, Fits, Applied, Bounds, Loaded, Loads, RingLoaded};
-use crate::workspace::Workspace;
-use crate::positions::stroke;
+ghost use Rattle.convert.specs.Contracts.Space.{outputBy, most, Fits, KeepsFit, Bounds};
+ghost use Rattle.convert.specs.Contracts.Space.{FillReady, RingReady, Fills, DrawsLoaded, DrawsRing};
 use crate::positions::draw_without_writing;
+use crate::positions::stroke;
 use crate::state::Ctx;
 use crate::state::Props;
 use crate::state::State;
+use crate::state::WORK_ROOM;
 use crate::state::out_of_room;
 use crate::state::with_budget;
+use crate::workspace::Workspace;
 use densify::PointCursor;
 use densify::close_ring;
+use geojson::FILL;
+use geojson::LINE;
+use geojson::POLYGON;
 
 // A separate fill, of the outline where there is one, else of the points, closed.
 fn fill(
@@ -32,25 +30,40 @@ fn fill(
     features: &mut [u32],
     st: State,
 ) -> State
-    requires { ⌜ Bounds l (length (now work)) × (st .positions ≤ length (now positions)) × (st .features ≤ length (now features)) × (st .budget .left ≤ most) ⌝ }
-    ensures { λ r. ⌜ ((closed : Bool) (ps : List Point) (o : Maybe (List Point)) (v : List ℕ) → Loaded (now (work .entry)) closed ps o l → Fits (outputBy (length (now (work .entry))) (now (positions .entry)) (now (features .entry)) v st) (st .budget) → Applied (fillOf cx p (closedOutline o) (closeRingOf ps) (st .budget)) (outputBy (length (now (work .entry))) (now (positions .entry)) (now (features .entry)) v st) (outputBy (length (now (work .exit))) (now (positions .exit)) (now (features .exit)) v r) (r .budget)) ⌝ }
-    ensures { λ r. ⌜ take (l .own) (now (work .exit)) ≡ take (l .own) (now (work .entry)) ⌝ }
-    ensures { λ r. ⌜ ((v : List ℕ) → Fits (outputBy (length (now (work .entry))) (now (positions .entry)) (now (features .entry)) v st) (st .budget) → Fits (outputBy (length (now (work .exit))) (now (positions .exit)) (now (features .exit)) v r) (r .budget)) ⌝ }
+    requires { ⌜ FillReady l (length (now work)) (now positions) (now features) st ⌝ }
+    ensures { λ r. ⌜ Fills cx p l
+        (now (work .entry)) (now (positions .entry)) (now (features .entry)) st
+        (now (work .exit)) (now (positions .exit)) (now (features .exit)) r ⌝ }
+    ensures { λ r. ⌜ take (l .points) (now (work .exit)) ≡ take (l .points) (now (work .entry)) ⌝ }
+    ensures { λ r. ⌜ KeepsFit
+        (now (work .entry)) (now (positions .entry)) (now (features .entry)) st
+        (now (work .exit)) (now (positions .exit)) (now (features .exit)) r ⌝ }
 {
     if !p.fill {
         return st;
     }
     if l.outlined {
-        if l.fin - l.end < 8 {
+        if l.outline - l.ring < 8 {
             return st;
         }
-        return stroke(cx, p, 2, 1, work, l.end, l.fin, positions, features, st);
+        return stroke(
+            cx,
+            p,
+            2,
+            1,
+            work,
+            l.ring,
+            l.outline,
+            positions,
+            features,
+            st,
+        );
     }
-    let ring = close_ring(st.budget, work, 0, l.own);
+    let ring = close_ring(st.budget, work, 0, l.points);
     if ring.at < 8 {
         return st;
     }
-    stroke(cx, p, 2, 1, work, 0, ring.at, positions, features, st)
+    stroke(cx, p, POLYGON, FILL, work, 0, ring.at, positions, features, st)
 }
 
 // An open or closed stroke: a polygon, or a line with its fill before it.
@@ -65,29 +78,32 @@ pub fn polyline_or_polygon(
     warnings: &mut [u32],
     st: State,
 ) -> State
-    requires { ⌜ (l .ok ≡ true → Bounds l (length (now work)) × (l .budget .left ≤ most)) × Fits (outputBy (length (now work)) (now positions) (now features) (now warnings) st) (st .budget) ⌝ }
-    ensures { λ r. ⌜ ((w : List Float) (ps : List Point) (o : Maybe (List Point)) (b : Budget) → Loads w (now (work .entry)) closed ps o b l → Applied (polylineOrPolygonOf cx p closed ps o b) (outputBy (length (now (work .entry))) (now (positions .entry)) (now (features .entry)) (now (warnings .entry)) st) (outputBy (length (now (work .exit))) (now (positions .exit)) (now (features .exit)) (now (warnings .exit)) r) (r .budget)) ⌝ }
+    requires { ⌜ (l .ok ≡ true → Bounds l (length (now work)) × (l .budget .left ≤ most))
+        × Fits (outputBy (length (now work)) (now positions) (now features) (now warnings) st) (st .budget) ⌝ }
+    ensures { λ r. ⌜ DrawsLoaded cx p closed l
+        (now (work .entry)) (now (positions .entry)) (now (features .entry)) (now (warnings .entry)) st
+        (now (work .exit)) (now (positions .exit)) (now (features .exit)) (now (warnings .exit)) r ⌝ }
 {
     if st.number != 0 {
         return st;
     }
     if !l.ok {
-        return out_of_room(st, 15);
+        return out_of_room(st, WORK_ROOM);
     }
     let drawn = with_budget(st, l.budget);
-    if l.own < 4 {
+    if l.points < 4 {
         return drawn;
     }
     if closed {
-        if l.end >= 8 {
-            return stroke(cx, p, 2, 0, work, 0, l.end, positions, features, drawn);
+        if l.ring >= 8 {
+            return stroke(cx, p, POLYGON, 0, work, 0, l.ring, positions, features, drawn);
         }
     }
     let filled = fill(cx, p, l, work, positions, features, drawn);
     if closed {
-        return draw_without_writing(cx, p.item, work, 0, l.own, warnings, filled);
+        return draw_without_writing(cx, p.item, work, 0, l.points, warnings, filled);
     }
-    stroke(cx, p, 1, 0, work, 0, l.own, positions, features, filled)
+    stroke(cx, p, LINE, 0, work, 0, l.points, positions, features, filled)
 }
 
 // A ring whose points end at d.at.
@@ -100,22 +116,24 @@ pub fn draw_ring(
     features: &mut [u32],
     st: State,
 ) -> State
-    requires { ⌜ (d .ok ≡ true → (2 ≤ d .at) × (d .at ≤ length (now work)) × (d .at ≤ longest) × (d .budget .left ≤ most)) × (st .positions ≤ length (now positions)) × (st .features ≤ length (now features)) ⌝ }
-    ensures { λ r. ⌜ ((m : Made) (v : List ℕ) → RingLoaded (now (work .entry)) m d → Fits (outputBy (length (now (work .entry))) (now (positions .entry)) (now (features .entry)) v st) (st .budget) → Applied (ringTrace cx p m) (outputBy (length (now (work .entry))) (now (positions .entry)) (now (features .entry)) v st) (outputBy (length (now (work .entry))) (now (positions .exit)) (now (features .exit)) v r) (r .budget)) ⌝ }
+    requires { ⌜ RingReady d (length (now work)) (now positions) (now features) st ⌝ }
+    ensures { λ r. ⌜ DrawsRing cx p d
+        (now (work .entry)) (now (positions .entry)) (now (features .entry)) st
+        (now (positions .exit)) (now (features .exit)) r ⌝ }
 {
     if st.number != 0 {
         return st;
     }
     if !d.ok {
-        return out_of_room(st, 15);
+        return out_of_room(st, WORK_ROOM);
     }
     if work.len() - d.at < 2 {
-        return out_of_room(st, 15);
+        return out_of_room(st, WORK_ROOM);
     }
     stroke(
         cx,
         p,
-        2,
+        POLYGON,
         0,
         work,
         0,

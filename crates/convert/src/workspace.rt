@@ -1,20 +1,14 @@
 // The points of a line or a path and of its fill outline, laid out in the work slice.
 ghost use mathlib.Core.Path.{_≡_};
-ghost use mathlib.Core.Bool.{Bool, true, false};
-ghost use mathlib.Core.List.{List};
+ghost use mathlib.Core.Bool.{true, false};
 ghost use Prim.Native.Nat.{_+_, _*_, _≤_};
 ghost use lib.ListN.{length};
 ghost use Rattle.stream.specs.Payload.{payload};
 ghost use Rattle.stream.specs.Contracts.Payload.{room};
 ghost use Rattle.scene.specs.Scene.{pointsAt};
-ghost use Rattle.values.specs.declared.Point.{Point};
-ghost use Rattle.values.specs.Maybe.{none, some};
 ghost use Rattle.scene.specs.Contracts.Answers.{pointsBy};
-ghost use Rattle.budget.specs.declared.Budget.{Budget};
-ghost use Rattle.densify.specs.Densify.{Made};
-ghost use Rattle.densify.specs.Contracts.Written.{Written, drawnBy, PathFits};
-ghost use Rattle.convert.specs.Contracts.Space.{most, Loads, Small, LoadsPath, outlineBy};
-ghost use lib.Ieee.{Float};
+ghost use Rattle.densify.specs.Contracts.Written.{drawnBy, PathFits};
+ghost use Rattle.convert.specs.Contracts.Space.{most, Loads, LoadsPath, LoadsOwn, LoadsOutline, outlineBy};
 use budget::Budget;
 use densify::PointCursor;
 use densify::close_ring;
@@ -23,12 +17,13 @@ use densify::path_points;
 use scene::Path;
 use scene::Points;
 
-// The points end at `own`, closed at `end`; the closed outline stands behind them and ends at `fin`. Not `ok` where they and one point more lack room.
+// Where a shape's points end, where they end once closed, and where the closed outline behind them ends. Not `ok` where
+// they and one point more lack room.
 pub struct Workspace {
     pub ok: bool,
-    pub own: usize,
-    pub end: usize,
-    pub fin: usize,
+    pub points: usize,
+    pub ring: usize,
+    pub outline: usize,
     pub outlined: bool,
     pub budget: Budget,
 }
@@ -38,18 +33,18 @@ fn no_room(budget: Budget) -> Workspace
 {
     Workspace {
         ok: false,
-        own: 0,
-        end: 0,
-        fin: 0,
+        points: 0,
+        ring: 0,
+        outline: 0,
         outlined: false,
-        budget: budget,
+        budget,
     }
 }
 
 // Points that end at d.at, closed where they are marked so.
 fn load_own(closed: bool, d: PointCursor, work: &mut [f64]) -> Workspace
     requires { ⌜ (d .ok ≡ true → d .at ≤ length (now work)) ⌝ }
-    ensures { λ r. ⌜ ((w : List Float) (m : Made) → Written w (now (work .entry)) 0 m d → Small m → Loads w (now (work .exit)) closed (m .points) none (m .after) r) ⌝ }
+    ensures { λ r. ⌜ LoadsOwn closed d (now (work .entry)) (now (work .exit)) r ⌝ }
 {
     if !d.ok {
         return no_room(d.budget);
@@ -69,24 +64,24 @@ fn load_own(closed: bool, d: PointCursor, work: &mut [f64]) -> Workspace
     }
     Workspace {
         ok: true,
-        own: own,
-        end: end,
-        fin: end,
+        points: own,
+        ring: end,
+        outline: end,
         outlined: false,
-        budget: budget,
+        budget,
     }
 }
 
-// An outline that stands from l.end to d.at, closed.
+// An outline that stands from l.ring to d.at, closed.
 fn load_outline(l: Workspace, d: PointCursor, work: &mut [f64]) -> Workspace
-    requires { ⌜ (d .ok ≡ true → (l .end ≤ d .at) × (d .at ≤ length (now work))) ⌝ }
-    ensures { λ r. ⌜ ((w w₁ : List Float) (closed : Bool) (ps : List Point) (b : Budget) (m : Made) → Loads w w₁ closed ps none b l → l .ok ≡ true → length ps ≤ 33554430 → Written w₁ (now (work .entry)) (l .end) m d → Small m → Loads w (now (work .exit)) closed ps (some (m .points)) (m .after) r) ⌝ }
+    requires { ⌜ (d .ok ≡ true → (l .ring ≤ d .at) × (d .at ≤ length (now work))) ⌝ }
+    ensures { λ r. ⌜ LoadsOutline l d (now (work .entry)) (now (work .exit)) r ⌝ }
 {
     if !d.ok {
         return no_room(d.budget);
     }
     let after = d.budget;
-    let ring = close_ring(after, work, l.end, d.at);
+    let ring = close_ring(after, work, l.ring, d.at);
     if !ring.ok {
         return no_room(after);
     }
@@ -96,9 +91,9 @@ fn load_outline(l: Workspace, d: PointCursor, work: &mut [f64]) -> Workspace
     }
     Workspace {
         ok: true,
-        own: l.own,
-        end: l.end,
-        fin: fin,
+        points: l.points,
+        ring: l.ring,
+        outline: fin,
         outlined: true,
         budget: after,
     }
@@ -113,8 +108,12 @@ pub fn load_points(
     budget: Budget,
     work: &mut [f64],
 ) -> Workspace
-    requires { ⌜ (points .at + 16 * points .count ≤ room (now s)) × (outline .some ≡ true → outline .at + 16 * outline .count ≤ room (now s)) × (budget .left ≤ most) ⌝ }
-    ensures { λ r. ⌜ Loads (now (work .entry)) (now (work .exit)) closed (pointsAt (payload (now (s .entry))) (points .at) (points .count)) (pointsBy (payload (now (s .entry))) outline) budget r ⌝ }
+    requires { ⌜ (points .at + 16 * points .count ≤ room (now s))
+        × (outline .some ≡ true → outline .at + 16 * outline .count ≤ room (now s))
+        × (budget .left ≤ most) ⌝ }
+    ensures { λ r. ⌜ Loads (now (work .entry)) (now (work .exit)) closed
+        (pointsAt (payload (now (s .entry))) (points .at) (points .count))
+        (pointsBy (payload (now (s .entry))) outline) budget r ⌝ }
 {
     let d = copy_points(s, points.at, points.count as usize, budget, work, 0);
     let l = load_own(closed, d, work);
@@ -124,7 +123,7 @@ pub fn load_points(
     if !outline.some {
         return l;
     }
-    let o = copy_points(s, outline.at, outline.count as usize, budget, work, l.end);
+    let o = copy_points(s, outline.at, outline.count as usize, budget, work, l.ring);
     load_outline(l, o, work)
 }
 
@@ -137,8 +136,12 @@ pub fn load_path(
     budget: Budget,
     work: &mut [f64],
 ) -> Workspace
-    requires { ⌜ PathFits (room (now s)) path × (outline .some ≡ true → PathFits (room (now s)) outline) × (budget .left ≤ most) ⌝ }
-    ensures { λ r. ⌜ LoadsPath (now (work .entry)) (now (work .exit)) tol (drawnBy (payload (now (s .entry))) path) (outlineBy (payload (now (s .entry))) outline) budget r ⌝ }
+    requires { ⌜ PathFits (room (now s)) path
+        × (outline .some ≡ true → PathFits (room (now s)) outline)
+        × (budget .left ≤ most) ⌝ }
+    ensures { λ r. ⌜ LoadsPath (now (work .entry)) (now (work .exit)) tol
+        (drawnBy (payload (now (s .entry))) path)
+        (outlineBy (payload (now (s .entry))) outline) budget r ⌝ }
 {
     let d = path_points(s, path, tol, budget, work, 0);
     let l = load_own(path.closed, d, work);
@@ -148,6 +151,6 @@ pub fn load_path(
     if !outline.some {
         return l;
     }
-    let o = path_points(s, outline, tol, l.budget, work, l.end);
+    let o = path_points(s, outline, tol, l.budget, work, l.ring);
     load_outline(l, o, work)
 }

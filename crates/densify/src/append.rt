@@ -22,7 +22,7 @@ pub fn leaf(flat: bool, p: [f64; 2], budget: Budget, work: &mut [f64], at: usize
     let left = budget.left;
     let cut = !flat && left < 2;
     let marked = Budget {
-        left: left,
+        left,
         hit: budget.hit || cut,
     };
     let t = marked.take(1, 1);
@@ -30,7 +30,7 @@ pub fn leaf(flat: bool, p: [f64; 2], budget: Budget, work: &mut [f64], at: usize
     if work.len() - at < 2 {
         return PointCursor {
             ok: false,
-            at: at,
+            at,
             budget: after,
         };
     }
@@ -46,13 +46,14 @@ pub fn leaf(flat: bool, p: [f64; 2], budget: Budget, work: &mut [f64], at: usize
 // One point more; it draws nothing.
 pub fn put_point(x: f64, y: f64, budget: Budget, work: &mut [f64], at: usize) -> PointCursor
     requires { ⌜ at ≤ length (now work) ⌝ }
-    ensures { λ r. ⌜ Written (now (work .entry)) (now (work .exit)) at (withoutDraws (record { x = x; y = y } ∷ []) budget) r ⌝ }
+    ensures { λ r. ⌜ Written (now (work .entry)) (now (work .exit)) at
+        (withoutDraws (record { x = x; y = y } ∷ []) budget) r ⌝ }
 {
     if work.len() - at < 2 {
         return PointCursor {
             ok: false,
-            at: at,
-            budget: budget,
+            at,
+            budget,
         };
     }
     work[at] = x;
@@ -60,19 +61,21 @@ pub fn put_point(x: f64, y: f64, budget: Budget, work: &mut [f64], at: usize) ->
     PointCursor {
         ok: true,
         at: at + 2,
-        budget: budget,
+        budget,
     }
 }
 
-// Makes a ring of the points that stand from `from` to `at`: the first once more, unless the last equals it. By value, so that -0.0 equals 0.0.
+// Makes a ring of the points that stand from `from` to `at`: the first once more, unless the last equals it. By value:
+// -0.0 equals 0.0.
 pub fn close_ring(budget: Budget, work: &mut [f64], from: usize, at: usize) -> PointCursor
     requires { ⌜ (from ≤ at) × (at ≤ length (now work)) ⌝ }
-    ensures { λ r. ⌜ Written (now (work .entry)) (now (work .exit)) at (withoutDraws (closingIn (now (work .entry)) from at) budget) r ⌝ }
+    ensures { λ r. ⌜ Written (now (work .entry)) (now (work .exit)) at
+        (withoutDraws (closingIn (now (work .entry)) from at) budget) r ⌝ }
 {
     let open = PointCursor {
         ok: true,
-        at: at,
-        budget: budget,
+        at,
+        budget,
     };
     if at - from < 2 {
         return open;

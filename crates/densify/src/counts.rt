@@ -10,6 +10,16 @@ use float::max;
 
 const PI: f64 = 3.141592653589793;
 
+// A segment is cut into so many parts at most.
+const MAX_SEGMENT_VERTICES: usize = 100000;
+
+// The fewest and the most vertices of a full curve.
+const MIN_RING_VERTICES: usize = 32;
+const MAX_RING_VERTICES: usize = 4096;
+
+// What a tolerance asks for that is not below the radius: the fewest.
+const FEWEST_BY_TOLERANCE: f64 = 32.0;
+
 // The whole part of n as a count, held to low .. high; high for what is not finite.
 fn clamp(n: f64, low: usize, high: usize) -> usize
     requires { ⌜ (1 ≤ low) × (low ≤ high) × (high ≤ 1048576) ⌝ }
@@ -41,7 +51,7 @@ pub fn segment_parts(step: f64, metres: f64) -> usize
     if !is_finite(metres) {
         return 1;
     }
-    clamp(ceil(metres / step), 1, 100000)
+    clamp(ceil(metres / step), 1, MAX_SEGMENT_VERTICES)
 }
 
 // So many that the sagitta stays within `tol`.
@@ -49,10 +59,10 @@ fn by_tolerance(r: f64, tol: f64) -> f64
     ensures { λ n. ⌜ n ≡ byTolerance r tol ⌝ }
 {
     if !(tol < r) {
-        return 32.0;
+        return FEWEST_BY_TOLERANCE;
     }
     if !(0.0 < tol) {
-        return 32.0;
+        return FEWEST_BY_TOLERANCE;
     }
     ceil(PI / acos(1.0 - tol / r))
 }
@@ -63,5 +73,5 @@ pub fn arc_vertices(step: f64, scale: f64, radius: f64, tol: f64) -> usize
 {
     let r = abs(radius);
     let around = ceil(2.0 * PI * (r * scale) / step);
-    clamp(max(by_tolerance(r, tol), around), 32, 4096)
+    clamp(max(by_tolerance(r, tol), around), MIN_RING_VERTICES, MAX_RING_VERTICES)
 }

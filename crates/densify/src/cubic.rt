@@ -15,6 +15,9 @@ use float::max;
 // How often a cubic is halved at most.
 const DEPTH: usize = 16;
 
+// No tolerance is below a billionth of an inch.
+const MIN_TOLERANCE: f64 = 0.000000001;
+
 fn mid(a: [f64; 2], b: [f64; 2]) -> [f64; 2]
     ensures { λ r. ⌜ pointIn r ≡ midOf (pointIn a) (pointIn b) ⌝ }
 {
@@ -93,7 +96,8 @@ fn pieces(
     at: usize,
 ) -> PointCursor
     requires { ⌜ at ≤ length (now work) ⌝ }
-    ensures { λ r. ⌜ Written (now (work .entry)) (now (work .exit)) at (splitOf (16 - depth) tol (blockIn b) budget) r ⌝ }
+    ensures { λ r. ⌜ Written (now (work .entry)) (now (work .exit)) at
+        (splitOf (16 - depth) tol (blockIn b) budget) r ⌝ }
 {
     let flat = is_flat(b, tol);
     let left = budget.left;
@@ -128,5 +132,5 @@ pub fn flatten_cubic(
     requires { ⌜ at ≤ length (now work) ⌝ }
     ensures { λ r. ⌜ Written (now (work .entry)) (now (work .exit)) at (flattenCubicOf tol (blockIn b) budget) r ⌝ }
 {
-    pieces(b, max(tol, 0.000000001), 0, budget, work, at)
+    pieces(b, max(tol, MIN_TOLERANCE), 0, budget, work, at)
 }

@@ -25,7 +25,8 @@ pub fn copy_points(
     at: usize,
 ) -> PointCursor
     requires { ⌜ (from + 16 * count ≤ room (now s)) × (at ≤ length (now work)) ⌝ }
-    ensures { λ r. ⌜ Written (now (work .entry)) (now (work .exit)) at (withoutDraws (pointsAt (payload (now (s .entry))) from count) budget) r ⌝ }
+    ensures { λ r. ⌜ Written (now (work .entry)) (now (work .exit)) at
+        (withoutDraws (pointsAt (payload (now (s .entry))) from count) budget) r ⌝ }
 {
     let mut next = at;
     let mut i = 0usize;
@@ -41,7 +42,7 @@ pub fn copy_points(
     PointCursor {
         ok: true,
         at: next,
-        budget: budget,
+        budget,
     }
 }
 
@@ -58,7 +59,8 @@ fn flatten_cubics(
     at: usize,
 ) -> PointCursor
     requires { ⌜ (from + 48 * count ≤ room (now s)) × (at ≤ length (now work)) ⌝ }
-    ensures { λ r. ⌜ Written (now (work .entry)) (now (work .exit)) at (cubicsOf tol (record { x = x; y = y }) (cubicsAt (payload (now (s .entry))) from count) budget) r ⌝ }
+    ensures { λ r. ⌜ Written (now (work .entry)) (now (work .exit)) at
+        (cubicsOf tol (record { x = x; y = y }) (cubicsAt (payload (now (s .entry))) from count) budget) r ⌝ }
 {
     let mut px = x;
     let mut py = y;
@@ -101,7 +103,8 @@ fn form_points(
     at: usize,
 ) -> PointCursor
     requires { ⌜ PathFits (room (now s)) p × (at ≤ length (now work)) ⌝ }
-    ensures { λ r. ⌜ Written (now (work .entry)) (now (work .exit)) at (formPoints tol (formBy (payload (now (s .entry))) p) budget) r ⌝ }
+    ensures { λ r. ⌜ Written (now (work .entry)) (now (work .exit)) at
+        (formPoints tol (formBy (payload (now (s .entry))) p) budget) r ⌝ }
 {
     let count = p.count as usize;
     if !p.curve {
@@ -127,7 +130,8 @@ pub fn path_points(
     at: usize,
 ) -> PointCursor
     requires { ⌜ PathFits (room (now s)) p × (at ≤ length (now work)) ⌝ }
-    ensures { λ r. ⌜ Written (now (work .entry)) (now (work .exit)) at (pathPointsOf tol (drawnBy (payload (now (s .entry))) p) budget) r ⌝ }
+    ensures { λ r. ⌜ Written (now (work .entry)) (now (work .exit)) at
+        (pathPointsOf tol (drawnBy (payload (now (s .entry))) p) budget) r ⌝ }
 {
     let d = form_points(s, p, tol, budget, work, at);
     if !d.ok {

@@ -2,7 +2,8 @@
 ghost use mathlib.Core.Path.{_≡_};
 ghost use Prim.Native.Nat.{suc, _≤_, _<_};
 ghost use lib.ListN.{length};
-ghost use Rattle.densify.specs.Densify.{withoutDraws, roundTo, ellipsePoint, ellipseRingOf, sharpCorners, cornerPoint, roundedCorners, quarterOf, boxRingOf};
+ghost use Rattle.densify.specs.Densify.{withoutDraws, roundTo, ellipsePoint, ellipseRingOf, sharpCorners};
+ghost use Rattle.densify.specs.Densify.{cornerPoint, roundedCorners, quarterOf, boxRingOf};
 ghost use Rattle.densify.specs.Contracts.Written.{Written};
 ghost use Rattle.values.specs.Contracts.Points.{pointIn};
 use crate::append::PointCursor;
@@ -28,7 +29,8 @@ fn ellipse_points(
     at: usize,
 ) -> PointCursor
     requires { ⌜ (n < 4294967296) × (at ≤ length (now work)) ⌝ }
-    ensures { λ r. ⌜ Written (now (work .entry)) (now (work .exit)) at (withoutDraws (roundTo (ellipsePoint (pointIn c) rx ry n) n) budget) r ⌝ }
+    ensures { λ r. ⌜ Written (now (work .entry)) (now (work .exit)) at
+        (withoutDraws (roundTo (ellipsePoint (pointIn c) rx ry n) n) budget) r ⌝ }
 {
     let mut next = at;
     let mut k = 0usize;
@@ -45,7 +47,7 @@ fn ellipse_points(
     PointCursor {
         ok: true,
         at: next,
-        budget: budget,
+        budget,
     }
 }
 
@@ -62,7 +64,8 @@ pub fn ellipse_ring(
     at: usize,
 ) -> PointCursor
     requires { ⌜ at ≤ length (now work) ⌝ }
-    ensures { λ r. ⌜ Written (now (work .entry)) (now (work .exit)) at (ellipseRingOf step scale tol (pointIn c) rx ry budget) r ⌝ }
+    ensures { λ r. ⌜ Written (now (work .entry)) (now (work .exit)) at
+        (ellipseRingOf step scale tol (pointIn c) rx ry budget) r ⌝ }
 {
     let t = budget.take(arc_vertices(step, scale, max(rx, ry), tol), 8);
     let n = t.granted;
@@ -85,7 +88,8 @@ fn sharp_corners(
     at: usize,
 ) -> PointCursor
     requires { ⌜ at ≤ length (now work) ⌝ }
-    ensures { λ r. ⌜ Written (now (work .entry)) (now (work .exit)) at (withoutDraws (sharpCorners (pointIn c) hw hh) budget) r ⌝ }
+    ensures { λ r. ⌜ Written (now (work .entry)) (now (work .exit)) at
+        (withoutDraws (sharpCorners (pointIn c) hw hh) budget) r ⌝ }
 {
     let west = c[0] - hw;
     let east = c[0] + hw;
@@ -121,7 +125,8 @@ fn corner(
     at: usize,
 ) -> PointCursor
     requires { ⌜ (per < 4294967295) × (at ≤ length (now work)) ⌝ }
-    ensures { λ d. ⌜ Written (now (work .entry)) (now (work .exit)) at (withoutDraws (roundTo (cornerPoint (record { x = x; y = y }) r start per) (suc per)) budget) d ⌝ }
+    ensures { λ d. ⌜ Written (now (work .entry)) (now (work .exit)) at
+        (withoutDraws (roundTo (cornerPoint (record { x = x; y = y }) r start per) (suc per)) budget) d ⌝ }
 {
     let mut next = at;
     let mut k = 0usize;
@@ -138,7 +143,7 @@ fn corner(
     PointCursor {
         ok: true,
         at: next,
-        budget: budget,
+        budget,
     }
 }
 
@@ -154,7 +159,8 @@ fn rounded_corners(
     at: usize,
 ) -> PointCursor
     requires { ⌜ (per < 4294967295) × (at ≤ length (now work)) ⌝ }
-    ensures { λ d. ⌜ Written (now (work .entry)) (now (work .exit)) at (withoutDraws (roundedCorners (pointIn c) hw hh r per) budget) d ⌝ }
+    ensures { λ d. ⌜ Written (now (work .entry)) (now (work .exit)) at
+        (withoutDraws (roundedCorners (pointIn c) hw hh r per) budget) d ⌝ }
 {
     let west = c[0] - hw + r;
     let east = c[0] + hw - r;
@@ -203,7 +209,8 @@ pub fn box_ring(
     at: usize,
 ) -> PointCursor
     requires { ⌜ at ≤ length (now work) ⌝ }
-    ensures { λ r. ⌜ Written (now (work .entry)) (now (work .exit)) at (boxRingOf step scale tol (pointIn c) w h rad budget) r ⌝ }
+    ensures { λ r. ⌜ Written (now (work .entry)) (now (work .exit)) at
+        (boxRingOf step scale tol (pointIn c) w h rad budget) r ⌝ }
 {
     let hw = w / 2.0;
     let hh = h / 2.0;

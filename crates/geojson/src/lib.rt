@@ -5,8 +5,19 @@ ghost use lib.ListN.{length};
 ghost use lib.Dec.{leb};
 ghost use Rattle.geojson.specs.Contracts.Features.{FeatureWritten};
 
-// A feature line. Geometry: 0 a point, 1 a line, 2 a polygon. Role: 1 a separate fill. Placement: 1 on the screen.
-// Part: 0, or 1 and the path's index. Count: its positions.
+// Geometries.
+pub const POINT: u32 = 0;
+pub const LINE: u32 = 1;
+pub const POLYGON: u32 = 2;
+
+// The role of a separate fill, and the placement on the screen; any other role or placement is 0.
+pub const FILL: u32 = 1;
+pub const SCREEN: u32 = 1;
+
+// A feature line is so many numbers.
+pub const FEATURE_WORDS: usize = 6;
+
+// A feature line. Part: 0, or 1 and the path's index. Count: its positions.
 pub struct Feature {
     pub item: u32,
     pub geometry: u32,
@@ -22,7 +33,7 @@ pub fn write_feature(out: &mut [u32], at: usize, f: Feature) -> bool
     ensures { λ r. ⌜ r ≡ leb (at + 6) (length (now (out .entry))) ⌝ }
     ensures { λ r. ⌜ FeatureWritten (now (out .entry)) (now (out .exit)) at f ⌝ }
 {
-    if out.len() - at < 6 {
+    if out.len() - at < FEATURE_WORDS {
         return false;
     }
     out[at] = f.item;

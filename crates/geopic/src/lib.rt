@@ -220,6 +220,15 @@ pub extern "C" fn geopic_place(
     let mut kept = [0u32; 64];
     match open_stream(s, &mut kept) {
         Opened::Refused(number) => refuse(number),
-        Opened::Registered(v, r) => place_registered(s, v, r, &kept, work, positions, features, warnings),
+        Opened::Registered(v, r) => place_registered(
+            s,
+            v,
+            r,
+            &kept,
+            work,
+            positions,
+            features,
+            warnings,
+        ),
     }
 }

@@ -5,8 +5,8 @@ ghost use Rattle.test_host.specs.Contracts.Answer.{answerOf, warnedOf};
 use geodesy::LonLat;
 use register::Outcome;
 use projection::Registration;
-use projection::to_lonlat;
 use projection::projection_of;
+use projection::to_lonlat;
 use values::WarningCursor;
 
 // Refusals 1 to 14, or 0 and the registration.

@@ -9,11 +9,11 @@ ghost use Rattle.test_host.specs.Contracts.Guarded.{spotIn, labelIn};
 use scene::Feature;
 use scene::FrameOption;
 use scene::Item;
+use scene::OptionalFloat;
+use scene::OptionalPoint;
 use scene::Path;
 use scene::Place;
 use scene::Points;
-use scene::OptionalPoint;
-use scene::OptionalFloat;
 use scene::Variable;
 
 #[no_mangle]

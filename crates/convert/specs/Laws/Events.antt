@@ -1,7 +1,7 @@
 -- Laws of a oneEvent event on a sheet where everything has had room so far. Assumes nothing.
 use Prim.Native.Nat.{ℕ, _+_, _*_, _≤_, _<_}
 use mathlib.Core.Path.{_≡_, refl, sym, ap, _∙_}
-use mathlib.Core.Bool.{Bool, true, false}
+use mathlib.Core.Bool.{Bool, true, false, false≢true}
 use mathlib.Core.List.{List, [], _∷_}
 use lib.ListN.{length}
 use lib.Dec.{eqb, leb}
@@ -9,6 +9,9 @@ use lib.Ieee.{Float}
 use borrow.Author.Tests.{le-leb, lt-leb, leb-true, leb-false, eqb-false}
 use Rattle.values.specs.declared.Point.{Point}
 use Rattle.values.specs.Warnings.{Warning}
+use Rattle.values.specs.declared.WarningCursor.{WarningCursor}
+use Rattle.values.specs.Contracts.Warnings.{WarningSlice, pickSlice, pushed}
+use Rattle.values.specs.Laws.Warnings.{sliceOf}
 use Rattle.budget.specs.declared.Budget.{Budget}
 use Rattle.values.specs.Slices.{put}
 use Rattle.values.specs.Points.{flats}
@@ -19,15 +22,7 @@ use Rattle.convert.specs.declared.state.Props.{Props}
 use Rattle.convert.specs.declared.state.State.{State}
 use Rattle.convert.specs.Convert.{Event, need, feature, warned, oneEvent, featureOf}
 use Rattle.convert.specs.Space.{Output, outOfRoom, withFeature, withWarning, apply, applyAll}
-use Rattle.convert.specs.Contracts.Space.{outputBy, most, Fits, Applied, lineBy, Finished}
-
--- ---- what `lack` and `with_budget` say of the state r: that it is st with another number or budget
-abbrev pub Restated : State → ℕ → Budget → State → Type 0
-Restated st n b r = (r .number ≡ n) × (r .positions ≡ st .positions) × (r .features ≡ st .features) × (r .warnings ≡ st .warnings) × (r .budget ≡ b)
-
-pub state-is : (st : State) {r : State} {n : ℕ} {b : Budget} → Restated st n b r
-    → r ≡ record { number = n; positions = st .positions; features = st .features; warnings = st .warnings; budget = b }
-state-is st (number, positions, features, warnings, budget) = rw (← number, ← positions, ← features, ← warnings, ← budget)
+use Rattle.convert.specs.Contracts.Space.{outputBy, outOfRoomBy, most, Fits, Applied, lineBy, Finished}
 
 -- ---- any event
 -- the sheet with other positions, of which as many are used
@@ -103,6 +98,45 @@ module _ (w : Warning) (t : Output) (b : Budget) (start : t .number ≡ 0) (h : 
   warned-lacks short =
       event-lacks (warned w) t b start 18 (t .positions) b refl (rw (lt-leb (t .usedWarnings + 2) (length (t .warnings)) short)) refl h
 
+-- as `push_warning` leaves the slice and how far it is used
+abbrev pub withPushed : List ℕ → ℕ → ℕ → Output → Output
+withPushed v used n t =
+    record {
+      work = t .work;
+      positions = t .positions;
+      features = t .features;
+      warnings = v;
+      usedPositions = t .usedPositions;
+      usedFeatures = t .usedFeatures;
+      usedWarnings = used;
+      number = n;
+    }
+
+module _ (w : Warning) (t : Output) (b : Budget) (start : t .number ≡ 0) (h : Fits t b) {v : List ℕ} {c : WarningCursor}
+    (one : sliceOf v c ≡ pushed w (sliceOf (t .warnings) (record { ok = true; used = t .usedWarnings }))) where
+  abbrev room : Bool
+  room = leb (t .usedWarnings + 2) (length (t .warnings))
+
+  pushed-is : {x : Bool} → room ≡ x
+      → sliceOf v c ≡ pickSlice x (sliceOf (put (t .warnings) (t .usedWarnings) (w .kind ∷ w .index ∷ [])) (record { ok = true; used = t .usedWarnings + 2 }))
+      (sliceOf (t .warnings) (record { ok = false; used = t .usedWarnings }))
+  unfolding pushed
+  pushed-is e = one ∙ rw e refl
+
+  pub pushed-fits : c .ok ≡ true → Applied (oneEvent (warned w) b) t (withPushed v (c .used) 0 t) b
+  pushed-fits ok = go room refl
+    where
+      go : (x : Bool) → room ≡ x → Applied (oneEvent (warned w) b) t (withPushed v (c .used) 0 t) b
+      go true e = let is = pushed-is e in rw (ap (λ (s : WarningSlice). s .out) is, ap (λ (s : WarningSlice). s .cursor) is) (warned-fits w t b start h (leb-true _ _ e))
+      go false e = absurd (false≢true (sym (ap (λ (s : WarningSlice). s .cursor .ok) (pushed-is e)) ∙ ok))
+
+  pub pushed-lacks : c .ok ≡ false → Applied (oneEvent (warned w) b) t (withPushed v (t .usedWarnings) 18 t) b
+  pushed-lacks short = go room refl
+    where
+      go : (x : Bool) → room ≡ x → Applied (oneEvent (warned w) b) t (withPushed v (t .usedWarnings) 18 t) b
+      go true e = absurd (false≢true (sym short ∙ ap (λ (s : WarningSlice). s .cursor .ok) (pushed-is e)))
+      go false e = rw (ap (λ (s : WarningSlice). s .out) (pushed-is e)) (warned-lacks w t b start h (leb-false _ _ e))
+
 -- ---- features
 module _ (f : Feature) (ps : List Point) (t : Output) (b : Budget) (start : t .number ≡ 0) where
   pub feature-lacks-positions : (p : List Float) (c : Budget) → length p ≡ length (t .positions)
@@ -136,11 +170,11 @@ module _ (f : Feature) (ps : List Point) (t : Output) (b : Budget) (start : t .n
 -- ---- a feature as the code writes it: its positions, then its line by `finish`
 module _ (p : Props) (geometry role : ℕ) (ps : List Point) (b : Budget) (work : ℕ) {q q′ : List Float} {f v : List ℕ} {st r : State}
     (start : st .number ≡ 0) (h : Fits (outputBy work q f v st) (st .budget)) where
-  pub written-lacks : length q′ ≡ length q → length q < st .positions + length (flats ps) → Restated st 16 (st .budget) r
+  pub written-lacks : length q′ ≡ length q → length q < st .positions + length (flats ps) → r ≡ outOfRoomBy st 16
       → Applied (oneEvent (featureOf p geometry role ps) b) (outputBy work q f v st) (outputBy work q′ f v r) (r .budget)
   unfolding featureOf
   written-lacks same short is =
-      rw (state-is st is) (feature-lacks-positions (lineBy p geometry role (length ps)) ps (outputBy work q f v st) b start q′ (st .budget) same short h)
+      rw is (feature-lacks-positions (lineBy p geometry role (length ps)) ps (outputBy work q f v st) b start q′ (st .budget) same short h)
 
   pub written-finished : {f′ : List ℕ} → st .positions + length (flats ps) ≤ length q → q′ ≡ put q (st .positions) (flats ps) → b .left ≤ most
       → Finished p geometry role (st .positions + length (flats ps)) (length ps) b f f′ st r

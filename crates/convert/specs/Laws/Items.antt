@@ -28,7 +28,7 @@ use Rattle.convert.specs.declared.state.Props.{Props}
 use Rattle.convert.specs.declared.state.State.{State}
 use Rattle.convert.specs.Convert.{Trace, missing, polylineOrPolygonOf, ringTrace, pathsOf, shapeOf, onScreen, propsOf, pointsTrace, pathsTrace, drawnOf, itemOf}
 use Rattle.convert.specs.Space.{Output}
-use Rattle.convert.specs.Contracts.Space.{most, longest, outputBy, Fits, Applied, Small, RingLoaded}
+use Rattle.convert.specs.Contracts.Space.{most, outputBy, Applied, Small, DrawsQuietly, RingLoaded, RingEnds, DrawsRing}
 
 -- from a work slice of the same length
 pub played-from : {a : Trace} {j k : ℕ} {ps : List Float} {fs v : List ℕ} (st : State) {u : Output} {b : Budget} → j ≡ k
@@ -72,16 +72,19 @@ module _ {w w′ : List Float} {m : Made} {d : PointCursor} (one : Written w w�
       }
 
   -- where it ends, as draw_ring asks for it
-  pub ring-in : d .ok ≡ true → (2 ≤ d .at) × (d .at ≤ length w′) × (d .at ≤ longest) × (d .budget .left ≤ most)
-  ring-in fits = (omega (arith, ends fits, flats-length (m .points), round .some), next-in one fits, ringed .few fits, ringed .left fits)
+  pub ring-in : d .ok ≡ true → RingEnds d (length w′)
+  ring-in fits =
+      record {
+        some = omega (arith, ends fits, flats-length (m .points), round .some);
+        within = next-in one fits;
+        few = ringed .few fits;
+        left = ringed .left fits;
+      }
 
   -- and drawn
-  pub ring-played : (cx : Ctx) (p : Props) {st r : State} {ps ps′ : List Float} {fs fs′ v : List ℕ}
-      → ((n : Made) (u : List ℕ) → RingLoaded w′ n d → Fits (outputBy (length w′) ps fs u st) (st .budget)
-      → Applied (ringTrace cx p n) (outputBy (length w′) ps fs u st) (outputBy (length w′) ps′ fs′ u r) (r .budget))
-      → Fits (outputBy (length w) ps fs v st) (st .budget)
-      → Applied (ringTrace cx p m) (outputBy (length w) ps fs v st) (outputBy (length w′) ps′ fs′ v r) (r .budget)
-  ring-played cx p {st = st} {v = v} drawn h = played-from st (one .kept) (drawn m v ringed (rw (one .kept) h))
+  pub ring-played : (cx : Ctx) (p : Props) {st r : State} {ps ps′ : List Float} {fs fs′ : List ℕ} → DrawsRing cx p d w′ ps fs st ps′ fs′ r
+      → DrawsQuietly (ringTrace cx p m) w ps fs st w′ ps′ fs′ r
+  ring-played cx p {st = st} drawn v h = played-from st (one .kept) (drawn m ringed v (rw (one .kept) h))
 
 -- ---- points
 module _ (cx : Ctx) (p : Props) (closed : Bool) {ps : Maybe (List Point)} (outline : Maybe (List Point)) (b : Budget) {c : Budget} {t u : Output} where

@@ -70,7 +70,7 @@ ring-within : (closed : Bool) (ps : List Point) → Within (length ps) (suc (len
 ring-within true ps = close-within ps
 ring-within false ps = omega arith
 
-ends-at : (w : List Float) (o : Maybe (List Point)) (r : Workspace) → OutlineLoaded w o r → r .fin ≡ r .end + 2 * length (orValue (closedOutline o) [])
+ends-at : (w : List Float) (o : Maybe (List Point)) (r : Workspace) → OutlineLoaded w o r → r .outline ≡ r .ring + 2 * length (orValue (closedOutline o) [])
 ends-at w none r h = omega (arith, h .1)
 ends-at w (some q) r h = omega (arith, h .1, flats-length (closeRingOf q))
 
@@ -83,14 +83,14 @@ laid-bounds {w = w} {w′ = w′} {closed = closed} {ps = ps} {o = o} {r = r} la
     let ends = ends-at w′ o r (l .outline) in
     let n = ring-within closed ps in
     record {
-      own = omega (arith, flats-length ps, flats-length (ringOf closed ps));
-      end = omega arith;
-      fin = omega (arith, flats-length (ringOf closed ps), lays .kept);
+      points = omega (arith, flats-length ps, flats-length (ringOf closed ps));
+      ring = omega arith;
+      outline = omega (arith, flats-length (ringOf closed ps), lays .kept);
       few = l .few;
     }
 
 -- and there is where an outline goes
-pub end-in : {w w′ : List Float} {closed : Bool} {ps : List Point} {o : Maybe (List Point)} {b : Budget} {r : Workspace} → Loads w w′ closed ps o b r → r .ok ≡ true → r .end ≤ length w′
+pub end-in : {w w′ : List Float} {closed : Bool} {ps : List Point} {o : Maybe (List Point)} {b : Budget} {r : Workspace} → Loads w w′ closed ps o b r → r .ok ≡ true → r .ring ≤ length w′
 end-in lays fits = let b = laid-bounds lays fits in omega arith
 
 pub outline-in : {w w₁ : List Float} {at : ℕ} {m : Made} {d : PointCursor} → Written w w₁ at m d → d .ok ≡ true → (at ≤ d .at) × (d .at ≤ length w₁)
@@ -188,14 +188,14 @@ module _ {w w₁ : List Float} (closed : Bool) {m : Made} {d : PointCursor} (one
       own-full h refused = lays-short refused (omega (arith, ends, whole .kept)) (whole .kept)
 
       pub own-laid : Small m → e .at + 2 ≤ length w₂
-          → Loads w w₂ closed (m .points) none (m .after) (record { ok = true; own = d .at; end = e .at; fin = e .at; outlined = false; budget = d .budget })
+          → Loads w w₂ closed (m .points) none (m .after) (record { ok = true; points = d .at; ring = e .at; outline = e .at; outlined = false; budget = d .budget })
       unfolding workOf
       own-laid small room =
           lays-all refl (omega (arith, ends, whole .kept))
           (record {
-            own = omega (arith, one .next done);
+            pointsEnd = omega (arith, one .next done);
             points = points-kept w₂ w₁ (d .at) (two .before) 0 (d .at) (omega arith) ∙ written-points one done;
-            end = omega (arith, ends, flats-length (ringOf closed (m .points)));
+            ringEnd = omega (arith, ends, flats-length (ringOf closed (m .points)));
             ring = written-points whole fits ∙ closed-points closed m;
             outline = (refl, refl);
             few = omega (arith, ends, small .few, ring-within closed (m .points));
@@ -204,26 +204,26 @@ module _ {w w₁ : List Float} (closed : Bool) {m : Made} {d : PointCursor} (one
 
 -- ---- an outline behind them, closed
 module _ {w w₁ : List Float} {closed : Bool} {ps : List Point} {b : Budget} {l : Workspace} (own : Loads w w₁ closed ps none b l) (done : l .ok ≡ true) where
-  end-is : l .end ≡ 2 * length (ringOf closed ps)
-  end-is = omega (arith, own .laid done .end, flats-length (ringOf closed ps))
+  end-is : l .ring ≡ 2 * length (ringOf closed ps)
+  end-is = omega (arith, own .laid done .ringEnd, flats-length (ringOf closed ps))
 
   module _ (m : Made) where
-    pub outline-short : {w₂ : List Float} {d : PointCursor} {r : Workspace} → Written w₁ w₂ (l .end) m d → d .ok ≡ false → r .ok ≡ false
+    pub outline-short : {w₂ : List Float} {d : PointCursor} {r : Workspace} → Written w₁ w₂ (l .ring) m d → d .ok ≡ false → r .ok ≡ false
         → Loads w w₂ closed ps (some (m .points)) (m .after) r
     unfolding workOf
     outline-short one short refused =
-        let h : length w₁ < l .end + length (flats (m .points)) = leb-false _ _ (sym (one .asked) ∙ short) in
+        let h : length w₁ < l .ring + length (flats (m .points)) = leb-false _ _ (sym (one .asked) ∙ short) in
         lays-short refused (omega (arith, end-is, flats-length (m .points), close-within (m .points), own .kept)) (one .kept ∙ own .kept)
 
-    module _ {w₂ : List Float} {e : PointCursor} (two : Written w₁ w₂ (l .end) (closedIf true m) e) where
+    module _ {w₂ : List Float} {e : PointCursor} (two : Written w₁ w₂ (l .ring) (closedIf true m) e) where
       pub closing-short : {r : Workspace} → e .ok ≡ false → r .ok ≡ false → Loads w w₂ closed ps (some (m .points)) (m .after) r
       unfolding workOf
       closing-short short refused =
-          let h : length w₁ < l .end + length (flats (closeRingOf (m .points))) = leb-false _ _ (sym (two .asked) ∙ short) in
+          let h : length w₁ < l .ring + length (flats (closeRingOf (m .points))) = leb-false _ _ (sym (two .asked) ∙ short) in
           lays-short refused (omega (arith, end-is, flats-length (closeRingOf (m .points)), own .kept)) (two .kept ∙ own .kept)
 
       module _ (fits : e .ok ≡ true) where
-        fin-is : e .at ≡ l .end + 2 * length (closeRingOf (m .points))
+        fin-is : e .at ≡ l .ring + 2 * length (closeRingOf (m .points))
         fin-is = omega (arith, two .next fits, flats-length (closeRingOf (m .points)))
 
         pub outline-full : {r : Workspace} → length w₂ < e .at + 2 → r .ok ≡ false → Loads w w₂ closed ps (some (m .points)) (m .after) r
@@ -231,17 +231,17 @@ module _ {w w₁ : List Float} {closed : Bool} {ps : List Point} {b : Budget} {l
         outline-full h refused = lays-short refused (omega (arith, end-is, fin-is, two .kept, own .kept)) (two .kept ∙ own .kept)
 
         pub outline-laid : {left : Budget} → length ps ≤ 33554430 → Small m → left ≡ m .after → e .at + 2 ≤ length w₂
-            → Loads w w₂ closed ps (some (m .points)) (m .after) (record { ok = true; own = l .own; end = l .end; fin = e .at; outlined = true; budget = left })
+            → Loads w w₂ closed ps (some (m .points)) (m .after) (record { ok = true; points = l .points; ring = l .ring; outline = e .at; outlined = true; budget = left })
         unfolding workOf
         outline-laid few small left room =
             let first = own .laid done in
-            let same = points-kept w₂ w₁ (l .end) (two .before) 0 in
+            let same = points-kept w₂ w₁ (l .ring) (two .before) 0 in
             lays-all refl (omega (arith, end-is, fin-is, two .kept, own .kept))
             (record {
-              own = first .own;
-              points = same (l .own) (laid-bounds own done .own) ∙ first .points;
-              end = first .end;
-              ring = same (l .end) (omega arith) ∙ first .ring;
+              pointsEnd = first .pointsEnd;
+              points = same (l .points) (laid-bounds own done .points) ∙ first .points;
+              ringEnd = first .ringEnd;
+              ring = same (l .ring) (omega arith) ∙ first .ring;
               outline = (refl, two .next fits, written-points two fits);
               few = omega (arith, end-is, fin-is, small .few, ring-within closed ps, close-within (m .points));
             })

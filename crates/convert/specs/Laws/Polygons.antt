@@ -111,49 +111,49 @@ module _ (cx : Ctx) (p : Props) {w work : List Float} {closed : Bool} {ps : List
         with-room (needBy closed ps o) (shapeBy cx p closed ps o) b start (omega (arith, lays .kept))
         (rw (lays .after fits) at ready) (rw (lays .after fits) at one)
 
-    own-count : l .own ≡ 2 * length ps
-    own-count = lays .laid fits .own ∙ flats-length ps
+    own-count : l .points ≡ 2 * length ps
+    own-count = lays .laid fits .pointsEnd ∙ flats-length ps
 
     -- fewer than 2 points
-    pub shape-few : l .own < 4 → Applied (polylineOrPolygonOf cx p closed ps o b) t t (l .budget)
+    pub shape-few : l .points < 4 → Applied (polylineOrPolygonOf cx p closed ps o b) t t (l .budget)
     unfolding shapeTrace
     shape-few less = shape-drawn (rw (lt-ltb (length ps) 2 (omega (arith, own-count))) (played-quiet t (l .budget) ready))
 
-    module _ (more : 4 ≤ l .own) where
+    module _ (more : 4 ≤ l .points) where
       many : ltb (length ps) 2 ≡ false
       many = le-ltb (length ps) 2 (omega (arith, own-count))
 
       -- a polygon
-      pub shape-ring : {u : Output} {c : Budget} → closed ≡ true → 8 ≤ l .end
-          → (Fits t (l .budget) → Applied (strokeOf cx p 2 0 (pointsIn work 0 (l .end)) (l .budget)) t u c) → Applied (polylineOrPolygonOf cx p closed ps o b) t u c
+      pub shape-ring : {u : Output} {c : Budget} → closed ≡ true → 8 ≤ l .ring
+          → (Fits t (l .budget) → Applied (strokeOf cx p 2 0 (pointsIn work 0 (l .ring)) (l .budget)) t u c) → Applied (polylineOrPolygonOf cx p closed ps o b) t u c
       unfolding shapeTrace
       shape-ring e big stroked =
           let ring = closeRingOf ps in
           let laid = lays .laid fits in
-          let n : 4 ≤ length ring = omega (arith, rw e at (laid .end), flats-length ring) in
+          let n : 4 ≤ length ring = omega (arith, rw e at (laid .ringEnd), flats-length ring) in
           shape-drawn (rw (many, e, le-leb 4 (length ring) n) (rw (laid .ring, e) at (stroked ready)))
 
       -- otherwise the fill, which leaves the points as they are, and then a line, or a warning where there are too few points for a ring
-      module _ (work′ : List Float) (kept : take (l .own) work′ ≡ take (l .own) work) {u : Output} {c : Budget}
+      module _ (work′ : List Float) (kept : take (l .points) work′ ≡ take (l .points) work) {u : Output} {c : Budget}
           (filled : Loaded work closed ps o l → Fits t (l .budget) → Applied (fillBy cx p ps o (l .budget)) t u c) where
         fill-played : Applied (fillBy cx p ps o (l .budget)) t u c
         fill-played = filled (lays .laid fits) ready
 
-        same-points : pointsIn work′ 0 (l .own) ≡ ps
-        same-points = points-kept work′ work (l .own) kept 0 (l .own) (omega arith) ∙ lays .laid fits .points
+        same-points : pointsIn work′ 0 (l .points) ≡ ps
+        same-points = points-kept work′ work (l .points) kept 0 (l .points) (omega arith) ∙ lays .laid fits .points
 
         pub shape-line : {v : Output} {d : Budget} → closed ≡ false
-            → (Fits u c → Applied (strokeOf cx p 1 0 (pointsIn work′ 0 (l .own)) c) u v d) → Applied (polylineOrPolygonOf cx p closed ps o b) t v d
+            → (Fits u c → Applied (strokeOf cx p 1 0 (pointsIn work′ 0 (l .points)) c) u v d) → Applied (polylineOrPolygonOf cx p closed ps o b) t v d
         unfolding shapeTrace
         shape-line e stroked =
             shape-drawn (rw (many, e) (played-then (λ r. strokeOf cx p 1 0 ps r) fill-played (rw same-points at (stroked (fill-played .fits)))))
 
-        pub shape-unwritten : {v : Output} {d : Budget} → closed ≡ true → l .end < 8
-            → (Fits u c → Applied (drawWithoutWriting cx (p .item) (pointsIn work′ 0 (l .own)) c) u v d) → Applied (polylineOrPolygonOf cx p closed ps o b) t v d
+        pub shape-unwritten : {v : Output} {d : Budget} → closed ≡ true → l .ring < 8
+            → (Fits u c → Applied (drawWithoutWriting cx (p .item) (pointsIn work′ 0 (l .points)) c) u v d) → Applied (polylineOrPolygonOf cx p closed ps o b) t v d
         unfolding shapeTrace
         shape-unwritten e less told =
             let ring = closeRingOf ps in
-            let n : length ring < 4 = omega (arith, rw e at (lays .laid fits .end), flats-length ring) in
+            let n : length ring < 4 = omega (arith, rw e at (lays .laid fits .ringEnd), flats-length ring) in
             shape-drawn (rw (many, e, lt-leb 4 (length ring) n) (played-then (λ r. drawWithoutWriting cx (p .item) ps r) fill-played (rw same-points at (told (fill-played .fits)))))
 
 -- ---- points that stand in a slice already: to put them there changes nothing
@@ -182,21 +182,21 @@ closing-most w from at = go (leb (from + 2) at) (samePoint (pointOf w from) (poi
     go true false = omega arith
     go false y = omega arith
 
-module _ {w w′ : List Float} {l : Workspace} (bounds : Bounds l (length w)) {b : Budget} {r : PointCursor} (closer : Written w w′ (l .own) (withoutDraws (closingIn w 0 (l .own)) b) r) where
+module _ {w w′ : List Float} {l : Workspace} (bounds : Bounds l (length w)) {b : Budget} {r : PointCursor} (closer : Written w w′ (l .points) (withoutDraws (closingIn w 0 (l .points)) b) r) where
   closer-fits : r .ok ≡ true
   closer-fits =
-      let n : l .own + length (flats (closingIn w 0 (l .own))) ≤ length w = omega (arith, closing-most w 0 (l .own)) in
+      let n : l .points + length (flats (closingIn w 0 (l .points))) ≤ length w = omega (arith, closing-most w 0 (l .points)) in
       closer .asked ∙ le-leb _ _ n
 
   pub closer-in : (r .at ≤ length w′) × (r .at ≤ longest)
-  closer-in = (next-in closer closer-fits, omega (arith, closer .next closer-fits, closing-most w 0 (l .own)))
+  closer-in = (next-in closer closer-fits, omega (arith, closer .next closer-fits, closing-most w 0 (l .points)))
 
   module _ {closed : Bool} {ps : List Point} {o : Maybe (List Point)} (laid : Loaded w closed ps o l) where
     ring-written : Written w w′ 0 (withoutDraws (closeRingOf ps) b) r
     ring-written =
-        let end : l .own ≡ 0 + length (flats ps) = omega (arith, laid .own) in
-        let there : w ≡ put w 0 (flats ps) = sym (standing w 0 (l .own) ps end (omega arith) (laid .points)) in
-        closed-done (written-all w 0 (withoutDraws ps b) w (record { ok = true; at = l .own; budget = b }) (omega arith) refl end refl there) refl closer
+        let end : l .points ≡ 0 + length (flats ps) = omega (arith, laid .pointsEnd) in
+        let there : w ≡ put w 0 (flats ps) = sym (standing w 0 (l .points) ps end (omega arith) (laid .points)) in
+        closed-done (written-all w 0 (withoutDraws ps b) w (record { ok = true; at = l .points; budget = b }) (omega arith) refl end refl there) refl closer
 
     ring-count : r .at ≡ 2 * length (closeRingOf ps)
     ring-count = omega (arith, ring-written .next closer-fits, flats-length (closeRingOf ps))
@@ -229,7 +229,7 @@ module _ (cx : Ctx) (p : Props) (outline : Maybe (List Point)) (ring : List Poin
 -- the points that it is made of
 module _ (w : List Float) (ring : List Point) (l : Workspace) where
   outline-is : (o : Maybe (List Point)) → OutlineLoaded w o l → l .outlined ≡ true
-      → (orValue (closedOutline o) ring ≡ pointsIn w (l .end) (l .fin)) × (l .fin ≡ l .end + 2 * length (pointsIn w (l .end) (l .fin)))
+      → (orValue (closedOutline o) ring ≡ pointsIn w (l .ring) (l .outline)) × (l .outline ≡ l .ring + 2 * length (pointsIn w (l .ring) (l .outline)))
   outline-is none h e = absurd (false≢true (sym (h .0) ∙ e))
   outline-is (some qs) h e = (sym (h .2), h .1 ∙ rw (h .2, flats-length (closeRingOf qs)))
 
@@ -240,19 +240,19 @@ module _ (w : List Float) (ring : List Point) (l : Workspace) where
 module _ (cx : Ctx) (p : Props) {w : List Float} {closed : Bool} {ps : List Point} {o : Maybe (List Point)} {l : Workspace} (laid : Loaded w closed ps o l) (b : Budget) where
   -- those of the outline
   module _ (outlined : l .outlined ≡ true) where
-    pub outline-few : {t : Output} → l .fin - l .end < 8 → Fits t b → Applied (fillBy cx p ps o b) t t b
+    pub outline-few : {t : Output} → l .outline - l .ring < 8 → Fits t b → Applied (fillBy cx p ps o b) t t b
     outline-few less h =
         let is = outline-is w (closeRingOf ps) l o (laid .outline) outlined in
         few cx p (closedOutline o) (closeRingOf ps) b _ (is .0) (omega (arith, is .1)) h
 
-    pub outline-drawn : {t u : Output} {c : Budget} → p .fill ≡ true → 8 ≤ l .fin - l .end
-        → Applied (strokeOf cx p 2 1 (pointsIn w (l .end) (l .fin)) b) t u c → Applied (fillBy cx p ps o b) t u c
+    pub outline-drawn : {t u : Output} {c : Budget} → p .fill ≡ true → 8 ≤ l .outline - l .ring
+        → Applied (strokeOf cx p 2 1 (pointsIn w (l .ring) (l .outline)) b) t u c → Applied (fillBy cx p ps o b) t u c
     outline-drawn asked many one =
         let is = outline-is w (closeRingOf ps) l o (laid .outline) outlined in
         drawn cx p (closedOutline o) (closeRingOf ps) b _ (is .0) asked (omega (arith, is .1)) one
 
   -- its own, closed
-  module _ (outlined : l .outlined ≡ false) (bounds : Bounds l (length w)) {w′ : List Float} {r : PointCursor} (closer : Written w w′ (l .own) (withoutDraws (closingIn w 0 (l .own)) b) r) where
+  module _ (outlined : l .outlined ≡ false) (bounds : Bounds l (length w)) {w′ : List Float} {r : PointCursor} (closer : Written w w′ (l .points) (withoutDraws (closingIn w 0 (l .points)) b) r) where
     is : orValue (closedOutline o) (closeRingOf ps) ≡ closeRingOf ps
     is = own-is w (closeRingOf ps) l o (laid .outline) outlined
 

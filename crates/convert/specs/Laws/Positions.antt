@@ -30,9 +30,9 @@ use Rattle.convert.specs.declared.state.Ctx.{Ctx}
 use Rattle.convert.specs.declared.state.Props.{Props}
 use Rattle.convert.specs.declared.state.State.{State}
 use Rattle.convert.specs.Convert.{oneEvent, endWith, firstRepeated, positionsOf, featureOf, strokeOf}
-use Rattle.convert.specs.Contracts.Space.{outputBy, most, longest, behindAt, firstRepeatedIn, Fits, Applied, Finished}
+use Rattle.convert.specs.Contracts.Space.{outputBy, outOfRoomBy, most, longest, behindAt, firstRepeatedIn, Fits, Applied, Finished}
 use Rattle.convert.specs.Laws.Applying.{played-drawn}
-use Rattle.convert.specs.Laws.Events.{Restated, written-lacks, written-finished}
+use Rattle.convert.specs.Laws.Events.{written-lacks, written-finished}
 
 -- ---- the tail of a slice, lent on
 -- room in the tail is room in the whole
@@ -195,7 +195,7 @@ module _ (cx : Ctx) (p : Props) (geometry role : ℕ) (ps : List Point) (work : 
   abbrev drawn : List Point
   drawn = projectAndClose (cx .projection) geometry (made .points)
 
-  pub stroke-lacks : {r : State} → d .ok ≡ false → Restated st 16 (st .budget) r
+  pub stroke-lacks : {r : State} → d .ok ≡ false → r ≡ outOfRoomBy st 16
       → Applied (strokeOf cx p geometry role ps (st .budget)) (outputBy work q f v st) (outputBy work q₁ f v r) (r .budget)
   unfolding strokeOf
   stroke-lacks short is =

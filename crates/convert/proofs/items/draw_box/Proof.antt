@@ -8,8 +8,8 @@ box-ring-requires c κs = search needs
 
 draw-ring-requires : tie.Need-draw-ring-requires
 draw-ring-requires c κs =
-    let fits = c .before .before .before .before .before .before .before .before .before .before .before .pre in
-    (ring-in (c .before .before .before .before .before .box-ring .ensures) (box-round _ _ _ _ _ (fits .left) _ _ _), fits .positions, fits .features)
+    let ready = c .before .before .before .before .before .before .before .before .before .before .pre in
+    record { ring = ring-in (c .before .before .before .before .before .box-ring .ensures) (box-round _ _ _ _ _ (ready .left) _ _ _); positions = ready .positions; features = ready .features }
 
 same-length : tie.Need-same-length
 same-length c = search needs
@@ -22,8 +22,8 @@ same-length-3 c = search needs
 
 returns : tie.Need-returns
 returns c =
-    let fits = c .before .before .before .before .before .before .before .before .before .before .before .before .before .before .before .before .pre in
-    ring-played (c .before .before .before .before .before .before .before .before .before .before .box-ring .ensures) (box-round _ _ _ _ _ (fits .left) _ _ _) _ _ (c .before .before .before .before .draw-ring .ensures) fits
+    let ready = c .before .before .before .before .before .before .before .before .before .before .before .before .before .before .before .pre in
+    ring-played (c .before .before .before .before .before .before .before .before .before .before .box-ring .ensures) (box-round _ _ _ _ _ (ready .left) _ _ _) _ _ (c .before .before .before .before .draw-ring .ensures)
 
 pub draw-box-spec : {M : Type 1} → statement M
 draw-box-spec =

@@ -1,4 +1,6 @@
+use Prim.Native.Nat.{_≤_}
 use native.Mathlib.Omega.{arith}
+use lib.ListN.{length}
 use borrow.Author.Needs.{needs}
 use Rattle.densify.specs.Densify.{densifyPolylineOf}
 use Rattle.values.specs.Contracts.Points.{pointsIn}
@@ -6,7 +8,6 @@ use Rattle.densify.specs.Laws.Replay.{densify-replays}
 use Rattle.densify.specs.Laws.Sizes.{left-falls}
 use Rattle.convert.specs.Convert.{missing, drawWithoutWriting}
 use Rattle.convert.specs.Laws.Applying.{played-drawn}
-use Rattle.convert.specs.Laws.Events.{state-is}
 use Rattle.convert.proofs.positions.draw_without_writing.Statement.{statement}
 use Rattle.convert.proofs.positions.draw_without_writing.Tie as tie
 
@@ -17,7 +18,10 @@ with-budget-requires : tie.Need-with-budget-requires
 with-budget-requires c κs = search needs
 
 warn-requires : tie.Need-warn-requires
-warn-requires c κs = search needs
+warn-requires c κs =
+    let a = c .before .before .before .before .before in
+    let h : c .with-budget .result .warnings ≤ length (a .args .warnings .now) = rw (c .with-budget .ensures) (a .pre .2) in
+    h
 
 same-length : tie.Need-same-length
 same-length c = search needs
@@ -28,7 +32,7 @@ returns c w q f h =
     let s = c .before .before .before .before .before .before .before .before .args in
     let ps = pointsIn (s .work .now) (s .from) (s .to) in
     let m = densifyPolylineOf (s .cx .step) (s .cx .projection .registration .scale) ps (s .st .budget) in
-    let drawn = state-is (s .st) (c .before .before .before .with-budget .ensures) in
+    let drawn = (c .before .before .before .with-budget .ensures) in
     let spent = c .before .before .before .before .before .spend-polyline .ensures in
     let left = left-falls (densify-replays (s .cx .step) (s .cx .projection .registration .scale) ps (s .st .budget)) in
     played-drawn m (λ b. missing (s .item) b)

@@ -5,7 +5,6 @@ use lib.ListN.{length}
 use lib.Dec.{leb}
 use borrow.Author.Needs.{needs}
 use borrow.Author.Tests.{not-true, not-false}
-use Rattle.convert.specs.Laws.Events.{state-is}
 use Rattle.convert.proofs.positions.finish.Statement.{statement}
 use Rattle.convert.proofs.positions.finish.Tie as tie
 
@@ -27,7 +26,7 @@ returns c =
       fits = λ e. absurd (false≢true (sym short ∙ e));
       then = λ e. absurd (false≢true (sym short ∙ e));
       short = line .1 .short;
-      lacks = λ e. state-is (s .st) (c .out-of-room .ensures);
+      lacks = λ e. (c .out-of-room .ensures);
     }
 
 add-t15 : tie.Need-add-t15

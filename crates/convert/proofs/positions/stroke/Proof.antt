@@ -47,13 +47,13 @@ whole : (c : tie.After-densify-polyline) → let b = c .before .before .before .
     Written q (putMid at (length q - at) q (c .densify-polyline .last .1 .1 .1 .1 .1 .1 .0)) at (sampled b) (behindAt at (c .densify-polyline .result))
 whole c =
     let b = c .before .before .before .before .before .before .before in
-    tail-written (b .args .positions .now) (b .args .st .positions) (b .pre .3) {m = sampled b} (c .densify-polyline .ensures)
+    tail-written (b .args .positions .now) (b .args .st .positions) (b .pre .positions) {m = sampled b} (c .densify-polyline .ensures)
 
 project-and-close-requires : tie.Need-project-and-close-requires
 project-and-close-requires c κs fits =
     let a = c .before .before .before in
     let b = c .before .before .before .before .before .before .before .before .before .before in
-    (omega (arith, whole a .next fits, flats-length (sampled b .points), stroke-some (b .args .cx) (b .args .work .now) (b .args .from) (b .args .to) (b .args .st .budget) (b .pre .0)), next-in (whole a) fits)
+    (omega (arith, whole a .next fits, flats-length (sampled b .points), stroke-some (b .args .cx) (b .args .work .now) (b .args .from) (b .args .to) (b .args .st .budget) (b .pre .some)), next-in (whole a) fits)
 
 -- what it then holds
 closed : (c : tie.After-project-and-close) → let b = c .before .before .before .before .before .before .before .before .before .before .before in
@@ -80,7 +80,7 @@ sub-finish c = omega (arith, size (c .before .before .before .before .before) (n
 cast-finish : tie.Need-cast-finish
 cast-finish c =
     let b = c .before .before .before .before .before .before .before .before .before .before .before .before .before .before .before .before in
-    let few : length (made b .points) ≤ most + longest = stroke-few (b .args .cx) _ _ _ _ (b .args .geometry) (b .pre .2) (b .pre .5) in
+    let few : length (made b .points) ≤ most + longest = stroke-few (b .args .cx) _ _ _ _ (b .args .geometry) (b .pre .few) (b .pre .left) in
     omega (arith, size (c .before .before .before .before .before) (not-false _ (c .before .if2 .left)))
 
 finish-requires : tie.Need-finish-requires

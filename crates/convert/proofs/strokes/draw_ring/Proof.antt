@@ -4,7 +4,6 @@ use borrow.Author.Needs.{needs}
 use borrow.Author.Tests.{not-true, not-false}
 use Rattle.convert.specs.Convert.{ringTrace}
 use Rattle.convert.specs.Laws.Applying.{played-stuck}
-use Rattle.convert.specs.Laws.Events.{state-is}
 use Rattle.convert.specs.Laws.Polygons.{ring-short, ring-full, ring-drawn}
 use Rattle.convert.proofs.strokes.draw_ring.Statement.{statement}
 use Rattle.convert.proofs.strokes.draw_ring.Tie as tie
@@ -12,7 +11,7 @@ use Rattle.convert.proofs.strokes.draw_ring.Tie as tie
 returns : tie.Need-returns
 returns c =
     let a = c .before .before .before .before .before .args in
-    λ m v ringed h. played-stuck (ringTrace (a .cx) (a .p) m) _ _ (c .if1 .taken) h
+    λ m ringed v h. played-stuck (ringTrace (a .cx) (a .p) m) _ _ (c .if1 .taken) h
 
 out-of-room-requires : tie.Need-out-of-room-requires
 out-of-room-requires c κs = search needs
@@ -21,10 +20,10 @@ returns-2 : tie.Need-returns-2
 returns-2 c =
     let a = c .before .before .before .before .before .before .before .before .args in
     let short = not-true _ (c .before .if2 .taken) in
-    λ m v ringed h. rw (state-is (a .st) (c .out-of-room .ensures)) (ring-short (a .cx) (a .p) ringed refl (c .before .before .before .if1 .left) short h)
+    λ m ringed v h. rw ((c .out-of-room .ensures)) (ring-short (a .cx) (a .p) ringed refl (c .before .before .before .if1 .left) short h)
 
 sub-if3 : tie.Need-sub-if3
-sub-if3 c = c .before .before .before .before .before .before .before .before .pre .0 (not-false _ (c .before .if2 .left)) .1
+sub-if3 c = c .before .before .before .before .before .before .before .before .pre .ring (not-false _ (c .before .if2 .left)) .within
 
 out-of-room-requires-2 : tie.Need-out-of-room-requires-2
 out-of-room-requires-2 c κs = search needs
@@ -33,7 +32,7 @@ returns-3 : tie.Need-returns-3
 returns-3 c =
     let a = c .before .before .before .before .before .before .before .before .before .before .args in
     let fits = not-false _ (c .before .before .before .if2 .left) in
-    λ m v ringed h. rw (state-is (a .st) (c .out-of-room2 .ensures)) (ring-full (a .cx) (a .p) ringed refl (c .before .before .before .before .before .if1 .left) fits (omega arith) h)
+    λ m ringed v h. rw ((c .out-of-room2 .ensures)) (ring-full (a .cx) (a .p) ringed refl (c .before .before .before .before .before .if1 .left) fits (omega arith) h)
 
 with-budget-requires : tie.Need-with-budget-requires
 with-budget-requires c κs = search needs
@@ -41,9 +40,16 @@ with-budget-requires c κs = search needs
 stroke-requires : tie.Need-stroke-requires
 stroke-requires c κs =
     let pre = c .before .before .before .before .before .before .before .before .before .before .before .before .pre in
-    let d = pre .0 (not-false _ (c .before .before .before .before .before .if2 .left)) in
+    let d = pre .ring (not-false _ (c .before .before .before .before .before .if2 .left)) in
     let st = c .with-budget .ensures in
-    (d .0, d .1, d .2, rw (st .1) (pre .1), rw (st .2) (pre .2), rw (st .4) (d .3))
+    record {
+      some = d .some;
+      points = d .within;
+      few = d .few;
+      positions = rw st (pre .positions);
+      features = rw st (pre .features);
+      left = rw st (d .left);
+    }
 
 same-length : tie.Need-same-length
 same-length c = search needs
@@ -54,10 +60,10 @@ same-length-2 c = search needs
 returns-4 : tie.Need-returns-4
 returns-4 c =
     let a = c .before .before .before .before .before .before .before .before .before .before .before .before .before .before .before .before .before .args in
-    let st = state-is (a .st) (c .before .before .before .before .before .with-budget .ensures) in
+    let st = (c .before .before .before .before .before .with-budget .ensures) in
     let start = c .before .before .before .before .before .before .before .before .before .before .before .before .if1 .left in
     let fits = not-false _ (c .before .before .before .before .before .before .before .before .before .before .if2 .left) in
-    λ m v ringed h. ring-drawn (a .cx) (a .p) ringed refl start fits (omega arith) h (rw st at (c .before .before .before .before .stroke .ensures) _ v)
+    λ m ringed v h. ring-drawn (a .cx) (a .p) ringed refl start fits (omega arith) h (rw st at (c .before .before .before .before .stroke .ensures) _ v)
 
 pub draw-ring-spec : {M : Type 1} → statement M
 draw-ring-spec =

@@ -9,7 +9,7 @@ use Rattle.convert.proofs.strokes.fill.Tie as tie
 returns : tie.Need-returns
 returns c =
     let a = c .before .before .before .before .before .args in
-    (λ closed ps o v laid h. fill-none (a .cx) (a .p) _ _ _ (not-true _ (c .if1 .taken)) h, (refl, λ v h. h))
+    (λ closed ps o laid v h. fill-none (a .cx) (a .p) _ _ _ (not-true _ (c .if1 .taken)) h, (refl, λ v h. h))
 
 sub-if3 : tie.Need-sub-if3
 sub-if3 c = search needs
@@ -17,10 +17,19 @@ sub-if3 c = search needs
 returns-2 : tie.Need-returns-2
 returns-2 c =
     let a = c .before .before .before .before .before .before .before .before .args in
-    (λ closed ps o v laid h. outline-few (a .cx) (a .p) laid _ (c .before .before .if2 .taken) (omega arith) h, (refl, λ v h. h))
+    (λ closed ps o laid v h. outline-few (a .cx) (a .p) laid _ (c .before .before .if2 .taken) (omega arith) h, (refl, λ v h. h))
 
 stroke-requires : tie.Need-stroke-requires
-stroke-requires c κs = search needs
+stroke-requires c κs =
+    let pre = c .before .before .before .before .before .before .before .before .before .before .before .pre in
+    record {
+      some = omega (arith, pre .bounds);
+      points = omega (arith, pre .bounds);
+      few = omega (arith, pre .bounds);
+      positions = pre .positions;
+      features = pre .features;
+      left = pre .left;
+    }
 
 same-length : tie.Need-same-length
 same-length c = search needs
@@ -37,7 +46,7 @@ returns-3 c =
     let asked = not-false _ (c .before .before .before .before .before .before .before .before .before .before .before .if1 .left) in
     let outlined = c .before .before .before .before .before .before .before .before .before .before .if2 .taken in
     let stroked = c .before .before .before .before .stroke .ensures in
-    (λ closed ps o v laid h. outline-drawn (a .cx) (a .p) laid _ outlined asked (omega arith) (stroked _ v h), (refl, λ v h. stroked _ v h .fits))
+    (λ closed ps o laid v h. outline-drawn (a .cx) (a .p) laid _ outlined asked (omega arith) (stroked _ v h), (refl, λ v h. stroked _ v h .fits))
 
 close-ring-requires : tie.Need-close-ring-requires
 close-ring-requires c κs = search needs
@@ -49,16 +58,16 @@ returns-4 : tie.Need-returns-4
 returns-4 c =
     let a = c .before .before .before .before .before .before .before .before .before .before .before .before .args in
     let closer = c .before .before .before .before .close-ring .ensures in
-    let bounds = c .before .before .before .before .before .before .before .before .before .before .before .before .pre .0 in
+    let bounds = c .before .before .before .before .before .before .before .before .before .before .before .before .pre .bounds in
     let plain = c .before .before .before .before .before .before .if2 .left in
-    (λ closed ps o v laid h. rw (closer .kept) (own-few (a .cx) (a .p) laid _ plain bounds closer (omega arith) h), (closer .before, λ v h. rw (closer .kept) h))
+    (λ closed ps o laid v h. rw (closer .kept) (own-few (a .cx) (a .p) laid _ plain bounds closer (omega arith) h), (closer .before, λ v h. rw (closer .kept) h))
 
 stroke-requires-2 : tie.Need-stroke-requires-2
 stroke-requires-2 c κs =
     let pre = c .before .before .before .before .before .before .before .before .before .before .before .before .before .before .before .pre in
     let closer = c .before .before .before .before .before .before .before .close-ring .ensures in
-    let end = closer-in (pre .0) closer in
-    (omega arith, end .0, end .1, pre .1, pre .2, pre .3)
+    let end = closer-in (pre .bounds) closer in
+    record { some = omega arith; points = end .0; few = end .1; positions = pre .positions; features = pre .features; left = pre .left }
 
 same-length-5 : tie.Need-same-length-5
 same-length-5 c = search needs
@@ -72,12 +81,12 @@ same-length-7 c = search needs
 returns-5 : tie.Need-returns-5
 returns-5 c =
     let a = c .before .before .before .before .before .before .before .before .before .before .before .before .before .before .before .before .before .before .before .before .args in
-    let bounds = c .before .before .before .before .before .before .before .before .before .before .before .before .before .before .before .before .before .before .before .before .pre .0 in
+    let bounds = c .before .before .before .before .before .before .before .before .before .before .before .before .before .before .before .before .before .before .before .before .pre .bounds in
     let asked = not-false _ (c .before .before .before .before .before .before .before .before .before .before .before .before .before .before .before .if1 .left) in
     let plain = c .before .before .before .before .before .before .before .before .before .before .before .before .before .before .if2 .left in
     let closer = c .before .before .before .before .before .before .before .before .before .before .before .before .close-ring .ensures in
     let stroked = c .before .before .before .before .stroke2 .ensures in
-    (λ closed ps o v laid h. rw (closer .kept) (own-drawn (a .cx) (a .p) laid _ plain bounds closer asked (omega arith) (stroked _ v h)), (closer .before, λ v h. rw (closer .kept) (stroked _ v h .fits)))
+    (λ closed ps o laid v h. rw (closer .kept) (own-drawn (a .cx) (a .p) laid _ plain bounds closer asked (omega arith) (stroked _ v h)), (closer .before, λ v h. rw (closer .kept) (stroked _ v h .fits)))
 
 pub fill-spec : {M : Type 1} → statement M
 fill-spec =

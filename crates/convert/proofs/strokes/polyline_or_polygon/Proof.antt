@@ -9,7 +9,6 @@ use lib.ListN.{length}
 use Rattle.convert.specs.Convert.{polylineOrPolygonOf}
 use Rattle.convert.specs.Contracts.Space.{outputBy, Fits, Bounds}
 use Rattle.convert.specs.Laws.Applying.{played-stuck}
-use Rattle.convert.specs.Laws.Events.{state-is}
 use Rattle.convert.specs.Laws.Polygons.{fits-spent, shape-lacks, shape-few, shape-ring, shape-line, shape-unwritten}
 use Rattle.convert.proofs.strokes.polyline_or_polygon.Statement.{statement}
 use Rattle.convert.proofs.strokes.polyline_or_polygon.Tie as tie
@@ -24,7 +23,7 @@ module _ (c : tie.After-with-budget) where
       Fits (outputBy (length (a .work .now)) (a .positions .now) (a .features .now) (a .warnings .now) (c .with-budget .result)) (c .with-budget .result .budget)
   drawn-fits =
       let e = c .before .before .before .before .before .before .before .before .before in
-      rw (state-is (e .args .st) (c .with-budget .ensures)) (fits-spent (e .pre .1) (e .pre .0 (room .1) .1))
+      rw ((c .with-budget .ensures)) (fits-spent (e .pre .1) (e .pre .0 (room .1) .1))
 
   drawn-bounds : let a = c .before .before .before .before .before .before .before .before .before .args in Bounds (a .l) (length (a .work .now))
   drawn-bounds = c .before .before .before .before .before .before .before .before .before .pre .0 (room .1) .0
@@ -43,7 +42,7 @@ returns-2 c =
     let e = c .before .before .before .before .before .before .before .before .before in
     let a = e .args in
     let short = not-true _ (c .before .if2 .taken) in
-    λ w ps o b lays. rw (state-is (a .st) (c .out-of-room .ensures)) (shape-lacks (a .cx) (a .p) lays refl (c .before .before .before .if1 .left) (e .pre .1) short)
+    λ w ps o b lays. rw ((c .out-of-room .ensures)) (shape-lacks (a .cx) (a .p) lays refl (c .before .before .before .if1 .left) (e .pre .1) short)
 
 with-budget-requires : tie.Need-with-budget-requires
 with-budget-requires c κs = search needs
@@ -53,14 +52,21 @@ returns-3 c =
     let s = c .before .before in
     let e = s .before .before .before .before .before .before .before .before .before in
     let a = e .args in
-    λ w ps o b lays. rw (state-is (a .st) (s .with-budget .ensures)) (shape-few (a .cx) (a .p) lays refl (room s .0) (e .pre .1) (room s .1) (c .if3 .taken))
+    λ w ps o b lays. rw ((s .with-budget .ensures)) (shape-few (a .cx) (a .p) lays refl (room s .0) (e .pre .1) (room s .1) (c .if3 .taken))
 
 stroke-requires : tie.Need-stroke-requires
 stroke-requires c κs =
     let s = c .before .before .before .before .before .before .before .before in
     let h = drawn-fits s in
     let bounds = drawn-bounds s in
-    (omega arith, omega arith, omega arith, h .positions, h .features, h .left)
+    record {
+      some = omega arith;
+      points = omega arith;
+      few = omega arith;
+      positions = h .positions;
+      features = h .features;
+      left = h .left;
+    }
 
 same-length : tie.Need-same-length
 same-length c = search needs
@@ -81,13 +87,13 @@ returns-4 c =
     let enough = c .before .before .before .before .before .before .before .before .if5 .taken in
     let stroked = c .before .before .before .before .stroke .ensures in
     λ w ps o b lays.
-    shape-ring (a .cx) (a .p) lays refl (room s .0) (e .pre .1) (room s .1) more marked enough (rw (state-is (a .st) (s .with-budget .ensures)) at stroked _ _)
+    shape-ring (a .cx) (a .p) lays refl (room s .0) (e .pre .1) (room s .1) more marked enough (rw ((s .with-budget .ensures)) at stroked _ _)
 
 fill-requires : tie.Need-fill-requires
 fill-requires c κs =
     let s = c .before .before .before .before .before .before in
     let h = drawn-fits s in
-    (drawn-bounds s, h .positions, h .features, h .left)
+    record { bounds = drawn-bounds s; positions = h .positions; features = h .features; left = h .left }
 
 draw-without-writing-requires : tie.Need-draw-without-writing-requires
 draw-without-writing-requires c κs =
@@ -116,12 +122,12 @@ returns-5 c =
     let a = e .args in
     let more = c .before .before .before .before .before .before .before .before .before .before .before .before .before .before .before .before .before .if3 .left in
     let marked = c .before .before .before .before .before .if6 .taken in
-    let less : a .l .end < 8 = ⊎-elim (λ t. omega arith) (λ t. absurd (false≢true (sym (t .left) ∙ marked))) (c .before .before .before .before .before .before .before .before .before .before .before .before .before .before .before .before .if4 .came) in
+    let less : a .l .ring < 8 = ⊎-elim (λ t. omega arith) (λ t. absurd (false≢true (sym (t .left) ∙ marked))) (c .before .before .before .before .before .before .before .before .before .before .before .before .before .before .before .before .if4 .came) in
     let filled = c .before .before .before .before .before .before .before .before .before .before .before .before .fill .ensures in
     let told = c .before .before .draw-without-writing .ensures in
     λ w ps o b lays.
     shape-unwritten (a .cx) (a .p) lays refl (room s .0) (e .pre .1) (room s .1) more _ (filled .1 .0)
-    (rw (state-is (a .st) (s .with-budget .ensures)) at (filled .0) (a .closed) ps o _) marked less (told _ _ _)
+    (λ laid. (rw (s .with-budget .ensures) at (filled .0)) (a .closed) ps o laid _) marked less (told _ _ _)
 
 stroke-requires-2 : tie.Need-stroke-requires-2
 stroke-requires-2 c κs =
@@ -130,7 +136,14 @@ stroke-requires-2 c κs =
     let more = c .before .before .before .before .before .before .before .before .before .before .before .before .before .before .before .if3 .left in
     let filled = c .before .before .before .before .before .before .before .before .before .before .fill in
     let h = filled .ensures .1 .1 _ (drawn-fits s) in
-    (omega arith, omega (arith, filled .kept .1 .1 .1 .0), omega arith, h .positions, h .features, h .left)
+    record {
+      some = omega arith;
+      points = omega (arith, filled .kept .1 .1 .1 .0);
+      few = omega arith;
+      positions = h .positions;
+      features = h .features;
+      left = h .left;
+    }
 
 same-length-8 : tie.Need-same-length-8
 same-length-8 c = search needs
@@ -152,7 +165,7 @@ returns-6 c =
     let stroked = c .before .before .before .before .stroke2 .ensures in
     λ w ps o b lays.
     shape-line (a .cx) (a .p) lays refl (room s .0) (e .pre .1) (room s .1) more _ (filled .1 .0)
-    (rw (state-is (a .st) (s .with-budget .ensures)) at (filled .0) (a .closed) ps o _) unmarked (stroked _ _)
+    (λ laid. (rw (s .with-budget .ensures) at (filled .0)) (a .closed) ps o laid _) unmarked (stroked _ _)
 
 pub polyline-or-polygon-spec : {M : Type 1} → statement M
 polyline-or-polygon-spec =
