@@ -1,16 +1,14 @@
 // Features: their positions, then their line.
 ghost use mathlib.Core.Path.{_≡_};
 ghost use mathlib.Core.Bool.{true};
-ghost use mathlib.Core.List.{List, map};
+ghost use mathlib.Core.List.{List};
 ghost use Prim.Native.Nat.{ℕ, _+_, _≤_};
 ghost use lib.Ieee.{Float};
 ghost use lib.ListN.{length};
 ghost use Rattle.values.specs.Contracts.Points.{pointsIn};
-ghost use Rattle.projection.specs.Projection.{projectPoint};
-ghost use Rattle.densify.specs.Densify.{Made};
-ghost use Rattle.densify.specs.Contracts.Written.{onPoints, Written};
-ghost use Rattle.convert.specs.Convert.{positionsOf, strokeOf, drawWithoutWriting, pointOf};
-ghost use Rattle.convert.specs.Contracts.Space.{outputBy, most, longest, behindAt, firstRepeatedIn, Finished, Fits, Applied};
+ghost use Rattle.convert.specs.Convert.{strokeOf, drawWithoutWriting, pointOf};
+ghost use Rattle.convert.specs.Contracts.Space.{outputBy, most, longest, behindAt, projectAndClose, Rewrites};
+ghost use Rattle.convert.specs.Contracts.Space.{firstRepeatedIn, Finished, Fits, Applied};
 use crate::state::Ctx;
 use crate::state::Props;
 use crate::state::State;
@@ -39,7 +37,8 @@ fn repeat_first_position(out: &mut [f64], from: usize, to: usize)
     out[to - 1] = lat;
 }
 
-// The points that a polyline left behind `at`, as d tells, become the positions of a line or a ring where they stand: carried to the Earth, and a ring's last the first.
+// The points that a polyline left behind `at`, as d tells, become the positions of a line or a ring where they stand:
+// carried to the Earth, and a ring's last the first.
 fn project_and_close(
     t: Projection,
     geometry: u32,
@@ -48,7 +47,8 @@ fn project_and_close(
     d: PointCursor,
 ) -> PointCursor
     requires { ⌜ (d .ok ≡ true → (2 ≤ d .at) × (at + d .at ≤ length (now positions))) ⌝ }
-    ensures { λ r. ⌜ ((q : List Float) (m : Made) → Written q (now (positions .entry)) at m (behindAt at d) → Written q (now (positions .exit)) at (onPoints (λ ps. positionsOf geometry (map (projectPoint t) ps)) m) r) ⌝ }
+    ensures { λ r. ⌜ Rewrites (projectAndClose t geometry) (now (positions .entry)) (now (positions .exit)) at
+        (behindAt at d) r ⌝ }
 {
     if !d.ok {
         return d;
