@@ -1,16 +1,12 @@
 // Features: their positions, then their line.
 ghost use mathlib.Core.Path.{_≡_};
 ghost use mathlib.Core.Bool.{true};
-ghost use mathlib.Core.List.{List, map};
 ghost use Prim.Native.Nat.{_+_, _≤_};
-ghost use lib.Ieee.{Float};
 ghost use lib.ListN.{length};
 ghost use Rattle.values.specs.Contracts.Points.{pointWith, pointsIn};
-ghost use Rattle.projection.specs.Projection.{projectPoint};
-ghost use Rattle.densify.specs.Densify.{Made};
-ghost use Rattle.densify.specs.Contracts.Written.{onPoints, Written};
-ghost use Rattle.convert.specs.Convert.{positionsOf, strokeOf, drawWithoutWriting, pointOf};
-ghost use Rattle.convert.specs.Contracts.Space.{behindAt, firstRepeatedIn, Finished, Strokes, Warns, StrokeReady};
+ghost use Rattle.convert.specs.Convert.{strokeOf, drawWithoutWriting, pointOf};
+ghost use Rattle.convert.specs.Contracts.Space.{behindAt, projectAndClose, Rewrites, firstRepeatedIn, Finished};
+ghost use Rattle.convert.specs.Contracts.Space.{Strokes, Warns, StrokeReady};
 use crate::state::Ctx;
 use crate::state::FEATURE_ROOM;
 use crate::state::POSITION_ROOM;
@@ -54,9 +50,8 @@ fn project_and_close(
     d: PointCursor,
 ) -> PointCursor
     requires { ⌜ (d .ok ≡ true → (2 ≤ d .at) × (at + d .at ≤ length (now positions))) ⌝ }
-    ensures { λ r. ⌜ ((q : List Float) (m : Made) → Written q (now (positions .entry)) at m (behindAt at d)
-        → Written q (now (positions .exit)) at
-        (onPoints (λ ps. positionsOf geometry (map (projectPoint t) ps)) m) r) ⌝ }
+    ensures { λ r. ⌜ Rewrites (projectAndClose t geometry) (now (positions .entry)) (now (positions .exit)) at
+        (behindAt at d) r ⌝ }
 {
     if !d.ok {
         return d;
@@ -145,7 +140,7 @@ pub fn stroke(
     );
     let closed = project_and_close(cx.projection, geometry, positions, at, d);
     if !closed.ok {
-        return out_of_room(st, 16);
+        return out_of_room(st, POSITION_ROOM);
     }
     finish(
         p,

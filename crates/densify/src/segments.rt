@@ -59,7 +59,8 @@ fn sample_segment(
     }
 }
 
-// The polyline whose points stand in `work` from `from` to `to`, densified to this step, on the canvas: each point is written into `out` as it is made.
+// The polyline whose points stand in `work` from `from` to `to`, densified to this step, on the canvas: each point is
+// written into `out` as it is made.
 pub fn densify_polyline(
     step: f64,
     scale: f64,

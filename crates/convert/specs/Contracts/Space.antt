@@ -2,7 +2,7 @@
 use Prim.Native.Nat.{ℕ, _+_, _-_, _*_, _≤_}
 use mathlib.Core.Path.{_≡_}
 use mathlib.Core.Bool.{Bool, true, false, cond}
-use mathlib.Core.List.{List}
+use mathlib.Core.List.{List, map}
 use lib.ListN.{length, set, getD}
 use lib.Dec.{leb}
 use lib.Ieee.{Float, nan}
@@ -10,10 +10,12 @@ use Rattle.scene.specs.declared.readers.Path.{Path}
 use Rattle.scene.specs.Scene.{DrawnPath}
 use Rattle.values.specs.declared.Point.{Point}
 use Rattle.values.specs.Maybe.{Maybe, none, some, given}
+use Rattle.projection.specs.declared.Projection.{Projection}
+use Rattle.projection.specs.Projection.{projectPoint}
 use Rattle.budget.specs.declared.Budget.{Budget}
 use Rattle.densify.specs.declared.append.PointCursor.{PointCursor}
 use Rattle.densify.specs.Densify.{Made, closeRingOf, pathPointsOf, ellipseRingOf, boxRingOf}
-use Rattle.densify.specs.Contracts.Written.{Written, drawnBy}
+use Rattle.densify.specs.Contracts.Written.{Written, onPoints, drawnBy}
 use Rattle.values.specs.Contracts.Points.{pointsIn}
 use Rattle.values.specs.Points.{flats}
 use Rattle.geojson.specs.declared.Feature.{Feature}
@@ -23,7 +25,7 @@ use Rattle.convert.specs.declared.workspace.Workspace.{Workspace}
 use Rattle.convert.specs.declared.state.Ctx.{Ctx}
 use Rattle.convert.specs.declared.state.Props.{Props}
 use Rattle.convert.specs.declared.state.State.{State}
-use Rattle.convert.specs.Convert.{Trace, closedOutline, fillOf, workOf, polylineOrPolygonOf, ringTrace}
+use Rattle.convert.specs.Convert.{Trace, closedOutline, fillOf, workOf, polylineOrPolygonOf, ringTrace, positionsOf}
 use Rattle.convert.specs.Space.{Output, applyAll}
 
 -- ---- what the code holds
@@ -276,6 +278,14 @@ DrawsRing cx p d w q f st q′ f′ r =
 -- a cursor into the tail from `at` on, as one into the whole slice
 abbrev pub behindAt : ℕ → PointCursor → PointCursor
 behindAt at d = record { ok = d .ok; at = at + d .at; budget = d .budget }
+
+-- what a polyline's points become, of a line or a ring
+abbrev pub projectAndClose : Projection → ℕ → List Point → List Point
+projectAndClose t geometry ps = positionsOf geometry (map (projectPoint t) ps)
+
+-- from w to w′, what was written from `at` on up to d becomes what f makes of it, up to r
+abbrev pub Rewrites : (List Point → List Point) → List Float → List Float → ℕ → PointCursor → PointCursor → Type 0
+Rewrites f w w′ at d r = (q : List Float) (m : Made) → Written q w at m d → Written q w′ at (onPoints f m) r
 
 -- the last overwritten by the first
 unfoldable pub firstRepeatedIn : List Float → ℕ → ℕ → List Float

@@ -29,8 +29,8 @@ use Rattle.densify.specs.Laws.Sizes.{left-falls, densify-sized}
 use Rattle.convert.specs.declared.state.Ctx.{Ctx}
 use Rattle.convert.specs.declared.state.Props.{Props}
 use Rattle.convert.specs.declared.state.State.{State}
-use Rattle.convert.specs.Convert.{oneEvent, endWith, firstRepeated, positionsOf, featureOf, strokeOf}
-use Rattle.convert.specs.Contracts.Space.{outputBy, outOfRoomBy, most, longest, behindAt, firstRepeatedIn, Fits, Applied, Finished}
+use Rattle.convert.specs.Convert.{oneEvent, endWith, firstRepeated, featureOf, strokeOf}
+use Rattle.convert.specs.Contracts.Space.{outputBy, outOfRoomBy, most, longest, behindAt, projectAndClose, firstRepeatedIn, Fits, Applied, Finished}
 use Rattle.convert.specs.Laws.Applying.{played-drawn}
 use Rattle.convert.specs.Laws.Events.{written-lacks, written-finished}
 
@@ -142,10 +142,7 @@ repeated-written {q} {q₂ = q₂} {at = at} {m = m} {r = r} one fits some there
 
 -- ---- a polyline's points become the positions of a line or a ring
 module _ (t : Projection) (geometry : ℕ) where
-  abbrev pub projectAndClose : List Point → List Point
-  projectAndClose ps = positionsOf geometry (map (projectPoint t) ps)
-
-  positions-length : (ps : List Point) → length (projectAndClose ps) ≡ length ps
+  positions-length : (ps : List Point) → length (projectAndClose t geometry ps) ≡ length ps
   positions-length ps = go (eqb geometry 2)
     where
       go : (x : Bool) → length (cond x (firstRepeated (map (projectPoint t) ps)) (map (projectPoint t) ps)) ≡ length ps
@@ -153,17 +150,17 @@ module _ (t : Projection) (geometry : ℕ) where
       go false = length-map ps (projectPoint t)
 
   module _ {q q₁ : List Float} {at : ℕ} {m : Made} {d : PointCursor} (one : Written q q₁ at m d) where
-    pub close-short : (r : PointCursor) → d .ok ≡ false → r .ok ≡ false → Written q q₁ at (onPoints projectAndClose m) r
-    close-short r short shut = still-short one (onPoints projectAndClose m) r short shut (omega (arith, positions-length (m .points)))
+    pub close-short : (r : PointCursor) → d .ok ≡ false → r .ok ≡ false → Written q q₁ at (onPoints (projectAndClose t geometry) m) r
+    close-short r short shut = still-short one (onPoints (projectAndClose t geometry) m) r short shut (omega (arith, positions-length (m .points)))
 
     module _ {q₂ : List Float} (fits : d .ok ≡ true) (there : q₂ ≡ inPlace (projectPoint t) q₁ at (d .at)) where
       on-earth : Written q q₂ at (onPoints (map (projectPoint t)) m) d
       on-earth = mapped-written (projectPoint t) one fits there
 
-      pub close-line : (geometry ≡ 2 → ⊥) → Written q q₂ at (onPoints projectAndClose m) d
+      pub close-line : (geometry ≡ 2 → ⊥) → Written q q₂ at (onPoints (projectAndClose t geometry) m) d
       close-line line = rw (ne-eqb geometry 2 line) on-earth
 
-      pub close-ring : geometry ≡ 2 → at + 2 ≤ d .at → {q₃ : List Float} → q₃ ≡ firstRepeatedIn q₂ at (d .at) → Written q q₃ at (onPoints projectAndClose m) d
+      pub close-ring : geometry ≡ 2 → at + 2 ≤ d .at → {q₃ : List Float} → q₃ ≡ firstRepeatedIn q₂ at (d .at) → Written q q₃ at (onPoints (projectAndClose t geometry) m) d
       close-ring ring some last = rw (eq-eqb geometry 2 ring) (repeated-written on-earth fits some last)
 
 -- ---- how many points a stroke makes
