@@ -1,11 +1,5 @@
 -- The laws of these definitions that callers use.
-pub mod Applying
-pub mod Events
-pub mod Positions
-pub mod Loading
-pub mod Polygons
 pub mod Items
 pub mod Loops
 pub mod Draws
 pub mod Features
-pub mod Reading

@@ -1,6 +1,3 @@
--- Items to features.
+-- What items draw.
 pub mod Convert
-pub mod Space
-pub mod Features
-pub mod Contracts
 pub mod Laws

@@ -4,7 +4,7 @@ ghost use mathlib.Core.List.{List};
 ghost use Prim.Native.Nat.{ℕ};
 ghost use Rattle.scene.specs.Contracts.Answers.{itemBy};
 ghost use Rattle.convert.specs.Convert.{boxOf, ellipseOf, circleOf, dotOf, shapeOf, onScreen, propsOf};
-use crate::state::Props;
+use strokes::Props;
 use geojson::SCREEN;
 use scene::Item;
 

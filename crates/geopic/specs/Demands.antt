@@ -13,8 +13,8 @@ use Rattle.register.specs.Register.{f0, registrationOf}
 use Rattle.budget.specs.Draws.{Draw, leftAfter, Claim}
 use Rattle.budget.specs.Laws.Draws.{claim}
 use Rattle.densify.specs.Draws.{drawsOf, Granted, fellShort}
-use Rattle.convert.specs.Convert.{drawsIn}
-use Rattle.convert.specs.Features.{AllWellFormed, positionsIn, featuresIn, warningsIn, featuresAt, warningsAt, anyOfKind}
+use Rattle.strokes.specs.Strokes.{drawsIn}
+use Rattle.strokes.specs.Features.{AllWellFormed, positionsIn, featuresIn, warningsIn, featuresAt, warningsAt, anyOfKind}
 use Rattle.geopic.specs.Geopic.{fresh, ctxOf, traceOf, Buffers, early, conditions, answerOf, clear, buffersAfter}
 use Rattle.geopic.specs.Laws.Conditions.{number-is, number-none, none-number}
 use Rattle.geopic.specs.Laws.Calls.{untouched, cleared}

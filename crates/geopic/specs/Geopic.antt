@@ -13,9 +13,10 @@ use Rattle.projection.specs.declared.Registration.{Registration}
 use Rattle.projection.specs.Projection.{projectionOf}
 use Rattle.register.specs.Register.{f0, f100, registrationOf, ofRegistration, registerWarnings}
 use Rattle.budget.specs.declared.Budget.{Budget}
-use Rattle.convert.specs.declared.state.Ctx.{Ctx}
-use Rattle.convert.specs.Convert.{warned, Trace, onScreen, convertOf}
-use Rattle.convert.specs.Space.{Output, applyAll, ofSpace}
+use Rattle.strokes.specs.declared.state.Ctx.{Ctx}
+use Rattle.convert.specs.Convert.{onScreen, convertOf}
+use Rattle.strokes.specs.Strokes.{warned, Trace}
+use Rattle.strokes.specs.Space.{Output, applyAll, ofSpace}
 use Rattle.geopic.specs.declared.Answer.{Answer}
 
 -- ---- what a scene draws

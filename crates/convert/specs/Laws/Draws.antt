@@ -19,10 +19,11 @@ use Rattle.densify.specs.Laws.Replay.{replayed, Replays, replayed-append, grant
 use Rattle.densify.specs.Draws.{drawsOf, Granted, fellShort}
 use Rattle.convert.specs.declared.shapes.Shape.{Shape}
 use Rattle.convert.specs.declared.shapes.Shape.the-variants.{Box, Ellipse, Circle, Dot, Points, Paths, Missing, Nothing}
-use Rattle.convert.specs.declared.state.Ctx.{Ctx}
-use Rattle.convert.specs.declared.state.Props.{Props}
-use Rattle.convert.specs.Convert.{Event, drew, need, feature, warned, Trace, noEvents, oneEvent, andThenTrace, pickTrace, drawsTrace, missing, featureOf, strokeOf, drawWithoutWriting, pointOf, fillOf, shapeTrace, closedOutline, polylineOrPolygonOf, ringTrace, firstPath, laterPaths, outlineOf, pathOf, withPart, pathsOf, shapeOf, propsOf, at, half, pointsTrace, pathsTrace, drawnOf, itemOf, itemsOf, spentOf, convertOf, drawsIn}
-use Rattle.convert.specs.Features.{warningsIn, anyOfKind}
+use Rattle.strokes.specs.declared.state.Ctx.{Ctx}
+use Rattle.strokes.specs.declared.state.Props.{Props}
+use Rattle.convert.specs.Convert.{firstPath, laterPaths, outlineOf, pathOf, withPart, pathsOf, shapeOf, propsOf, at, half, pointsTrace, pathsTrace, drawnOf, itemOf, itemsOf, spentOf, convertOf}
+use Rattle.strokes.specs.Strokes.{Event, drew, need, feature, warned, Trace, noEvents, oneEvent, andThenTrace, pickTrace, drawsTrace, missing, featureOf, strokeOf, drawWithoutWriting, pointOf, fillOf, shapeTrace, closedOutline, polylineOrPolygonOf, ringTrace, drawsIn}
+use Rattle.strokes.specs.Features.{warningsIn, anyOfKind}
 
 pub record TraceReplays (b : Budget) (t : Trace) : Type 0 where
   pub after-is : t .after ≡ replayed b (drawsIn (t .events))

@@ -31,10 +31,11 @@ use Rattle.densify.specs.Laws.Counts.{densify-least, ring-least, ellipse-ring, 
 use Rattle.geojson.specs.Rfc7946.{Positions, lastFrom, Closed, Geometry}
 use Rattle.convert.specs.declared.shapes.Shape.{Shape}
 use Rattle.convert.specs.declared.shapes.Shape.the-variants.{Box, Ellipse, Circle, Dot, Points, Paths, Missing, Nothing}
-use Rattle.convert.specs.declared.state.Ctx.{Ctx}
-use Rattle.convert.specs.declared.state.Props.{Props}
-use Rattle.convert.specs.Convert.{Event, drew, need, feature, warned, Trace, noEvents, oneEvent, andThenTrace, pickTrace, drawsTrace, missing, endWith, firstRepeated, featureOf, strokeOf, drawWithoutWriting, pointOf, fillOf, shapeTrace, closedOutline, polylineOrPolygonOf, ringTrace, firstPath, laterPaths, outlineOf, pathOf, withPart, pathsOf, boxShape, ellipseShape, circleShape, dotShape, pickShape, boxOf, ellipseOf, circleOf, dotOf, shapeOf, propsOf, at, half, pointsTrace, pathsTrace, drawnOf, itemOf, itemsOf, spentOf, convertOf}
-use Rattle.convert.specs.Features.{AllOnGlobe, AllWellFormed, featuresIn}
+use Rattle.strokes.specs.declared.state.Ctx.{Ctx}
+use Rattle.strokes.specs.declared.state.Props.{Props}
+use Rattle.convert.specs.Convert.{firstPath, laterPaths, outlineOf, pathOf, withPart, pathsOf, boxShape, ellipseShape, circleShape, dotShape, pickShape, boxOf, ellipseOf, circleOf, dotOf, shapeOf, propsOf, at, half, pointsTrace, pathsTrace, drawnOf, itemOf, itemsOf, spentOf, convertOf}
+use Rattle.strokes.specs.Strokes.{Event, drew, need, feature, warned, Trace, noEvents, oneEvent, andThenTrace, pickTrace, drawsTrace, missing, endWith, firstRepeated, featureOf, strokeOf, drawWithoutWriting, pointOf, fillOf, shapeTrace, closedOutline, polylineOrPolygonOf, ringTrace}
+use Rattle.strokes.specs.Features.{AllOnGlobe, AllWellFormed, featuresIn}
 
 abbrev pub Earthly : Point → Type 0
 Earthly p = OnEarth (record { lon = p .x; lat = p .y })

@@ -23,12 +23,13 @@ use Rattle.densify.specs.Laws.Replay.{ellipse-replays, box-replays}
 use Rattle.densify.specs.Laws.Counts.{ring-least, ellipse-ring, box-ring}
 use Rattle.densify.specs.Laws.Sizes.{left-falls, ellipse-most, box-most}
 use Rattle.convert.specs.declared.shapes.Shape.{Shape}
-use Rattle.convert.specs.declared.state.Ctx.{Ctx}
-use Rattle.convert.specs.declared.state.Props.{Props}
-use Rattle.convert.specs.declared.state.State.{State}
-use Rattle.convert.specs.Convert.{Trace, missing, polylineOrPolygonOf, ringTrace, pathsOf, shapeOf, onScreen, propsOf, pointsTrace, pathsTrace, drawnOf, itemOf}
-use Rattle.convert.specs.Space.{Output}
-use Rattle.convert.specs.Contracts.Space.{most, outputBy, Applied, Small, DrawsQuietly, RingLoaded, RingEnds, DrawsRing}
+use Rattle.strokes.specs.declared.state.Ctx.{Ctx}
+use Rattle.strokes.specs.declared.state.Props.{Props}
+use Rattle.strokes.specs.declared.state.State.{State}
+use Rattle.convert.specs.Convert.{pathsOf, shapeOf, onScreen, propsOf, pointsTrace, pathsTrace, drawnOf, itemOf}
+use Rattle.strokes.specs.Strokes.{Trace, missing, polylineOrPolygonOf, ringTrace}
+use Rattle.strokes.specs.Space.{Output}
+use Rattle.strokes.specs.Contracts.Space.{most, outputBy, Applied, Small, DrawsQuietly, RingLoaded, RingEnds, DrawsRing}
 
 -- from a work slice of the same length
 pub played-from : {a : Trace} {j k : ℕ} {ps : List Float} {fs v : List ℕ} (st : State) {u : Output} {b : Budget} → j ≡ k

@@ -17,15 +17,16 @@ use Rattle.scene.specs.Contracts.Answers.{pathsFrom, pathsBy, itemBy, itemsAt, 
 use Rattle.budget.specs.declared.Budget.{Budget}
 use Rattle.densify.specs.Densify.{pathPointsOf}
 use Rattle.densify.specs.Contracts.Written.{drawnBy, PathFits}
-use Rattle.convert.specs.declared.workspace.Workspace.{Workspace}
-use Rattle.convert.specs.declared.state.Ctx.{Ctx}
-use Rattle.convert.specs.declared.state.Props.{Props}
-use Rattle.convert.specs.declared.state.State.{State}
-use Rattle.convert.specs.Convert.{Trace, noEvents, oneEvent, warned, andThenTrace, polylineOrPolygonOf, firstPath, laterPaths, outlineOf, pathOf, withPart, pathsOf, itemOf, itemsOf, spentOf, convertOf}
-use Rattle.convert.specs.Space.{Output}
-use Rattle.convert.specs.Contracts.Space.{outputBy, most, Fits, Applied, Bounds, Loads, LoadsPath, outlineBy}
-use Rattle.convert.specs.Laws.Applying.{played-quiet, played-stuck, played-then, played-drawn, Onward, onward-next}
-use Rattle.convert.specs.Laws.Loading.{laid-bounds}
+use Rattle.strokes.specs.declared.workspace.Workspace.{Workspace}
+use Rattle.strokes.specs.declared.state.Ctx.{Ctx}
+use Rattle.strokes.specs.declared.state.Props.{Props}
+use Rattle.strokes.specs.declared.state.State.{State}
+use Rattle.convert.specs.Convert.{firstPath, laterPaths, outlineOf, pathOf, withPart, pathsOf, itemOf, itemsOf, spentOf, convertOf}
+use Rattle.strokes.specs.Strokes.{Trace, noEvents, oneEvent, warned, andThenTrace, polylineOrPolygonOf}
+use Rattle.strokes.specs.Space.{Output}
+use Rattle.strokes.specs.Contracts.Space.{outputBy, most, Fits, Applied, Bounds, Loads, LoadsPath, outlineBy}
+use Rattle.strokes.specs.Laws.Applying.{played-quiet, played-stuck, played-then, played-drawn, Onward, onward-next}
+use Rattle.strokes.specs.Laws.Loading.{laid-bounds}
 
 -- ---- one path
 pub path-fits : {n q : ℕ} {r : Path} → PathWithin n q r → PathFits n r

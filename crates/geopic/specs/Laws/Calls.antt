@@ -31,12 +31,13 @@ use Rattle.values.specs.Contracts.Warnings.{WarningSlice, pushed, allPushed}
 use Rattle.budget.specs.declared.Budget.{Budget}
 use Rattle.values.specs.Slices.{put}
 use Rattle.geopic.specs.declared.Answer.{Answer}
-use Rattle.convert.specs.Convert.{warned, Trace, onScreen, convertOf}
-use Rattle.convert.specs.Space.{Output, outOfRoom, withWarning}
-use Rattle.convert.specs.Contracts.Space.{outputBy, Fits, Applied}
+use Rattle.convert.specs.Convert.{onScreen, convertOf}
+use Rattle.strokes.specs.Strokes.{warned, Trace}
+use Rattle.strokes.specs.Space.{Output, outOfRoom, withWarning}
+use Rattle.strokes.specs.Contracts.Space.{outputBy, Fits, Applied}
 use Rattle.geopic.specs.Geopic.{maxStep, fresh, ctxOf, traceOf, Buffers, unused, outputOf, early, conditions, numberOf, refusal, acceptance, answerOf, clear, sliceBy, buffersAfter}
-use Rattle.convert.specs.Laws.Applying.{played-quiet, played-stuck, played-then}
-use Rattle.convert.specs.Laws.Events.{warned-fits, warned-lacks}
+use Rattle.strokes.specs.Laws.Applying.{played-quiet, played-stuck, played-then}
+use Rattle.strokes.specs.Laws.Events.{warned-fits, warned-lacks}
 use Rattle.geopic.specs.declared.Opened.{Opened}
 use Rattle.geopic.specs.declared.Opened.the-variants.{Refused, Registered}
 use Rattle.geopic.specs.Contracts.Opened.{numberBy, Registers, OpenedAs, Opens}

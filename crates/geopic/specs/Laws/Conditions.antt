@@ -18,8 +18,8 @@ use Rattle.register.specs.Register.{ofRegistration}
 use Rattle.register.specs.Contracts.Outcome.{registerRefusal}
 use Rattle.register.specs.Laws.Outcomes.{registration-numbered}
 use Rattle.values.specs.Points.{flats}
-use Rattle.convert.specs.Convert.{Event, drew, need, feature, warned}
-use Rattle.convert.specs.Space.{Output, pickOutput, outOfRoom, withFeature, withWarning, apply, applyAll, ofSpace}
+use Rattle.strokes.specs.Strokes.{Event, drew, need, feature, warned}
+use Rattle.strokes.specs.Space.{Output, pickOutput, outOfRoom, withFeature, withWarning, apply, applyAll, ofSpace}
 use Rattle.geopic.specs.declared.Answer.{Answer}
 use Rattle.geopic.specs.Geopic.{traceOf, Buffers, unused, outputOf, early, conditions, numberOf, refusal, pickAnswer, answerOf}
 

@@ -23,11 +23,12 @@ use Rattle.budget.specs.Draws.{leftAfter, Claim}
 use Rattle.budget.specs.Laws.Draws.{claim}
 use Rattle.densify.specs.Densify.{GrantedDraw}
 use Rattle.densify.specs.Draws.{drawsOf, Granted, fellShort}
-use Rattle.convert.specs.Convert.{Event, warned, onScreen, convertOf, drawsIn}
-use Rattle.convert.specs.Features.{AllWellFormed, positionsIn, featuresIn, warningsIn, featuresAt, warningsAt, anyOfKind}
+use Rattle.convert.specs.Convert.{onScreen, convertOf}
+use Rattle.strokes.specs.Strokes.{Event, warned, drawsIn}
+use Rattle.strokes.specs.Features.{AllWellFormed, positionsIn, featuresIn, warningsIn, featuresAt, warningsAt, anyOfKind}
 use Rattle.convert.specs.Laws.Draws.{trace-left, trace-hit, convert-replays, any-append, spent-warned}
 use Rattle.convert.specs.Laws.Features.{convert-well-formed}
-use Rattle.convert.specs.Laws.Reading.{ReadBack, reads-back}
+use Rattle.strokes.specs.Laws.Reading.{ReadBack, reads-back}
 use Rattle.geopic.specs.Geopic.{maxStep, fresh, ctxOf, traceOf, Buffers, unused, outputOf, early, numberOf, acceptance, answerOf, clear, buffersAfter, sliceBy}
 use Rattle.geopic.specs.Laws.Conditions.{number-is, none-early, early-none, by-space}
 

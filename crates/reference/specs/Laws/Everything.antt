@@ -13,7 +13,7 @@ use Rattle.records.specs.Conditions as refusals
 use Rattle.budget.specs.Budget as budget
 use Rattle.densify.specs.Densify as densify
 use Rattle.convert.specs.Convert as convert
-use Rattle.convert.specs.Space as space
+use Rattle.strokes.specs.Space as space
 use Rattle.geopic.specs.Geopic as geopic
 
 unfoldable pub everything : Type 0

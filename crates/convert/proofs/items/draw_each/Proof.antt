@@ -10,7 +10,7 @@ use Rattle.stream.specs.Contracts.Payload.{room}
 use Rattle.scene.specs.Contracts.Answers.{pathsFrom, PathWithin}
 use Rattle.densify.specs.Contracts.Written.{drawnBy}
 use Rattle.convert.specs.Convert.{pathsOf}
-use Rattle.convert.specs.Contracts.Space.{outputBy, outlineBy}
+use Rattle.strokes.specs.Contracts.Space.{outputBy, outlineBy}
 use Rattle.convert.specs.Laws.Loops.{path-fits, path-ready, path-played, Loop, none-done, no-more, all-paths, one-path}
 use Rattle.convert.proofs.items.draw_each.Statement.{statement}
 use Rattle.convert.proofs.items.draw_each.Tie as tie

@@ -2,7 +2,7 @@ use mathlib.Core.Path.{refl}
 use borrow.Author.Needs.{needs}
 use Rattle.scene.specs.Contracts.Answers.{itemBy}
 use Rattle.convert.specs.Convert.{propsOf, drawnOf}
-use Rattle.convert.specs.Laws.Applying.{played-quiet}
+use Rattle.strokes.specs.Laws.Applying.{played-quiet}
 use Rattle.convert.specs.Laws.Items.{item-drawn}
 use Rattle.convert.proofs.items.draw_item.Statement.{statement}
 use Rattle.convert.proofs.items.draw_item.Tie as tie

@@ -7,7 +7,7 @@ use Rattle.stream.specs.Payload.{payload}
 use Rattle.stream.specs.Contracts.Payload.{room}
 use Rattle.scene.specs.Contracts.Answers.{itemsAt, Within}
 use Rattle.convert.specs.Convert.{onScreen, itemsOf}
-use Rattle.convert.specs.Contracts.Space.{outputBy}
+use Rattle.strokes.specs.Contracts.Space.{outputBy}
 use Rattle.convert.specs.Laws.Loops.{Loop, none-done, no-more, all-items, one-item}
 use Rattle.convert.proofs.items.draw_items.Statement.{statement}
 use Rattle.convert.proofs.items.draw_items.Tie as tie

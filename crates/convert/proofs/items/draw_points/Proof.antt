@@ -1,7 +1,7 @@
 use borrow.Author.Needs.{needs}
 use borrow.Author.Tests.{not-true, not-false}
 use Rattle.scene.specs.Laws.Answers.{is-given, not-given}
-use Rattle.convert.specs.Laws.Loading.{laid-bounds}
+use Rattle.strokes.specs.Laws.Loading.{laid-bounds}
 use Rattle.convert.specs.Laws.Items.{played-from, points-missing, points-drawn}
 use Rattle.convert.proofs.items.draw_points.Statement.{statement}
 use Rattle.convert.proofs.items.draw_points.Tie as tie
