@@ -21,7 +21,7 @@ use Rattle.values.specs.declared.WarningCursor.{WarningCursor}
 use Rattle.register.specs.declared.outcome.Outcome.{Outcome}
 use Rattle.register.specs.declared.survey.Survey.{Survey}
 use Rattle.register.specs.Contracts.Survey.{Surveyed}
-use Rattle.register.specs.Contracts.Gathered.{Kept}
+use Rattle.register.specs.Contracts.Gathered.{Kept, KeptControls}
 use Rattle.register.specs.Register.{f0, registrationOf, registerWarnings}
 use Rattle.values.specs.Warnings.{Warning}
 use Rattle.register.specs.Contracts.Outcome.{registerRefusal, accepted, refusedBy, pickOutcome, outcomeOf}
@@ -219,7 +219,7 @@ module _ (s : List ℕ) where
     registered-opens z w n k =
         let none = sym number ∙ z in
         let r = outcome-is (sc s) is z in
-        let controls = record { count = controls-are (sc s) r; kept-room = n; numbers = k } in
+        let controls : KeptControls (sceneOf (payload s)) (o .registration .controls) kept = record { count = controls-are (sc s) r; kept-room = n; numbers = k } in
         record { number = sym none; comes = record { none = none; is = r; registrable = is-registrable s read w; controls = controls } }
 
   -- the same by the answer's case
