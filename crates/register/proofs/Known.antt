@@ -205,7 +205,7 @@ forgets-none {l} h =
           };
     }
 
--- where the first k are the first i
+-- what is so for the first k host features is so for the first i, where these are the same
 as-many : {l : List ℕ} {more : ℕ} {t₀ t : List ℕ} {n k i : ℕ} → take k (sceneOf l .features) ≡ take i (sceneOf l .features) → KnownCleared l more t₀ t n k → KnownCleared l more t₀ t n i
 as-many e h =
     record {

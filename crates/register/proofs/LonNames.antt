@@ -18,7 +18,7 @@ use Rattle.register.specs.Register.{geo, suffixLon, suffixLat, stem, end
 use Rattle.records.specs.Laws.Names.{name-length}
 use Rattle.register.proofs.SuffixNames.{part-split}
 
--- ---- by the bytes of a payload
+-- ---- a name `<L>_lon` in a payload, by its bytes
 module _ (s : List ℕ) (p n : ℕ) (h : p + n ≤ room s) where
   -- the last four bytes, and those before them
   split : 4 ≤ n → bytesAt (payload s) p n ≡ bytesAt (payload s) p (n - 4) ++ bytesAt (payload s) (p + (n - 4)) 4
@@ -48,7 +48,7 @@ module _ (s : List ℕ) (p n : ℕ) (h : p + n ≤ room s) where
     unfolding isLon
     lon-ending k f = rw (ending-at {k = p + n - 4} g (omega arith), stem-at g, ← e, not-false t k, f) refl
 
--- ---- by itself
+-- ---- a name `<L>_lon` by itself
 module _ (name : List ℕ) (h : isLon name ≡ true) where
   pub lon-ends : ending name ≡ suffixLon
   unfolding isLon

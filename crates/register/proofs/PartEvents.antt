@@ -117,7 +117,7 @@ module _ (sc : Scene) where
       ∙ ap (λ (x : List Event). eventsOf sc 2 noName (take a ms) ++ x) (events-cong sc 2 (grownAll noName (take a ms)) (amongFeatures sc a) (take k (drop a ms)) (λ y. rw (mentions-take a 0 (sc .features)) (grown-features noName 0 (take a (sc .features)) y)))
 
 -- ---- `_lon` variables
--- with no regard to each other
+-- what variables come to with no regard to each other
 abbrev pub eventAt : Scene → Mention → Event
 eventAt sc m = lonEvent sc (m .index) (m .name) (m .lon) (m .lat)
 

@@ -31,7 +31,7 @@ pub one-written : (ws : List Warning) (v : Warning) (t t′ : WarningSlice) → 
 unfolding allPushed
 one-written ws v t t′ e f h = (rw e f, push-fits v t f h)
 
--- the same, whichever scene declares d
+-- these warnings are written, whichever scene declares d
 module _ (d : Declared) (ws : Scene → List Warning) (t : WarningSlice) where
   pub each-none : ((sc : Scene) → Declares sc d → ws sc ≡ []) → Fits t → ((sc : Scene) → Declares sc d → t ≡ allPushed (ws sc) t) × Fits t
   each-none e h = (λ sc x. none-written (ws sc) t t (e sc x) refl h .0, h)

@@ -31,7 +31,7 @@ use Rattle.register.specs.Contracts.Gathered.{numbersIn, Holds, among, n
 use Rattle.register.proofs.Marks.{same-self, fewer-trans, in-stays, waits-by, taken-fewer, taken-waits}
 use Rattle.register.proofs.TallyLaws.{holds-as}
 
--- ---- of lists of events, one behind the other
+-- ---- control points and their numbers in two lists of events, one behind the other
 pub controls-append : (es fs : List Event) → controlsIn (es ++ fs) ≡ controlsIn es ++ controlsIn fs
 unfolding controlsIn
 controls-append [] fs = refl
@@ -48,7 +48,7 @@ numbers-append j (warn w ∷ es) fs =
     let e : suc j + length es ≡ j + suc (length es) = omega arith in
     rw (numbers-append (suc j) es fs, e) refl
 
--- ---- of lists of mentions
+-- ---- the events of two lists of mentions, one behind the other
 pub events-length : (sc : Scene) (again : ℕ) (was : List ℕ → Bool) (ms : List Mention) → length (eventsOf sc again was ms) ≡ length ms
 unfolding eventsOf
 events-length sc again was [] = refl
@@ -255,7 +255,7 @@ module _ (v : OptionalFloat) where
   pub a-latitude : not (v .some) ≡ false → maybeFloat v ≡ some (v .value)
   a-latitude h = rw (not-false (v .some) h) refl
 
--- and of its name, behind the length at p
+-- the name of a mention is taken, behind the length at p
 pub taken-name : {more : ℕ} {l t t′ : List ℕ} {n r : ℕ} (lons : Bool) (m : code-mention.Mention) → 1 ≤ m .at → more ≡ moreOf lons
     → Taken more l t t′ n (bytesAt l (m .at - 1 + 1) (m .len)) r → Taken (moreOf lons) l t t′ n (mentionBy l m .name) r
 taken-name lons m h e k =

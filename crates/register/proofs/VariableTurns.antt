@@ -77,7 +77,7 @@ module _ {s starts : List ℕ} {at len q : ℕ} {v : Variable} {to : List ℕ} {
     pub start-rises : Rising [] (variablesAt (payload s) (getD to (v .len - 2) 0))
     start-rises = passes .starts-rise (v .len - 2) (omega (arith, p .prefixed .short))
 
-    -- and that it is one of all variables
+    -- what is found from a start on is found among all variables
     pub start-finds : variableOf (stem name ++ suffixLat) (variablesAt (payload s) (getD to (v .len - 2) 0)) ≡ var (sceneOf (payload s)) (stem name ++ suffixLat)
     unfolding sceneOf
     start-finds =

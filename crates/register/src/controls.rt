@@ -21,6 +21,7 @@ ghost use Rattle.register.specs.Contracts.Mentions.{mentionsAt, mentionB
 ghost use Rattle.register.specs.Contracts.Gathered.{ControlRoom, Holds, Gathers, TableRoom, Added, Batch};
 ghost use Rattle.register.specs.Contracts.Gathered.{BatchFrom, Taken, KnownCleared, Readable, Reads, pointIn};
 ghost use Rattle.register.specs.Contracts.Gathered.{beforeOf, GathersBatch, GathersPart, firstCursor};
+use crate::lat_lookup::PREFIX_STARTS;
 use crate::mentions::Cursor;
 use crate::mentions::Mention;
 use crate::mentions::next_mention;
@@ -33,10 +34,14 @@ use names::unmark;
 use scene::next_name;
 use fit::Control;
 
-// The most control points that a registration has: `kept` has a place for each, and `flat` four.
+// The most control points that a registration has.
 pub const MAX_CONTROLS: usize = 64;
-// How many a tally counts at most.
+// How many numbers MAX_CONTROLS control points are, four each.
+pub const CONTROL_NUMBERS: usize = 256;
+// How many control points a tally counts at most.
 const TOO_MANY_CONTROLS: usize = 65;
+// How many names a batch has where there are more than MAX_CONTROLS: 44 KiB of the stack.
+const BATCH_NAMES: usize = 11264;
 // Condition 8's limits, in degrees.
 const MAX_LATITUDE: f64 = 85.06;
 const MAX_LONGITUDE: f64 = 180.0;
@@ -333,7 +338,7 @@ fn gather_part(
         g (now (flat .entry)) (now (kept .entry)) r (now (flat .exit)) (now (kept .exit)) ⌝ }
 {
     let mut all = g;
-    let mut starts = [0usize; 32];
+    let mut starts = [0usize; PREFIX_STARTS];
     let mut c = first_of(lons, v);
     let mut base = features_before(lons, v.name_count - v.lon_count, 0);
     loop {
@@ -361,18 +366,16 @@ fn gather_names(s: &[u8], v: Survey, t: &mut [u32], flat: &mut [f64], kept: &mut
     gather_part(s, v, true, t, flat, kept, g)
 }
 
-// All control points, in their order, four numbers each, and the numbers of their names. The lengths of the two tables
-// are how many names a batch has at most.
+// All control points, in their order, four numbers each, and the numbers of their names. A batch has as many names as
+// the table `few` or `many` holds.
 pub fn gather(s: &[u8], v: Survey, flat: &mut [f64], kept: &mut [u32]) -> Tally
     requires { ⌜ Registrable (now s) v × ControlRoom (now flat) (now kept) ⌝ }
     ensures { λ r. ⌜ Gathers (sceneOf (payload (now (s .entry)))) r (now (flat .exit)) (now (kept .exit)) ⌝ }
 {
     if v.name_count <= MAX_CONTROLS {
-        // MAX_CONTROLS names
-        let mut few = [0u32; 64];
+        let mut few = [0u32; MAX_CONTROLS];
         return gather_names(s, v, &mut few, flat, kept);
     }
-    // 11 times 1,024 names, 44 KiB of the stack
-    let mut many = [0u32; 11264];
+    let mut many = [0u32; BATCH_NAMES];
     gather_names(s, v, &mut many, flat, kept)
 }

@@ -22,7 +22,7 @@ use scene::names_equal;
 use stream::byte;
 
 // A start for each number of bytes that a name may share with another: names have 31 bytes at most.
-const PREFIX_STARTS: usize = 32;
+pub const PREFIX_STARTS: usize = 32;
 
 // How many bytes two names begin with alike.
 pub fn common_prefix(s: &[u8], p: usize, n: usize, q: usize, m: usize) -> usize

@@ -9,6 +9,7 @@ ghost use Rattle.register.specs.Contracts.Gathered.{controlIn, controlsB
 ghost use Rattle.register.specs.Contracts.Outcome.{refusedBy, outcomeOf, checkedOf, declaredOutcome};
 ghost use Rattle.register.specs.Contracts.Outcome.{fittedOutcome};
 use crate::controls::gather;
+use crate::controls::CONTROL_NUMBERS;
 use crate::controls::MAX_CONTROLS;
 use crate::controls::is_within_limits;
 use crate::declared::Declared;
@@ -132,8 +133,7 @@ fn fit_controls(flat: &[f64], n: usize) -> Outcome
     ensures { λ o. ⌜ o ≡ fittedOutcome (controlsBy (now (flat .entry)) n) ⌝ }
 {
     let first = control_at(flat, 0);
-    // as many as MAX_CONTROLS says
-    let mut at = [first; 64];
+    let mut at = [first; MAX_CONTROLS];
     let mut k = 0usize;
     while k < n {
         at[k] = control_at(flat, k);
@@ -168,8 +168,7 @@ pub fn register(s: &[u8], v: Survey, kept: &mut [u32]) -> Outcome
     if !d.mercator {
         return refuse(REFUSAL_FRAME);
     }
-    // four numbers for each of up to MAX_CONTROLS control points
-    let mut flat = [0.0f64; 256];
+    let mut flat = [0.0f64; CONTROL_NUMBERS];
     let g = gather(s, v, &mut flat, kept);
     let a = d.anchor;
     if !g.within {

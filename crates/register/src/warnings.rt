@@ -15,7 +15,9 @@ ghost use Rattle.register.specs.Contracts.Gathered.{KeptControls};
 ghost use Rattle.register.specs.Contracts.Warnings.{firstIs, anyNameIs, NamesFit, PositionRoom, AfterFeatures};
 ghost use Rattle.register.specs.Contracts.Warnings.{kindBy};
 ghost use Rattle.values.specs.Contracts.Warnings.{allPushed};
+use crate::controls::MAX_CONTROLS;
 use crate::declared::Declared;
+use crate::lat_lookup::PREFIX_STARTS;
 use crate::mentions::Cursor;
 use crate::mentions::Mention;
 use crate::mentions::next_mention;
@@ -146,7 +148,7 @@ fn warn_lons(
     ensures { λ r. ⌜ r .used ≤ length (now (out .exit)) ⌝ }
 {
     let mut warned = w;
-    let mut starts = [0usize; 32];
+    let mut starts = [0usize; PREFIX_STARTS];
     let mut c = Cursor {
         q: v.variables_at,
         i: 0,
@@ -183,8 +185,7 @@ fn warn_names(s: &[u8], v: Survey, kept: &[u32], out: &mut [u32], w: WarningCurs
     if v.name_count == n {
         return w;
     }
-    // a place for each of up to MAX_CONTROLS control points
-    let mut positions = [0u32; 64];
+    let mut positions = [0u32; MAX_CONTROLS];
     let f = warn_features(s, kept, n, &mut positions, out, w);
     let featured = f.warned;
     if v.lon_count == 0 {

@@ -58,7 +58,7 @@ pub record Holds (b : Bool) (cs : List Control) (js : List ℕ) (g : Tally) (fla
   pub room-for : length flat ≡ 256
   pub kept-room : length kept ≡ 64
 
--- all of them, and where there are not too many, their names
+-- all control points of a scene are gathered, and where there are not too many, the numbers of their names
 abbrev pub Gathers : Scene → Tally → List Float → List ℕ → Type 0
 Gathers sc g flat kept = Holds true (controlsOf sc) (numbersIn 0 (events sc)) g flat kept
 
@@ -105,7 +105,7 @@ pub record Filling (s : List ℕ) (lons : Bool) (c : Cursor) (r : code-filled.Fi
   pub all : (x : List ℕ) → among x (take (r .count) (mentionsAt (payload s) lons c)) ≡ true → Contains (moreOf lons) (payload s) t (r .n) x
   pub only : (x : List ℕ) → Contains (moreOf lons) (payload s) t (r .n) x → among x (take (r .count) (mentionsAt (payload s) lons c)) ≡ true
 
--- and where the next batch begins
+-- a batch is filled from c on, and the next one begins at its end
 pub record Batch (s : List ℕ) (lons : Bool) (c : Cursor) (r : code-filled.FilledBatch) (t starts : List ℕ) : Type 0 where
   pub filling : Filling s lons c r t
   pub follows : Follows s lons (r .next) starts
@@ -179,7 +179,7 @@ unfoldable pub grownAll : (List ℕ → Bool) → List Mention → List ℕ → 
 grownAll was [] y = was y
 grownAll was (m ∷ ms) y = grownAll (grownBy was (m .name) (m .lat)) ms y
 
--- and after: their control points are gathered, the first of their names being the j-th of all
+-- what is known after the mentions ms are read: their control points are gathered, the first of their names being the j-th of all
 pub record AfterRead (l : List ℕ) (lons : Bool) (ms : List Mention) (t t′ : List ℕ) (n : ℕ) (spots : List Float) (j : ℕ) (was : List ℕ → Bool) (b : Bool) (cs : List Control) (js : List ℕ) (r : Tally) (flat : List Float) (kept : List ℕ) : Type 0 where
   pub names : (k : ℕ) → getD t′ k 0 % 33554432 ≡ getD t k 0 % 33554432
   pub fewer : Fewer t t′ n

@@ -20,7 +20,7 @@ commonPrefix [] ys = 0
 commonPrefix (x ∷ xs) [] = 0
 commonPrefix (x ∷ xs) (y ∷ ys) = cond (eqb x y) (suc (commonPrefix xs ys)) 0
 
--- of 32 positions, those for more than c bytes become q
+-- the prefix starts for more than c bytes, of 32, become q
 unfoldable pub prefixStarts : List ℕ → ℕ → ℕ → List ℕ
 prefixStarts starts c q = take (c + 1) starts ++ replicate (31 - c) q
 

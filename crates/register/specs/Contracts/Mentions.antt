@@ -47,7 +47,7 @@ abbrev pub grownBy : (List ℕ → Bool) → List ℕ → Maybe Float → List �
 grownBy was x none y = was y
 grownBy was x (some lat) y = was y || sameBytes x y
 
--- of each name the first mention that has a latitude is a control point, if the name resolves
+-- the first mention of a name that has a latitude is a control point, if the name resolves
 unfoldable pub eventsOf : Scene → ℕ → (List ℕ → Bool) → List Mention → List Event
 eventsOf sc again was [] = []
 eventsOf sc again was (m ∷ ms) =

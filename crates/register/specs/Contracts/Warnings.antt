@@ -38,7 +38,7 @@ pub record ResolvedNames (s positions : List ℕ) (n : ℕ) (fs : List NamedFeat
   pub names : (x : List ℕ) → anyNameIs (payload s) (take n positions) x
       ≡ (isSome (resolved (sceneOf (payload s)) x) && mentioned x fs)
 
--- where each of 64 names of a stream stands can be kept as 32 bits
+-- 64 positions in a stream, as numbers of 32 bits, have room
 pub record PositionRoom (s positions : List ℕ) : Type 0 where
   pub small : room s < 33554432
   pub sized : length positions ≡ 64
