@@ -216,7 +216,7 @@ module _ (s : List ℕ) where
     registration-opens some = record { number = number; comes = some }
 
     pub registered-opens : {v : Survey} {kept : List ℕ} → o .number ≡ 0 → Surveyed (payload s) v → length kept ≡ 64 → Kept (sceneOf (payload s)) kept → Opens s kept (Registered v (o .registration))
-    registered-opens z w n k =
+    registered-opens {kept = kept} z w n k =
         let none = sym number ∙ z in
         let r = outcome-is (sc s) is z in
         let controls : KeptControls (sceneOf (payload s)) (o .registration .controls) kept = record { count = controls-are (sc s) r; kept-room = n; numbers = k } in
