@@ -1,76 +1,104 @@
--- The order of two names of a payload, one byte further.
-use mathlib.Core.Path.{_≡_, refl}
+-- Two names, by the bytes that they begin with alike.
+use mathlib.Core.Path.{_≡_, refl, sym, _∙_}
 use mathlib.Core.List.{List, [], _∷_}
-use mathlib.Core.Bool.{true, false}
-use Prim.Native.Nat.{ℕ, _+_, _≤_, _<_}
+use mathlib.Core.Bool.{false, or-false}
+use Prim.Native.Nat.{ℕ, suc, _+_, _≤_, _<_}
+use native.Mathlib.Decide.{decLt, ℕ-discrete}
 use native.Mathlib.Numerals.{add-one}
 use native.Mathlib.Omega.{arith}
 use lib.ListN.{length, getD, drop, drop-of-length-le}
 use lib.Seq.{drop-cons}
+use lib.Dec.{ltb}
 use borrow.Author.Tests.{lt-ltb, le-ltb, eq-eqb, ne-eqb}
-use Rattle.stream.specs.Payload.{payload}
-use Rattle.stream.specs.Contracts.Payload.{room, rest}
 use Rattle.records.specs.Layout.{before}
-use Rattle.records.specs.Records.{bytesAt}
-use Rattle.records.specs.Laws.Names.{name-length, name-at}
+use Rattle.records.specs.Contracts.Names.{commonPrefix}
+
+-- ---- the first i bytes agree
+common-none : (a : List ℕ) → commonPrefix a [] ≡ 0
+unfolding commonPrefix
+common-none [] = refl
+common-none (x ∷ xs) = refl
+
+module _ (a b : List ℕ) {n m : ℕ} (la : length a ≡ n) (lb : length b ≡ m) {i : ℕ} (so : commonPrefix a b ≡ i + commonPrefix (drop i a) (drop i b)) where
+  pub first-ends : n ≤ i → i ≡ commonPrefix a b
+  unfolding commonPrefix
+  first-ends h = sym (so ∙ rw (drop-of-length-le a {i = i} (omega arith)) (omega arith))
+
+  pub second-ends : m ≤ i → i ≡ commonPrefix a b
+  second-ends h = sym (so ∙ rw (drop-of-length-le b {i = i} (omega arith), common-none) (omega arith))
+
+  module _ (h : i < n) (k : i < m) {x y : ℕ} (ex : x ≡ getD a i 0) (ey : y ≡ getD b i 0) where
+    pub bytes-differ : (x ≡ y → ⊥) → i ≡ commonPrefix a b
+    unfolding commonPrefix
+    bytes-differ d = sym (so ∙ rw (drop-cons a i 0 (omega arith), drop-cons b i 0 (omega arith), ne-eqb (getD a i 0) (getD b i 0) (λ e. d (omega arith))) (omega arith))
+
+    pub bytes-agree : x ≡ y → commonPrefix a b ≡ (i + 1) + commonPrefix (drop (i + 1) a) (drop (i + 1) b)
+    unfolding commonPrefix
+    bytes-agree e = so ∙ rw (drop-cons a i 0 (omega arith), drop-cons b i 0 (omega arith), eq-eqb (getD a i 0) (getD b i 0) (omega arith), add-one) (omega arith)
+
+-- ---- the order of names is that of what follows the bytes that they begin with alike
+common-nil : (b : List ℕ) → commonPrefix [] b ≡ 0
+unfolding commonPrefix
+common-nil b = refl
+
+module _ (x y : ℕ) (xs ys : List ℕ) where
+  common-more : x ≡ y → commonPrefix (x ∷ xs) (y ∷ ys) ≡ suc (commonPrefix xs ys)
+  unfolding commonPrefix
+  common-more e = rw (eq-eqb x y e) refl
+
+  common-apart : (x ≡ y → ⊥) → commonPrefix (x ∷ xs) (y ∷ ys) ≡ 0
+  unfolding commonPrefix
+  common-apart e = rw (ne-eqb x y e) refl
+
+  before-same : x ≡ y → before (x ∷ xs) (y ∷ ys) ≡ before xs ys
+  unfolding before
+  before-same e = rw (eq-eqb x y e, le-ltb x y (omega arith)) refl
+
+before-rest : (a b : List ℕ) → before a b ≡ before (drop (commonPrefix a b) a) (drop (commonPrefix a b) b)
+before-rest [] b = rw (common-nil b) refl
+before-rest (x ∷ xs) [] = rw (common-none (x ∷ xs)) refl
+before-rest (x ∷ xs) (y ∷ ys) =
+    elim (ℕ-discrete x y) [
+      | yes e ↦ rw (common-more x y xs ys e) (before-same x y xs ys e ∙ before-rest xs ys)
+      | no e ↦ rw (common-apart x y xs ys e) refl
+    ]
+
+-- and there they differ
+rest-differs : (a b : List ℕ) → commonPrefix a b < length a → commonPrefix a b < length b → getD a (commonPrefix a b) 0 ≡ getD b (commonPrefix a b) 0 → ⊥
+rest-differs [] b h k d = absurd (omega arith)
+rest-differs (x ∷ xs) [] h k d = absurd (omega arith)
+rest-differs (x ∷ xs) (y ∷ ys) h k d =
+    elim (ℕ-discrete x y) [
+      | yes e ↦
+          let c = common-more x y xs ys e in
+          rest-differs xs ys (omega (arith, c)) (omega (arith, c)) (rw c at d)
+      | no e ↦ e (rw (common-apart x y xs ys e) at d)
+    ]
 
 none-after : (l : List ℕ) → before l [] ≡ false
 unfolding before
 none-after [] = refl
 none-after (x ∷ xs) = refl
 
-module _ (a b : List ℕ) (i : ℕ) where
-  second-ends : length b ≤ i → before (drop i a) (drop i b) ≡ false
-  second-ends h = rw (drop-of-length-le b h) (none-after (drop i a))
+module _ (a b : List ℕ) {n m : ℕ} (la : length a ≡ n) (lb : length b ≡ m) {i : ℕ} (is : i ≡ commonPrefix a b) where
+  so : before a b ≡ before (drop i a) (drop i b)
+  so = rw is (before-rest a b)
 
-  first-ends : length a ≤ i → i < length b → before (drop i a) (drop i b) ≡ true
+  pub second-ended : m ≤ i → false ≡ before a b
+  second-ended h = sym (so ∙ rw (drop-of-length-le b {i = i} (omega arith)) (none-after (drop i a)))
+
+  pub first-ended : n ≤ i → ltb i m ≡ before a b
   unfolding before
-  first-ends h k = rw (drop-of-length-le a h, drop-cons b i 0 k) refl
+  first-ended h =
+      elim (decLt i m) [
+        | yes k ↦ rw (lt-ltb i m k) (sym (so ∙ rw (drop-of-length-le a {i = i} (omega arith), drop-cons b i 0 (omega arith)) refl))
+        | no k ↦ rw (le-ltb i m (omega arith)) (second-ended (omega arith))
+      ]
 
-  module _ (h : i < length a) (k : i < length b) where
-    less : getD a i 0 < getD b i 0 → before (drop i a) (drop i b) ≡ true
+  module _ (h : i < n) (k : i < m) {x y : ℕ} (ex : x ≡ getD a i 0) (ey : y ≡ getD b i 0) where
+    apart : getD a i 0 ≡ getD b i 0 → ⊥
+    apart = rw is (rest-differs a b (omega arith) (omega arith))
+
+    pub by-next : ltb x y ≡ before a b
     unfolding before
-    less e = rw (drop-cons a i 0 h, drop-cons b i 0 k, lt-ltb (getD a i 0) (getD b i 0) e) refl
-
-    greater : getD b i 0 < getD a i 0 → before (drop i a) (drop i b) ≡ false
-    unfolding before
-    greater e =
-        let n : getD a i 0 ≡ getD b i 0 → ⊥ = omega arith in
-        let g : getD b i 0 ≤ getD a i 0 = omega arith in
-        rw (drop-cons a i 0 h, drop-cons b i 0 k, le-ltb (getD a i 0) (getD b i 0) g, ne-eqb (getD a i 0) (getD b i 0) n) refl
-
-    same : getD a i 0 ≡ getD b i 0 → before (drop i a) (drop i b) ≡ before (drop (i + 1) a) (drop (i + 1) b)
-    unfolding before
-    same e =
-        let g : getD b i 0 ≤ getD a i 0 = omega arith in
-        rw (drop-cons a i 0 h, drop-cons b i 0 k, le-ltb (getD a i 0) (getD b i 0) g, eq-eqb (getD a i 0) (getD b i 0) e, add-one) refl
-
--- two names that are parts of a payload, by the values that the code has
-module _ (s : List ℕ) (p n q m i : ℕ) (u : p + n ≤ room s) (v : q + m ≤ room s) where
-  len-a : length (bytesAt (payload s) p n) ≡ n
-  len-a = name-length s p n u
-
-  len-b : length (bytesAt (payload s) q m) ≡ m
-  len-b = name-length s q m v
-
-  pub end-b : m ≤ i → before (drop i (bytesAt (payload s) p n)) (drop i (bytesAt (payload s) q m)) ≡ false
-  end-b h = second-ends _ _ i (omega (arith, len-b))
-
-  pub end-a : n ≤ i → i < m → before (drop i (bytesAt (payload s) p n)) (drop i (bytesAt (payload s) q m)) ≡ true
-  end-a h k = first-ends _ _ i (omega (arith, len-a)) (omega (arith, len-b))
-
-  module _ (h : i < n) (k : i < m) {x y : ℕ} (ex : x ≡ getD (rest s 0) (p + i) 0) (ey : y ≡ getD (rest s 0) (q + i) 0) where
-    at-a : x ≡ getD (bytesAt (payload s) p n) i 0
-    at-a = name-at s p n h ex
-
-    at-b : y ≡ getD (bytesAt (payload s) q m) i 0
-    at-b = name-at s q m k ey
-
-    pub is-less : x < y → before (drop i (bytesAt (payload s) p n)) (drop i (bytesAt (payload s) q m)) ≡ true
-    is-less e = less _ _ i (omega (arith, len-a)) (omega (arith, len-b)) (omega (arith, at-a, at-b))
-
-    pub is-greater : y < x → before (drop i (bytesAt (payload s) p n)) (drop i (bytesAt (payload s) q m)) ≡ false
-    is-greater e = greater _ _ i (omega (arith, len-a)) (omega (arith, len-b)) (omega (arith, at-a, at-b))
-
-    pub is-same : x ≤ y → y ≤ x → before (drop i (bytesAt (payload s) p n)) (drop i (bytesAt (payload s) q m)) ≡ before (drop (i + 1) (bytesAt (payload s) p n)) (drop (i + 1) (bytesAt (payload s) q m))
-    is-same e f = same _ _ i (omega (arith, len-a)) (omega (arith, len-b)) (omega (arith, at-a, at-b))
+    by-next = sym (so ∙ rw (drop-cons a i 0 (omega arith), drop-cons b i 0 (omega arith), ne-eqb (getD a i 0) (getD b i 0) apart, ex, ey) (or-false (ltb (getD a i 0) (getD b i 0))))
