@@ -1,6 +1,6 @@
 pub mod Tests
 pub mod Cases
-pub mod Names
+pub mod Prefixes
 pub mod Steps
 pub mod Passes
 pub mod Near

@@ -2,5 +2,6 @@
 pub mod Floats
 pub mod Hits
 pub mod Records
+pub mod Names
 pub mod Order
 pub mod Refusals

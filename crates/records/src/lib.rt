@@ -1,11 +1,13 @@
 // The records of a stream.
 mod floats;
+mod names;
 mod numbers;
 mod order;
 mod records;
 mod refusals;
 mod search;
 
+pub use names::common_prefix;
 pub use numbers::FLATTEN;
 pub use numbers::FORM_CUBICS;
 pub use numbers::FORM_POLYLINE;

@@ -4,11 +4,11 @@ ghost use Prim.Native.Nat.{_+_, _≤_};
 ghost use lib.ListN.{drop};
 ghost use Rattle.stream.specs.Payload.{payload};
 ghost use Rattle.stream.specs.Contracts.Payload.{room};
-ghost use Rattle.records.specs.Records.{bytesAt};
 ghost use Rattle.records.specs.declared.records.Record.{Record};
-ghost use Rattle.records.specs.Layout.{before, hasRole, laidOut};
+ghost use Rattle.records.specs.Layout.{hasRole, laidOut};
 ghost use Rattle.records.specs.Contracts.Hits.{Stands};
 ghost use Rattle.records.specs.Contracts.Order.{LeadsTo, orderStepIf, tagStepOf, StateWithin, StepWithin};
+use crate::names::name_before;
 use crate::numbers::ROLE_DRAWN;
 use crate::numbers::TAG_FEATURE;
 use crate::numbers::TAG_ITEM;
@@ -20,7 +20,6 @@ use crate::records::Record;
 use crate::records::Step;
 use crate::records::next_record;
 use crate::records::wide;
-use stream::byte;
 
 // What the records so far leave to know.
 pub struct State {
@@ -37,29 +36,6 @@ pub struct State {
 pub enum OrderStep {
     InOrder(State),
     Broken,
-}
-
-// Whether the n bytes at p come before the m bytes at q.
-fn name_before(s: &[u8], p: usize, n: usize, q: usize, m: usize) -> bool
-    requires { ⌜ (p + n ≤ room (now s)) × (q + m ≤ room (now s)) ⌝ }
-    ensures { λ r. ⌜ r ≡ before (bytesAt (payload (now (s .entry))) p n) (bytesAt (payload (now (s .entry))) q m) ⌝ }
-{
-    let mut i = 0usize;
-    while i < m {
-        if i >= n {
-            return true;
-        }
-        let x = byte(s, 0, p + i);
-        let y = byte(s, 0, q + i);
-        if x < y {
-            return true;
-        }
-        if y < x {
-            return false;
-        }
-        i += 1;
-    }
-    false
 }
 
 // Whether the last item has had points of this role.

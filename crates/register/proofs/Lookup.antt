@@ -12,7 +12,8 @@ use borrow.Author.Tests.{leb-true, leb-false}
 use Rattle.scene.specs.Scene.{NamedValue}
 use Rattle.scene.specs.Labels.{variableOf}
 use Rattle.scene.specs.Laws.Rising.{Rising, before-trans, before-some, lookup-on}
-use Rattle.register.specs.Contracts.LatLookup.{commonPrefix, prefixStarts, Passed}
+use Rattle.records.specs.Contracts.Names.{commonPrefix}
+use Rattle.register.specs.Contracts.LatLookup.{prefixStarts, Passed}
 use Rattle.register.specs.Laws.Names.{between-names, common-take}
 
 -- ---- the starts

@@ -15,7 +15,8 @@ use Rattle.scene.specs.Labels.{variableOf}
 use Rattle.scene.specs.Contracts.Answers.{Within, LengthPrefixed, variablesAt, variablesBy, VariablesFrom}
 use Rattle.scene.specs.Laws.Rising.{Rising}
 use Rattle.register.specs.Register.{suffixLon, suffixLat, stem, var, isLon}
-use Rattle.register.specs.Contracts.LatLookup.{commonPrefix, prefixStarts, Passed, Along}
+use Rattle.records.specs.Contracts.Names.{commonPrefix}
+use Rattle.register.specs.Contracts.LatLookup.{prefixStarts, Passed, Along}
 use Rattle.records.specs.Laws.Names.{name-length}
 use Rattle.register.proofs.LonNames.{stem-at, ending-at, lon-ends, lon-long, lon-near}
 use Rattle.register.proofs.Lookup.{none-passed, one-passed}

@@ -14,35 +14,14 @@ ghost use Rattle.scene.specs.Labels.{sameBytes, variableOf};
 ghost use Rattle.scene.specs.Contracts.Answers.{maybeFloat, variablesAt};
 ghost use Rattle.scene.specs.Laws.Rising.{Rising};
 ghost use Rattle.register.specs.Register.{suffixLon, suffixLat};
-ghost use Rattle.register.specs.Contracts.LatLookup.{commonPrefix, prefixStarts};
+ghost use Rattle.register.specs.Contracts.LatLookup.{prefixStarts};
 use scene::OptionalFloat;
 use scene::name_is;
-use scene::next_variable;
 use scene::names_equal;
-use stream::byte;
+use scene::next_variable;
 
 // A start for each number of bytes that a name may share with another: names have 31 bytes at most.
 pub const PREFIX_STARTS: usize = 32;
-
-// How many bytes two names begin with alike.
-pub fn common_prefix(s: &[u8], p: usize, n: usize, q: usize, m: usize) -> usize
-    requires { ⌜ (p + n ≤ room (now s)) × (q + m ≤ room (now s)) ⌝ }
-    ensures { λ r. ⌜ (r
-        ≡ commonPrefix (bytesAt (payload (now (s .entry))) p n) (bytesAt (payload (now (s .entry))) q m))
-        × (r ≤ n) ⌝ }
-{
-    let mut i = 0usize;
-    while i < n {
-        if i >= m {
-            return i;
-        }
-        if byte(s, 0, p + i) != byte(s, 0, q + i) {
-            return i;
-        }
-        i += 1;
-    }
-    i
-}
 
 // Where a lookup starts, by how many bytes a name shares with the current one: from q on for more than c bytes, and for
 // fewer as before. So it is at a variable that is found from q on and shares c bytes with the one before it.

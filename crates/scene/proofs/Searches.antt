@@ -5,15 +5,20 @@ use mathlib.Core.List.{List}
 use Prim.Native.Nat.{ℕ, _+_, _≤_, _<_}
 use native.Mathlib.Omega.{arith}
 use lib.ListN.{length, getD, drop}
+use lib.Dec.{eqb}
 use borrow.Author.Tests.{lt-ltb}
 use Rattle.records.specs.Records.{bytesAt}
+use Rattle.records.specs.Contracts.Names.{commonPrefix}
 use Rattle.scene.specs.Labels.{sameBytes, labelIs}
 use Rattle.scene.specs.Contracts.Answers.{labelBy}
-use Rattle.scene.specs.Laws.Names.{same-lengths, same-ends, same-step, same-fails}
+use Rattle.scene.specs.Laws.Names.{same-lengths, same-common, same-ends, same-step, same-fails}
 
 module _ (a b : List ℕ) {n m : ℕ} (la : length a ≡ n) (lb : length b ≡ m) where
   pub lengths-differ : (n ≡ m → ⊥) → false ≡ sameBytes a b
   lengths-differ h = sym (same-lengths a b (λ e. h (omega arith)))
+
+  pub same-prefix : n ≡ m → {c : ℕ} → c ≡ commonPrefix a b → eqb c n ≡ sameBytes a b
+  same-prefix e h = rw (h, ← la) (same-common a b (omega arith))
 
   module _ (e : n ≡ m) {i : ℕ} (so : sameBytes a b ≡ sameBytes (drop i a) (drop i b)) where
     pub all-agree : n ≤ i → true ≡ sameBytes a b

@@ -7,6 +7,7 @@ ghost use Rattle.stream.specs.Contracts.Payload.{room};
 ghost use Rattle.records.specs.Records.{bytesAt};
 ghost use Rattle.scene.specs.Labels.{sameBytes, labelIs};
 ghost use Rattle.scene.specs.Contracts.Answers.{labelBy};
+use records::common_prefix;
 use records::wide;
 use stream::byte;
 
@@ -18,14 +19,7 @@ pub fn names_equal(s: &[u8], p: usize, n: usize, q: usize, m: usize) -> bool
     if n != m {
         return false;
     }
-    let mut i = 0usize;
-    while i < n {
-        if byte(s, 0, p + i) != byte(s, 0, q + i) {
-            return false;
-        }
-        i += 1;
-    }
-    true
+    common_prefix(s, p, n, q, m) == n
 }
 
 // Whether the n bytes at p are those of `name`.

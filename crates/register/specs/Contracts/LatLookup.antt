@@ -1,10 +1,9 @@
 -- Where to look for a variable whose name shares its first bytes with the current one's: names rise, so those that share them stand side by side.
 use mathlib.Core.Path.{_≡_}
-use Prim.Native.Nat.{ℕ, suc, _+_, _-_, _≤_, _<_}
-use mathlib.Core.Bool.{true, cond}
-use mathlib.Core.List.{List, [], _∷_, _++_}
+use Prim.Native.Nat.{ℕ, _+_, _-_, _≤_, _<_}
+use mathlib.Core.Bool.{true}
+use mathlib.Core.List.{List, [], _++_}
 use lib.ListN.{length, take, getD, replicate}
-use lib.Dec.{eqb}
 use Rattle.stream.specs.Payload.{payload}
 use Rattle.stream.specs.Contracts.Payload.{room}
 use Rattle.records.specs.Records.{bytesAt}
@@ -13,12 +12,6 @@ use Rattle.scene.specs.Scene.{NamedValue}
 use Rattle.scene.specs.Labels.{variableOf}
 use Rattle.scene.specs.Contracts.Answers.{variablesAt}
 use Rattle.scene.specs.Laws.Rising.{Rising}
-
--- how many bytes two names begin with alike
-unfoldable pub commonPrefix : List ℕ → List ℕ → ℕ
-commonPrefix [] ys = 0
-commonPrefix (x ∷ xs) [] = 0
-commonPrefix (x ∷ xs) (y ∷ ys) = cond (eqb x y) (suc (commonPrefix xs ys)) 0
 
 -- the prefix starts for more than c bytes, of 32, become q
 unfoldable pub prefixStarts : List ℕ → ℕ → ℕ → List ℕ

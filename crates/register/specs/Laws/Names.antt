@@ -10,7 +10,7 @@ use lib.Dec.{eqb}
 use borrow.Author.Tests.{eq-eqb, eqb-true}
 use Rattle.records.specs.Layout.{before}
 use Rattle.scene.specs.Laws.Rising.{before-less, before-next, before-cases}
-use Rattle.register.specs.Contracts.LatLookup.{commonPrefix}
+use Rattle.records.specs.Contracts.Names.{commonPrefix}
 
 common-more : (x y : ℕ) (xs ys : List ℕ) → x ≡ y → commonPrefix (x ∷ xs) (y ∷ ys) ≡ suc (commonPrefix xs ys)
 unfolding commonPrefix

@@ -1,89 +1,21 @@
 use borrow.Author.Needs.{needs}
-use mathlib.Core.Path.{_≡_}
-use Prim.Native.Nat.{_-_, _≤_}
-use native.Mathlib.Omega.{arith}
-use lib.ListN.{drop}
-use Rattle.stream.specs.Payload.{payload}
-use Rattle.stream.specs.Laws.Payload.{rest-length}
-use Rattle.records.specs.Records.{bytesAt}
-use Rattle.records.specs.Laws.Names.{name-length, name-at}
-use Rattle.scene.specs.Labels.{sameBytes}
-use Rattle.scene.proofs.Searches.{lengths-differ, all-agree, one-differs, one-agrees}
+use Rattle.records.specs.Laws.Names.{name-length}
+use Rattle.scene.proofs.Searches.{lengths-differ, same-prefix}
 use Rattle.scene.proofs.names.names_equal.Statement.{statement}
 use Rattle.scene.proofs.names.names_equal.Tie as tie
 
-abbrev Inv-loop : tie.InvT-loop
-Inv-loop s p n q m i₀ i =
-    (i ≤ n)
-    × (sameBytes (bytesAt (payload s) p n) (bytesAt (payload s) q m) ≡ sameBytes (drop i (bytesAt (payload s) p n)) (drop i (bytesAt (payload s) q m)))
-
-abbrev μ-loop : tie.MeasureT-loop
-μ-loop s p n q m i₀ i = n - i
-
-returns : tie.Need-returns Inv-loop μ-loop
+returns : tie.Need-returns
 returns c =
     let o = c .before .before in
     lengths-differ _ _ (name-length _ _ _ (o .pre .0)) (name-length _ _ _ (o .pre .1)) (c .if1 .taken)
 
-loop-holds : tie.Need-loop-holds Inv-loop μ-loop
-loop-holds c = search needs
+common-prefix-requires : tie.Need-common-prefix-requires
+common-prefix-requires c κs = search needs
 
-add-byte : tie.Need-add-byte Inv-loop μ-loop
-add-byte c = search needs
-
-byte-requires : tie.Need-byte-requires Inv-loop μ-loop
-byte-requires c κs = (omega arith, omega (arith, rest-length (c .before .before .before .before .args .s .now) 0))
-
-add-byte-2 : tie.Need-add-byte-2 Inv-loop μ-loop
-add-byte-2 c = search needs
-
-byte-requires-2 : tie.Need-byte-requires-2 Inv-loop μ-loop
-byte-requires-2 c κs = (omega arith, omega (arith, rest-length (c .before .before .before .before .before .args .s .now) 0))
-
-returns-2 : tie.Need-returns-2 Inv-loop μ-loop
+returns-2 : tie.Need-returns-2
 returns-2 c =
-    let y = c .before in
-    let x = y .before in
-    let at = x .before .before in
-    let o = at .before .before .before in
-    one-differs _ _ (name-length _ _ _ (o .pre .0)) (name-length _ _ _ (o .pre .1)) (at .before .if1 .left) (at .loop .inv .1) (x .before .loop-test .taken) (name-at _ _ _ (x .before .loop-test .taken) (x .byte .ensures)) (name-at _ _ _ (omega arith) (y .byte2 .ensures)) (c .if2 .taken)
-
-add-i : tie.Need-add-i Inv-loop μ-loop
-add-i c = search needs
-
-loop-less : tie.Need-loop-less Inv-loop μ-loop
-loop-less c = search needs
-
-loop-again : tie.Need-loop-again Inv-loop μ-loop
-loop-again c =
-    let y = c .before in
-    let x = y .before in
-    let at = x .before .before in
-    let o = at .before .before .before in (
-      omega arith,
-      one-agrees _ _ (name-length _ _ _ (o .pre .0)) (name-length _ _ _ (o .pre .1)) (at .before .if1 .left) (at .loop .inv .1) (x .before .loop-test .taken) (name-at _ _ _ (x .before .loop-test .taken) (x .byte .ensures)) (name-at _ _ _ (omega arith) (y .byte2 .ensures)) (c .if2 .left),
-    )
-
-returns-3 : tie.Need-returns-3 Inv-loop μ-loop
-returns-3 c =
-    let at = c .before in
-    let o = at .before .before .before in
-    all-agree _ _ (name-length _ _ _ (o .pre .0)) (name-length _ _ _ (o .pre .1)) (at .before .if1 .left) (at .loop .inv .1) (c .loop-test .left)
+    let o = c .before .before .before in
+    same-prefix _ _ (name-length _ _ _ (o .pre .0)) (name-length _ _ _ (o .pre .1)) (c .before .if1 .left) (c .common-prefix .ensures .0)
 
 pub names-equal-spec : {M : Type 1} → statement M
-names-equal-spec =
-    tie.close
-    (tie.spec
-    Inv-loop
-    μ-loop
-    returns
-    loop-holds
-    add-byte
-    byte-requires
-    add-byte-2
-    byte-requires-2
-    returns-2
-    add-i
-    loop-less
-    loop-again
-    returns-3)
+names-equal-spec = tie.close (tie.spec returns common-prefix-requires returns-2)

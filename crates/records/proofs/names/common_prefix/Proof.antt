@@ -5,12 +5,12 @@ use native.Mathlib.Omega.{arith}
 use lib.ListN.{drop}
 use Rattle.stream.specs.Payload.{payload}
 use Rattle.stream.specs.Laws.Payload.{rest-length}
 use Rattle.records.specs.Records.{bytesAt}
-use Rattle.register.specs.Contracts.LatLookup.{commonPrefix}
+use Rattle.records.specs.Contracts.Names.{commonPrefix}
 use Rattle.records.specs.Laws.Names.{name-length, name-at}
-use Rattle.register.proofs.PrefixBytes.{first-ends, second-ends, bytes-differ, bytes-agree}
-use Rattle.register.proofs.lat_lookup.common_prefix.Statement.{statement}
-use Rattle.register.proofs.lat_lookup.common_prefix.Tie as tie
+use Rattle.records.proofs.Prefixes.{first-ends, second-ends, bytes-differ, bytes-agree}
+use Rattle.records.proofs.names.common_prefix.Statement.{statement}
+use Rattle.records.proofs.names.common_prefix.Tie as tie
 
 abbrev Inv-loop : tie.InvT-loop
 Inv-loop s p n q m i₀ i =
