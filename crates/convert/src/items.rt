@@ -12,20 +12,9 @@ ghost use Rattle.convert.specs.Convert.{pointsTrace, pathsOf, pathsTrace
 ghost use Rattle.convert.specs.Convert.{onScreen, itemOf, itemsOf, convertOf};
 ghost use Rattle.strokes.specs.Contracts.Space.{outputBy, Fits, Draws, DrawsQuietly};
 ghost use Rattle.strokes.specs.Contracts.Space.{Ready, boxTrace, ellipseTrace};
-use strokes::point_feature;
 use crate::shapes::Shape;
 use crate::shapes::props_of;
 use crate::shapes::shape_of;
-use strokes::Ctx;
-use strokes::Props;
-use strokes::State;
-use strokes::WARNING_ALLOWANCE_SPENT;
-use strokes::WARNING_MISSING_GEOMETRY;
-use strokes::warn;
-use strokes::draw_ring;
-use strokes::polyline_or_polygon;
-use strokes::load_path;
-use strokes::load_points;
 use densify::box_ring;
 use densify::ellipse_ring;
 use scene::Item;
@@ -33,6 +22,17 @@ use scene::Path;
 use scene::next_item;
 use scene::next_path;
 use scene::points_of;
+use strokes::Ctx;
+use strokes::Props;
+use strokes::State;
+use strokes::WARNING_ALLOWANCE_SPENT;
+use strokes::WARNING_MISSING_GEOMETRY;
+use strokes::draw_ring;
+use strokes::load_path;
+use strokes::load_points;
+use strokes::point_feature;
+use strokes::polyline_or_polygon;
+use strokes::warn;
 
 fn draw_box(
     cx: Ctx,

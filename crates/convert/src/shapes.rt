@@ -4,18 +4,25 @@ ghost use mathlib.Core.List.{List};
 ghost use Prim.Native.Nat.{ℕ};
 ghost use Rattle.scene.specs.Contracts.Answers.{itemBy};
 ghost use Rattle.convert.specs.Convert.{boxOf, ellipseOf, circleOf, dotOf, shapeOf, onScreen, propsOf};
-use strokes::Props;
 use geojson::SCREEN;
 use scene::Item;
+use strokes::Props;
 
 // Kinds of items, by their place in the source's KINDS. Arcs (3), splines (6) and braces (9) are drawn by their paths.
 const KIND_BOX: u8 = 0;
+
 const KIND_CIRCLE: u8 = 1;
+
 const KIND_ELLIPSE: u8 = 2;
+
 const KIND_LINE: u8 = 4;
+
 const KIND_ARROW: u8 = 5;
+
 const KIND_TEXT: u8 = 7;
+
 const KIND_DOT: u8 = 8;
+
 const KIND_BLOCK: u8 = 10;
 
 // A drawn shape with its centre, sizes and radii, or a list of points or paths.

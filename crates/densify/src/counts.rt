@@ -15,6 +15,7 @@ const MAX_SEGMENT_VERTICES: usize = 100000;
 
 // The fewest and the most vertices of a full curve.
 const MIN_RING_VERTICES: usize = 32;
+
 const MAX_RING_VERTICES: usize = 4096;
 
 // What a tolerance asks for that is not below the radius: the fewest.
@@ -73,5 +74,9 @@ pub fn arc_vertices(step: f64, scale: f64, radius: f64, tol: f64) -> usize
 {
     let r = abs(radius);
     let around = ceil(2.0 * PI * (r * scale) / step);
-    clamp(max(by_tolerance(r, tol), around), MIN_RING_VERTICES, MAX_RING_VERTICES)
+    clamp(
+        max(by_tolerance(r, tol), around),
+        MIN_RING_VERTICES,
+        MAX_RING_VERTICES,
+    )
 }

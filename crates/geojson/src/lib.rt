@@ -7,11 +7,14 @@ ghost use Rattle.geojson.specs.Contracts.Features.{FeatureWritten};
 
 // Geometries.
 pub const POINT: u32 = 0;
+
 pub const LINE: u32 = 1;
+
 pub const POLYGON: u32 = 2;
 
 // The role of a separate fill, and the placement on the screen; any other role or placement is 0.
 pub const FILL: u32 = 1;
+
 pub const SCREEN: u32 = 1;
 
 // A feature line is so many numbers.

@@ -11,15 +11,15 @@ ghost use Rattle.strokes.specs.Contracts.Space.{outputBy, Applied};
 ghost use Rattle.geopic.specs.Geopic.{traceOf, buffersBy, unused, refusal, acceptance, clear, answerOf, buffersAfter};
 ghost use Rattle.geopic.specs.Contracts.Opened.{Opens, Registers};
 use budget::Budget;
-use strokes::Ctx;
-use strokes::State;
 use convert::convert;
+use projection::Registration;
+use projection::projection_of;
 use register::Survey;
 use register::register;
 use register::survey_stream;
 use register::write_warnings;
-use projection::Registration;
-use projection::projection_of;
+use strokes::Ctx;
+use strokes::State;
 
 // The longest step between two positions, in metres.
 const MAX_STEP_M: f64 = 100.0;

@@ -63,7 +63,18 @@ fn fill(
     if ring.at < 8 {
         return st;
     }
-    stroke(cx, p, POLYGON, FILL, work, 0, ring.at, positions, features, st)
+    stroke(
+        cx,
+        p,
+        POLYGON,
+        FILL,
+        work,
+        0,
+        ring.at,
+        positions,
+        features,
+        st,
+    )
 }
 
 // An open or closed stroke: a polygon, or a line with its fill before it.
@@ -96,14 +107,36 @@ pub fn polyline_or_polygon(
     }
     if closed {
         if l.ring >= 8 {
-            return stroke(cx, p, POLYGON, 0, work, 0, l.ring, positions, features, drawn);
+            return stroke(
+                cx,
+                p,
+                POLYGON,
+                0,
+                work,
+                0,
+                l.ring,
+                positions,
+                features,
+                drawn,
+            );
         }
     }
     let filled = fill(cx, p, l, work, positions, features, drawn);
     if closed {
         return draw_without_writing(cx, p.item, work, 0, l.points, warnings, filled);
     }
-    stroke(cx, p, LINE, 0, work, 0, l.points, positions, features, filled)
+    stroke(
+        cx,
+        p,
+        LINE,
+        0,
+        work,
+        0,
+        l.points,
+        positions,
+        features,
+        filled,
+    )
 }
 
 // A ring whose points end at d.at.

@@ -201,5 +201,10 @@ pub fn draw_without_writing(
         to,
         st.budget,
     );
-    warn(warnings, with_budget(st, left), WARNING_MISSING_GEOMETRY, item)
+    warn(
+        warnings,
+        with_budget(st, left),
+        WARNING_MISSING_GEOMETRY,
+        item,
+    )
 }

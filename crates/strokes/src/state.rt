@@ -11,12 +11,16 @@ use values::push_warning;
 
 // Numbers of refusals: what lacks room.
 pub const WORK_ROOM: u8 = 15;
+
 pub const POSITION_ROOM: u8 = 16;
+
 pub const FEATURE_ROOM: u8 = 17;
+
 pub const WARNING_ROOM: u8 = 18;
 
 // Kinds of warnings: an item without its geometry; the allowance was spent.
 pub const WARNING_MISSING_GEOMETRY: u32 = 5;
+
 pub const WARNING_ALLOWANCE_SPENT: u32 = 6;
 
 // The same for a whole sheet: the projection, the longest step in metres, and the tolerance for curves in inches.

@@ -3,10 +3,10 @@ ghost use mathlib.Core.Path.{_≡_};
 ghost use Rattle.projection.specs.Projection.{toLonLatOf};
 ghost use Rattle.test_host.specs.Contracts.Answer.{answerOf, warnedOf};
 use geodesy::LonLat;
-use register::Outcome;
 use projection::Registration;
 use projection::projection_of;
 use projection::to_lonlat;
+use register::Outcome;
 use values::WarningCursor;
 
 // Refusals 1 to 14, or 0 and the registration.
