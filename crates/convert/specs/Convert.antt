@@ -1,24 +1,21 @@
 -- The source's convert.rs, function by function: what each item of a scene draws, one item after the other.
-use Prim.Native.Nat.{ℕ, suc, _+_}
-use mathlib.Core.Bool.{Bool, true, false, _&&_, _||_, cond}
-use mathlib.Core.List.{List, [], _∷_, _++_, map}
+use Prim.Native.Nat.{ℕ, suc}
+use mathlib.Core.Bool.{Bool, true, false, _||_, cond}
+use mathlib.Core.List.{List, [], _∷_}
 use lib.ListN.{length}
-use lib.Dec.{eqb, ltb, leb}
+use lib.Dec.{eqb, ltb}
 use lib.Ieee.{Float, binary64, div}
 use Rattle.elementary.specs.Constants as K
 use Rattle.scene.specs.Scene.{DrawnPath, DrawnItem}
 use Rattle.values.specs.declared.Point.{Point}
 use Rattle.values.specs.Maybe.{Maybe, none, some, orValue}
-use Rattle.values.specs.Warnings.{Warning}
 use Rattle.budget.specs.declared.Budget.{Budget}
-use Rattle.densify.specs.Densify.{GrantedDraw, Made, closeRingOf, pathPointsOf, densifyPolylineOf, ellipseRingOf, boxRingOf}
-use Rattle.projection.specs.Projection.{projectPoint}
-use Rattle.geojson.specs.declared.Feature.{Feature}
+use Rattle.densify.specs.Densify.{pathPointsOf, ellipseRingOf, boxRingOf}
 use Rattle.convert.specs.declared.shapes.Shape.{Shape}
 use Rattle.convert.specs.declared.shapes.Shape.the-variants.{Box, Ellipse, Circle, Dot, Points, Paths, Missing, Nothing}
 use Rattle.strokes.specs.declared.state.Ctx.{Ctx}
 use Rattle.strokes.specs.declared.state.Props.{Props}
-use Rattle.strokes.specs.Strokes.{Event, drew, need, feature, warned, Trace, noEvents, oneEvent, andThenTrace, pickTrace, drawsTrace, missing, endWith, firstRepeated, positionsOf, featureOf, strokeOf, drawWithoutWriting, pointOf, fillOf, shapeTrace, closedOutline, workOf, polylineOrPolygonOf, ringTrace, drawsIn}
+use Rattle.strokes.specs.Strokes.{warned, Trace, noEvents, oneEvent, andThenTrace, pickTrace, drawsTrace, missing, pointOf, polylineOrPolygonOf, ringTrace}
 
 -- ---- shapes
 abbrev pub firstPath : List DrawnPath → Maybe DrawnPath

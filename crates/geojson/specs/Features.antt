@@ -1,7 +1,6 @@
 -- Feature lines in a lent slice, six numbers each.
-use Prim.Native.Nat.{ℕ, _+_}
-use mathlib.Core.List.{List, [], _∷_, _++_}
-use lib.ListN.{length, take, drop}
+use Prim.Native.Nat.{ℕ}
+use mathlib.Core.List.{List, [], _∷_}
 use Rattle.geojson.specs.declared.Feature.{Feature}
 
 abbrev pub wordsOf : Feature → List ℕ

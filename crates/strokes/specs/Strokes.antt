@@ -1,17 +1,14 @@
 -- `geo_line`, `geo_ring` and `polyline_or_polygon` of the source's convert.rs: what a line, a ring or a point comes to, as a list of events in the source's order, with no regard to space.
-use Prim.Native.Nat.{ℕ, suc, _+_}
-use mathlib.Core.Bool.{Bool, true, false, _&&_, _||_, cond}
+use Prim.Native.Nat.{ℕ, _+_}
+use mathlib.Core.Bool.{Bool, true, false, _&&_, cond}
 use mathlib.Core.List.{List, [], _∷_, _++_, map}
 use lib.ListN.{length}
 use lib.Dec.{eqb, ltb, leb}
-use lib.Ieee.{Float, binary64, div}
-use Rattle.elementary.specs.Constants as K
-use Rattle.scene.specs.Scene.{DrawnPath, DrawnItem}
 use Rattle.values.specs.declared.Point.{Point}
 use Rattle.values.specs.Maybe.{Maybe, none, some, orValue}
 use Rattle.values.specs.Warnings.{Warning}
 use Rattle.budget.specs.declared.Budget.{Budget}
-use Rattle.densify.specs.Densify.{GrantedDraw, Made, closeRingOf, pathPointsOf, densifyPolylineOf, ellipseRingOf, boxRingOf}
+use Rattle.densify.specs.Densify.{GrantedDraw, Made, closeRingOf, densifyPolylineOf}
 use Rattle.projection.specs.Projection.{projectPoint}
 use Rattle.geojson.specs.declared.Feature.{Feature}
 use Rattle.strokes.specs.declared.state.Ctx.{Ctx}
