@@ -26,13 +26,13 @@ use crate::mentions::Cursor;
 use crate::mentions::Mention;
 use crate::mentions::next_mention;
 use crate::survey::Survey;
+use fit::Control;
 use float::abs;
 use names::find_name;
 use names::insert;
 use names::match_labels;
 use names::unmark;
 use scene::next_name;
-use fit::Control;
 
 // The most control points that a registration has.
 pub const MAX_CONTROLS: usize = 64;
@@ -44,6 +44,7 @@ const TOO_MANY_CONTROLS: usize = 65;
 const BATCH_NAMES: usize = 11264;
 // Condition 8's limits, in degrees.
 const MAX_LATITUDE: f64 = 85.06;
+
 const MAX_LONGITUDE: f64 = 180.0;
 
 // How many control points there are.
@@ -127,20 +128,12 @@ fn fill_batch(s: &[u8], lons: bool, t: &mut [u32], c: Cursor, starts: &mut [usiz
         let m = next_mention(s, lons, at, starts);
         at = m.next;
         if !m.some {
-            return FilledBatch {
-                n,
-                count,
-                next: at,
-            };
+            return FilledBatch { n, count, next: at };
         }
         n = add_name(s, t, n, m, more);
         count += 1;
     }
-    FilledBatch {
-        n,
-        count,
-        next: at,
-    }
+    FilledBatch { n, count, next: at }
 }
 
 // The name of n bytes behind p is known from now on: its entry, if there is one, loses its mark. The mark that it had.
@@ -319,8 +312,27 @@ fn gather_batch(
     if used == 0 {
         return g;
     }
-    clear_known(s, t, n, features_before(lons, v.name_count - v.lon_count, base), more);
-    read_batch(s, lons, t, n, &spots, c, starts, f.count, base, flat, kept, g)
+    clear_known(
+        s,
+        t,
+        n,
+        features_before(lons, v.name_count - v.lon_count, base),
+        more,
+    );
+    read_batch(
+        s,
+        lons,
+        t,
+        n,
+        &spots,
+        c,
+        starts,
+        f.count,
+        base,
+        flat,
+        kept,
+        g,
+    )
 }
 
 // All batches of a part of the names, behind the control points that g counts.

@@ -7,8 +7,8 @@ ghost use Rattle.values.specs.Maybe.{orElse, isSome};
 ghost use Rattle.scene.specs.Contracts.Answers.{maybeFloat, maybePoint, variablesAt};
 ghost use Rattle.register.specs.Register.{isMercator, var, geoFrame, notZero, bothOf, onlyOne};
 ghost use Rattle.register.specs.Contracts.Survey.{Agrees, Declares};
-use scene::OptionalPoint;
 use scene::OptionalFloat;
+use scene::OptionalPoint;
 
 // The variables geo_frame, geo_px and so on.
 pub struct Geo {

@@ -17,8 +17,8 @@ ghost use Rattle.register.specs.Register.{suffixLon, suffixLat};
 ghost use Rattle.register.specs.Contracts.LatLookup.{commonPrefix, prefixStarts};
 use scene::OptionalFloat;
 use scene::name_is;
-use scene::next_variable;
 use scene::names_equal;
+use scene::next_variable;
 use stream::byte;
 
 // A start for each number of bytes that a name may share with another: names have 31 bytes at most.

@@ -1,9 +1,9 @@
 // Registration, after the source's register.rs: control points and anchor, refusals 7 to 14, warnings 1 to 4.
 mod controls;
 mod declared;
+mod lat_lookup;
 mod mentions;
 mod outcome;
-mod lat_lookup;
 mod survey;
 mod warnings;
 

@@ -8,33 +8,43 @@ ghost use Rattle.register.specs.Contracts.Survey.{Declares, Registrable}
 ghost use Rattle.register.specs.Contracts.Gathered.{controlIn, controlsBy, Kept};
 ghost use Rattle.register.specs.Contracts.Outcome.{refusedBy, outcomeOf, checkedOf, declaredOutcome};
 ghost use Rattle.register.specs.Contracts.Outcome.{fittedOutcome};
-use crate::controls::gather;
 use crate::controls::CONTROL_NUMBERS;
 use crate::controls::MAX_CONTROLS;
+use crate::controls::gather;
 use crate::controls::is_within_limits;
 use crate::declared::Declared;
 use crate::survey::Survey;
-use float::is_finite;
 use fit::Control;
-use projection::Registration;
 use fit::fit_points;
+use float::is_finite;
+use projection::Registration;
 use values::Point;
 
 // The largest effective scale, in metres an inch, and the one where none is declared.
 const MAX_SCALE_M_PER_IN: f64 = 1e9;
+
 const DEFAULT_SCALE_M_PER_IN: f64 = 100.0;
 // How a registration was found: about an anchor or one control point, by two control points, or by a fit to more.
 const METHOD_ANCHOR: u32 = 0;
+
 const METHOD_TWO_POINTS: u32 = 1;
+
 const METHOD_HELMERT: u32 = 2;
 // Numbers of refusals, by the header's names.
 const REFUSAL_FRAME: u32 = 7;
+
 const REFUSAL_OUTSIDE: u32 = 8;
+
 const REFUSAL_TOO_MANY: u32 = 9;
+
 const REFUSAL_NO_ANCHOR: u32 = 10;
+
 const REFUSAL_DEGENERATE: u32 = 11;
+
 const REFUSAL_SCALE: u32 = 12;
+
 const REFUSAL_VIEW_SCALE: u32 = 13;
+
 const REFUSAL_MAX_SCALE: u32 = 14;
 
 // 0 and the registration, or the number of the first condition that holds and zeros.
@@ -85,7 +95,11 @@ fn declare(d: Declared, anchor: Point, origin: Point, n: u32) -> Outcome
     ensures { λ o. ⌜ ((sc : Scene) → Declares sc d → o ≡ declaredOutcome sc anchor origin n) ⌝ }
 {
     let scale = d.scale;
-    let value = if scale.some { scale.value } else { DEFAULT_SCALE_M_PER_IN };
+    let value = if scale.some {
+        scale.value
+    } else {
+        DEFAULT_SCALE_M_PER_IN
+    };
     if !(0.0 < value) {
         return refuse(REFUSAL_SCALE);
     }
@@ -143,7 +157,11 @@ fn fit_controls(flat: &[f64], n: usize) -> Outcome
     if !f.some {
         return refuse(REFUSAL_DEGENERATE);
     }
-    let method = if n == 2 { METHOD_TWO_POINTS } else { METHOD_HELMERT };
+    let method = if n == 2 {
+        METHOD_TWO_POINTS
+    } else {
+        METHOD_HELMERT
+    };
     let r = Registration {
         lon: f.lon,
         lat: f.lat,

@@ -30,8 +30,11 @@ use values::push_warning;
 // Kinds of warnings: a view_scale that is ignored, a control point that does not resolve, one that a host feature
 // overrides, and something that is ignored because control points exist.
 const WARNING_VIEW_SCALE: u32 = 1;
+
 const WARNING_UNRESOLVED: u32 = 2;
+
 const WARNING_OVERRIDDEN: u32 = 3;
+
 const WARNING_IGNORED: u32 = 4;
 
 // What the walk over the host features comes to: how many there are, and how many of them are control points.
@@ -166,14 +169,26 @@ fn warn_lons(
         if is_kept(kept, n, k, j) {
             k += 1;
         } else {
-            warned = push_warning(out, warned, kind_of(s, positions, controls, m), m.index as u32);
+            warned = push_warning(
+                out,
+                warned,
+                kind_of(s, positions, controls, m),
+                m.index as u32,
+            );
         }
         j += 1;
     }
 }
 
 // Warns of each name that is no control point. Where every name is one of the n control points, no name is looked at.
-fn warn_names(s: &[u8], v: Survey, kept: &[u32], out: &mut [u32], w: WarningCursor, n: u32) -> WarningCursor
+fn warn_names(
+    s: &[u8],
+    v: Survey,
+    kept: &[u32],
+    out: &mut [u32],
+    w: WarningCursor,
+    n: u32,
+) -> WarningCursor
     requires { ⌜ Registrable (now s) v × KeptControls (sceneOf (payload (now s))) n (now kept)
         × (w .used ≤ length (now out)) ⌝ }
     ensures { λ r. ⌜ record { out = now (out .exit); cursor = r }
@@ -191,7 +206,17 @@ fn warn_names(s: &[u8], v: Survey, kept: &[u32], out: &mut [u32], w: WarningCurs
     if v.lon_count == 0 {
         return featured;
     }
-    warn_lons(s, v, kept, n, &positions, f.controls, f.count, out, featured)
+    warn_lons(
+        s,
+        v,
+        kept,
+        n,
+        &positions,
+        f.controls,
+        f.count,
+        out,
+        featured,
+    )
 }
 
 // Warns of a view_scale without geo_px.

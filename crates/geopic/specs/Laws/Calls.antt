@@ -30,7 +30,6 @@ use Rattle.register.specs.Laws.Registrable.{is-registrable}
 use Rattle.values.specs.Contracts.Warnings.{WarningSlice, pushed, allPushed}
 use Rattle.budget.specs.declared.Budget.{Budget}
 use Rattle.values.specs.Slices.{put}
-use Rattle.values.specs.Laws.Put.{pair-put}
 use Rattle.geopic.specs.declared.Answer.{Answer}
 use Rattle.convert.specs.Convert.{warned, Trace, onScreen, convertOf}
 use Rattle.convert.specs.Space.{Output, outOfRoom, withWarning}
@@ -70,7 +69,7 @@ toldBy t r =
 module _ (w : Warning) (out : List ℕ) (n : ℕ) where
   push-fits : leb (n + 2) (length out) ≡ true → pushed w (pushing out true n) ≡ pushing (put out n (w .kind ∷ w .index ∷ [])) true (n + 2)
   unfolding pushed
-  push-fits e = rw (e, pair-put out n (w .kind) (w .index) (leb-true _ _ e))
+  push-fits e = rw e
 
   push-lacks : leb (n + 2) (length out) ≡ false → pushed w (pushing out true n) ≡ pushing out false n
   unfolding pushed
@@ -219,8 +218,16 @@ module _ (s : List ℕ) where
     registered-opens z w n k =
         let none = sym number ∙ z in
         let r = outcome-is (sc s) is z in
-        let controls = record { count = controls-are (sc s) r; kept-room = n; numbers = k } in
-        record { number = sym none; comes = record { none = none; is = r; registrable = is-registrable s read w; controls = controls } }
+        record {
+          number = sym none;
+          comes =
+              record {
+                none = none;
+                is = r;
+                registrable = is-registrable s read w;
+                controls = record { count = controls-are (sc s) r; kept-room = n; numbers = k };
+              };
+        }
 
   -- the same by the answer's case
   module _ {kept : List ℕ} {o : Opened} (h : Opens s kept o) where
