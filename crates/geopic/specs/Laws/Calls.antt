@@ -21,7 +21,7 @@ use Rattle.values.specs.declared.WarningCursor.{WarningCursor}
 use Rattle.register.specs.declared.outcome.Outcome.{Outcome}
 use Rattle.register.specs.declared.survey.Survey.{Survey}
 use Rattle.register.specs.Contracts.Survey.{Surveyed}
-use Rattle.register.specs.Contracts.Gathered.{Kept, KeptControls}
+use Rattle.register.specs.Contracts.Gathered.{Kept}
 use Rattle.register.specs.Register.{f0, registrationOf, registerWarnings}
 use Rattle.values.specs.Warnings.{Warning}
 use Rattle.register.specs.Contracts.Outcome.{registerRefusal, accepted, refusedBy, pickOutcome, outcomeOf}
@@ -216,11 +216,19 @@ module _ (s : List ℕ) where
     registration-opens some = record { number = number; comes = some }
 
     pub registered-opens : {v : Survey} {kept : List ℕ} → o .number ≡ 0 → Surveyed (payload s) v → length kept ≡ 64 → Kept (sceneOf (payload s)) kept → Opens s kept (Registered v (o .registration))
-    registered-opens {kept = kept} z w n k =
+    registered-opens z w n k =
         let none = sym number ∙ z in
         let r = outcome-is (sc s) is z in
-        let controls : KeptControls (sceneOf (payload s)) (o .registration .controls) kept = record { count = controls-are (sc s) r; kept-room = n; numbers = k } in
-        record { number = sym none; comes = record { none = none; is = r; registrable = is-registrable s read w; controls = controls } }
+        record {
+          number = sym none;
+          comes =
+              record {
+                none = none;
+                is = r;
+                registrable = is-registrable s read w;
+                controls = record { count = controls-are (sc s) r; kept-room = n; numbers = k };
+              };
+        }
 
   -- the same by the answer's case
   module _ {kept : List ℕ} {o : Opened} (h : Opens s kept o) where

@@ -6,6 +6,7 @@ use Prim.Native.Nat.{ℕ}
 use Rattle.scene.specs.Scene as scene
 use Rattle.densify.specs.Densify as densify
 use Rattle.convert.specs.Convert as convert
+use Rattle.strokes.specs.Strokes as strokes
 use Rattle.geopic.specs.Geopic as geopic
 use Rattle.reference.specs.Laws.Everything.{everything}
 use Rattle.reference.specs.Laws.Scenes.{every-producer, running-out, all, from-2000000, from-60, from-40, from-20, from-5, from-0}
@@ -17,13 +18,13 @@ told (d ∷ ds) = d .want ∷ d .floor ∷ d .granted ∷ cond (d .cut) 1 0 ∷ 
 
 -- by the whole call, which allows 2,000,000
 abbrev drawn : List ℕ → List ℕ
-drawn records = told (convert.drawsIn (geopic.traceOf (scene.sceneOf records) .events))
+drawn records = told (strokes.drawsIn (geopic.traceOf (scene.sceneOf records) .events))
 
 -- by its items alone, from so many
 abbrev drawn-from : ℕ → List ℕ → List ℕ
 drawn-from left records =
     let sc = scene.sceneOf records in
-    told (convert.drawsIn (convert.convertOf convert.onScreen (geopic.ctxOf sc) (sc .items) (record { left = left; hit = false }) .events))
+    told (strokes.drawsIn (convert.convertOf convert.onScreen (geopic.ctxOf sc) (sc .items) (record { left = left; hit = false }) .events))
 
 pub draws-2000000 : drawn every-producer ≡ all from-2000000
 unfolding everything
