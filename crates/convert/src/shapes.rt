@@ -5,25 +5,16 @@ ghost use Prim.Native.Nat.{ℕ};
 ghost use Rattle.scene.specs.Contracts.Answers.{itemBy};
 ghost use Rattle.convert.specs.Convert.{boxOf, ellipseOf, circleOf, dotOf, shapeOf, onScreen, propsOf};
 use geojson::SCREEN;
+use records::KIND_ARROW;
+use records::KIND_BLOCK;
+use records::KIND_BOX;
+use records::KIND_CIRCLE;
+use records::KIND_DOT;
+use records::KIND_ELLIPSE;
+use records::KIND_LINE;
+use records::KIND_TEXT;
 use scene::Item;
 use strokes::Props;
-
-// Kinds of items, by their place in the source's KINDS. Arcs (3), splines (6) and braces (9) are drawn by their paths.
-const KIND_BOX: u8 = 0;
-
-const KIND_CIRCLE: u8 = 1;
-
-const KIND_ELLIPSE: u8 = 2;
-
-const KIND_LINE: u8 = 4;
-
-const KIND_ARROW: u8 = 5;
-
-const KIND_TEXT: u8 = 7;
-
-const KIND_DOT: u8 = 8;
-
-const KIND_BLOCK: u8 = 10;
 
 // A drawn shape with its centre, sizes and radii, or a list of points or paths.
 pub enum Shape {

@@ -63,9 +63,8 @@ fn refuse(number: u32) -> Answer
     }
 }
 
-fn clear_floats(out: &mut [f64]) -> usize
-    ensures { λ r. ⌜ (now (out .exit) ≡ clear f0 (length (now (out .entry))))
-        × (r ≡ length (now (out .entry))) ⌝ }
+fn clear_floats(out: &mut [f64])
+    ensures { λ _. ⌜ now (out .exit) ≡ clear f0 (length (now (out .entry))) ⌝ }
 {
     let n = out.len();
     let mut i = 0usize;
@@ -73,12 +72,10 @@ fn clear_floats(out: &mut [f64]) -> usize
         out[i] = 0.0;
         i += 1;
     }
-    n
 }
 
-fn clear_words(out: &mut [u32]) -> usize
-    ensures { λ r. ⌜ (now (out .exit) ≡ clear 0 (length (now (out .entry))))
-        × (r ≡ length (now (out .entry))) ⌝ }
+fn clear_words(out: &mut [u32])
+    ensures { λ _. ⌜ now (out .exit) ≡ clear 0 (length (now (out .entry))) ⌝ }
 {
     let n = out.len();
     let mut i = 0usize;
@@ -86,7 +83,6 @@ fn clear_words(out: &mut [u32]) -> usize
         out[i] = 0;
         i += 1;
     }
-    n
 }
 
 // The step with which each call of the host begins: every condition that is checked before the lent slices. `kept` gets

@@ -24,6 +24,7 @@ use densify::spend_polyline;
 use geojson::FEATURE_WORDS;
 use geojson::Feature;
 use geojson::POINT;
+use geojson::POLYGON;
 use geojson::write_feature;
 use projection::Projection;
 use projection::geo;
@@ -64,7 +65,7 @@ fn project_and_close(
         budget: left,
     };
     project_points(t, positions, at, end);
-    if geometry != 2 {
+    if geometry != POLYGON {
         return closed;
     }
     repeat_first_position(positions, at, end);

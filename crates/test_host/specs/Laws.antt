@@ -1,2 +1,2 @@
 -- Theorems about these definitions.
-pub mod Sheets
+pub mod Streams

@@ -44,7 +44,7 @@ same-length c = search needs
 returns : tie.Need-returns Inv-loop μ-loop
 returns c =
     let t = c .before .loop in
-    (clear-end f0 (t .i) (c .before .before .args .out .now) (t .inv .3) (omega arith), t .inv .1)
+    clear-end f0 (t .i) (c .before .before .args .out .now) (t .inv .3) (omega arith)
 
 pub clear-floats-spec : {M : Type 1} → statement M
 clear-floats-spec =

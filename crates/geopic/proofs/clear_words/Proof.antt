@@ -43,7 +43,7 @@ same-length c = search needs
 returns : tie.Need-returns Inv-loop μ-loop
 returns c =
     let t = c .before .loop in
-    (clear-end 0 (t .i) (c .before .before .args .out .now) (t .inv .3) (omega arith), t .inv .1)
+    clear-end 0 (t .i) (c .before .before .args .out .now) (t .inv .3) (omega arith)
 
 pub clear-words-spec : {M : Type 1} → statement M
 clear-words-spec =
