@@ -55,7 +55,7 @@ fn sample_segment(
     PointCursor {
         ok: true,
         at: next,
-        budget: budget,
+        budget,
     }
 }
 
@@ -78,8 +78,8 @@ pub fn densify_polyline(
     if to - from < 2 {
         return PointCursor {
             ok: true,
-            at: at,
-            budget: budget,
+            at,
+            budget,
         };
     }
     let mut ax = work[from];

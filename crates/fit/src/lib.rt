@@ -138,7 +138,7 @@ fn fit_at(a: Metres, c: ProjectedControl, p: f64, q: f64) -> Fit
         lat: anchor.lat,
         x: c.x,
         y: c.y,
-        scale: scale,
+        scale,
         bearing: to_degrees(atan2(-q, p)),
     }
 }

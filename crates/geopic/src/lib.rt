@@ -52,7 +52,7 @@ fn refuse(number: u32) -> Answer
     ensures { λ r. ⌜ r ≡ refusal number ⌝ }
 {
     Answer {
-        number: number,
+        number,
         method: 0,
         controls: 0,
         spent: 0,
@@ -132,7 +132,7 @@ fn write_output(
         number = 18;
     }
     let st = State {
-        number: number,
+        number,
         positions: 0,
         features: 0,
         warnings: w.used,
@@ -159,7 +159,7 @@ fn accept(r: Registration, st: State) -> Answer
         number: 0,
         method: r.method,
         controls: r.controls,
-        spent: spent,
+        spent,
         positions: st.positions / 2,
         features: st.features / 6,
         warnings: st.warnings / 2,

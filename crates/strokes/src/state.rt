@@ -23,7 +23,7 @@ pub const WARNING_MISSING_GEOMETRY: u32 = 5;
 
 pub const WARNING_ALLOWANCE_SPENT: u32 = 6;
 
-// The same for a whole sheet: the projection, the longest step in metres, and the tolerance for curves in inches.
+// What is the same for every item: the projection, the longest step in metres, and the tolerance for curves in inches.
 pub struct Ctx {
     pub projection: Projection,
     pub step: f64,

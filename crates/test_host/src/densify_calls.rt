@@ -98,14 +98,11 @@ pub extern "C" fn densify_path(
         return Drawing {
             ok: false,
             at: 0,
-            left: left,
+            left,
             hit: false,
         };
     }
-    let b = Budget {
-        left: left,
-        hit: false,
-    };
+    let b = Budget { left, hit: false };
     drawing_of(path_points(s, p, tol, b, work, 0))
 }
 
@@ -124,10 +121,7 @@ pub extern "C" fn densify_ellipse(
     ensures { λ r. ⌜ Shown (now (work .entry)) (now (work .exit))
         (ellipseRingOf step scale tol (record { x = x; y = y }) rx ry (fresh left)) r ⌝ }
 {
-    let b = Budget {
-        left: left,
-        hit: false,
-    };
+    let b = Budget { left, hit: false };
     drawing_of(ellipse_ring(step, scale, tol, [x, y], rx, ry, b, work, 0))
 }
 
@@ -147,10 +141,7 @@ pub extern "C" fn densify_box(
     ensures { λ r. ⌜ Shown (now (work .entry)) (now (work .exit))
         (boxRingOf step scale tol (record { x = x; y = y }) w h rad (fresh left)) r ⌝ }
 {
-    let b = Budget {
-        left: left,
-        hit: false,
-    };
+    let b = Budget { left, hit: false };
     drawing_of(box_ring(step, scale, tol, [x, y], w, h, rad, b, work, 0))
 }
 
@@ -168,10 +159,7 @@ pub extern "C" fn densify_line(
         (densifyPolylineOf step (reg .scale) (pointsIn (now (work .entry)) 0 (length (now (work .entry))))
         (fresh left))) r ⌝ }
 {
-    let b = Budget {
-        left: left,
-        hit: false,
-    };
+    let b = Budget { left, hit: false };
     let d = densify_polyline(step, reg.scale, work, 0, work.len(), b, out, 0);
     if !d.ok {
         return drawing_of(d);
@@ -207,10 +195,7 @@ pub extern "C" fn densify_draw(left: usize, hit: bool, want: usize, floor: usize
     ensures { λ r. ⌜ record { granted = r .granted; budget = record { left = r .left; hit = r .hit } }
         ≡ takeOf (record { left = left; hit = hit }) want floor ⌝ }
 {
-    let b = Budget {
-        left: left,
-        hit: hit,
-    };
+    let b = Budget { left, hit };
     let t = b.take(want, floor);
     let after = t.budget;
     Grant {
