@@ -11,7 +11,7 @@ ghost use Rattle.scene.specs.Contracts.Answers.{pathsBy, itemsAt, itemBy};
 ghost use Rattle.convert.specs.Convert.{pointsTrace, pathsOf, pathsTrace, withPart};
 ghost use Rattle.convert.specs.Convert.{onScreen, itemOf, itemsOf, convertOf};
 ghost use Rattle.strokes.specs.Contracts.Space.{outputBy, Fits, Draws, DrawsQuietly};
-ghost use Rattle.strokes.specs.Contracts.Space.{Ready, boxTrace, ellipseTrace};
+ghost use Rattle.strokes.specs.Contracts.Space.{CanDraw, boxTrace, ellipseTrace};
 use crate::shapes::Shape;
 use crate::shapes::props_of;
 use crate::shapes::shape_of;
@@ -47,7 +47,7 @@ fn draw_box(
     features: &mut [u32],
     st: State,
 ) -> State
-    requires { ⌜ Ready (now positions) (now features) st ⌝ }
+    requires { ⌜ CanDraw (now positions) (now features) st ⌝ }
     ensures { λ r. ⌜ DrawsQuietly (boxTrace cx p x y w h rad (st .budget))
         (now (work .entry)) (now (positions .entry)) (now (features .entry)) st
         (now (work .exit)) (now (positions .exit)) (now (features .exit)) r ⌝ }
@@ -80,7 +80,7 @@ fn draw_ellipse(
     features: &mut [u32],
     st: State,
 ) -> State
-    requires { ⌜ Ready (now positions) (now features) st ⌝ }
+    requires { ⌜ CanDraw (now positions) (now features) st ⌝ }
     ensures { λ r. ⌜ DrawsQuietly (ellipseTrace cx p x y rx ry (st .budget))
         (now (work .entry)) (now (positions .entry)) (now (features .entry)) st
         (now (work .exit)) (now (positions .exit)) (now (features .exit)) r ⌝ }

@@ -30,7 +30,7 @@ use Rattle.register.specs.declared.survey.Survey.{Survey}
 use Rattle.register.specs.Contracts.Survey.{lonsIn, Surveyed}
 use Rattle.register.specs.Contracts.Mentions.{Mention, featureMentions, eventsOf, mentionsAt, moreOf, Follows}
 use Rattle.register.specs.Contracts.Gathered.{numbersIn, Holds, Gathers, Filling, Batch, MarksTell, noName, amongFeatures, KnownCleared, BeforeRead, AfterRead, againOf, partEvents, baseOf, beforeOf, batchEvents, Earlier, firstCursor, ControlRoom, Appends, GathersBatch, GathersPart}
-use Rattle.register.proofs.VariableTurns.{along}
+use Rattle.register.proofs.VariableSteps.{along}
 use Rattle.register.proofs.Marks.{in-stays}
 use Rattle.register.proofs.ReadMentions.{controls-append, numbers-append}
 use Rattle.register.proofs.EventCounts.{feature-events}

@@ -4,7 +4,7 @@ pub mod PrefixBytes
 pub mod SuffixNames
 pub mod LonNames
 pub mod Lookup
-pub mod VariableTurns
+pub mod VariableSteps
 pub mod MentionLists
 pub mod NameOrder
 pub mod Marks

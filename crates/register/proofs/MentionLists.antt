@@ -22,7 +22,7 @@ use Rattle.register.specs.declared.mentions.Mention as code-mention
 use Rattle.register.specs.Register.{suffixLat, var, stem, isLon}
 use Rattle.register.specs.Contracts.LatLookup.{Along}
 use Rattle.register.specs.Contracts.Mentions.{lonMention, featureMentions, lonMentions, mentionsAt, Follows, Asked}
-use Rattle.register.proofs.VariableTurns.{Turn, hereOf, is-here, turned, is-other, is-lon, stem-is, start-finds, long}
+use Rattle.register.proofs.VariableSteps.{VariableStep, hereOf, is-here, turned, is-other, is-lon, stem-is, start-finds, long}
 
 -- what is asked only of an answer, where there is none
 nothing : {A : Type 0} {b : Bool} → b ≡ false → b ≡ true → A
@@ -95,7 +95,7 @@ unfolding lonMentions
 other-next sc i v vs e = rw (e, add-one) refl
 
 pub on-other : {s : List ℕ} {q₀ i₀ : ℕ} {starts : List ℕ} {at len q i : ℕ} → Looking s q₀ i₀ starts at len q i
-    → {v : Variable} {to : List ℕ} {t : Bool} → Turn s starts at len q v to t → t ≡ false → Looking s q₀ i₀ to (v .at) (v .len) (v .next) (i + 1)
+    → {v : Variable} {to : List ℕ} {t : Bool} → VariableStep s starts at len q v to t → t ≡ false → Looking s q₀ i₀ to (v .at) (v .len) (v .next) (i + 1)
 on-other {s} {i = i} d {v} p h =
     record {
       along = turned p;
@@ -134,7 +134,7 @@ module _ {s : List ℕ} {c : Cursor} {starts : List ℕ} {at len q i : ℕ} (d :
         mention-fits = nothing a;
       }
 
-  pub one-lon : {v : Variable} {to : List ℕ} {t : Bool} → Turn s starts at len q v to t → t ≡ true → (lat : OptionalFloat)
+  pub one-lon : {v : Variable} {to : List ℕ} {t : Bool} → VariableStep s starts at len q v to t → t ≡ true → (lat : OptionalFloat)
       → maybeFloat lat ≡ variableOf (bytesAt (payload s) (v .at) (v .len - 4) ++ suffixLat) (variablesAt (payload s) (getD to (v .len - 2) 0))
       → Asked s true c (lonAnswer v i lat) to
   one-lon {v} p h lat e =

@@ -24,7 +24,7 @@ use Rattle.register.specs.Contracts.Gathered.{numbersIn, KeptControls}
 use Rattle.register.specs.Contracts.Mentions.{lonMentions, mentionsAt, mentionBy, Follows, Asked}
 use Rattle.register.specs.Contracts.Warnings.{firstIs, anyNameIs, ResolvedNames, AfterFeatures, kindBy}
 use Rattle.values.specs.Contracts.Warnings.{WarningSlice, pushed, allPushed}
-use Rattle.register.proofs.VariableTurns.{along}
+use Rattle.register.proofs.VariableSteps.{along}
 use Rattle.register.proofs.PartEvents.{eventAt, eventsAt, mention-events}
 use Rattle.register.proofs.KeptNumbers.{isControl, kept-is, kept-fits, kept-control, kept-warn, taken-more, feature-warns, names-same, names-more, lon-warns}
 use Rattle.values.specs.Laws.Warnings.{Fits, push-fits, one-kept, pushed-append}
@@ -137,7 +137,7 @@ module _ {s kept : List ℕ} {n : ℕ} {positions : List ℕ} {h : ℕ} {t₀ t 
 
 -- ---- variables, by their mentions
 -- those before the cursor c are done, behind f host features; j is the number of the next
-pub record Telling (s kept : List ℕ) (n : ℕ) (t₀ t : WarningSlice) (starts : List ℕ) (c : Cursor) (k f j : ℕ) : Type 0 where
+pub record WarningLoop (s kept : List ℕ) (n : ℕ) (t₀ t : WarningSlice) (starts : List ℕ) (c : Cursor) (k f j : ℕ) : Type 0 where
   pub follows : Follows s true c starts
   pub all : allPushed (warningsIn (variableEvents (sceneOf (payload s)) 0 (sceneOf (payload s) .variables))) t₀ ≡ allPushed (warningsIn (eventsAt (sceneOf (payload s)) (mentionsAt (payload s) true c))) t
   pub left : drop k (take n kept) ≡ numbersIn j (eventsAt (sceneOf (payload s)) (mentionsAt (payload s) true c))
@@ -145,9 +145,9 @@ pub record Telling (s kept : List ℕ) (n : ℕ) (t₀ t : WarningSlice) (starts
   pub as-long : length (t .out) ≡ length (t₀ .out)
   pub short : j ≤ f + c .q
 
-pub telling : (s kept : List ℕ) (n : ℕ) (t : WarningSlice) {q h f : ℕ} → Fits t → VariablesFrom (payload s) q → Rising [] (variablesAt (payload s) 0) → drop h (take n kept) ≡ numbersIn f (variableEvents (sceneOf (payload s)) 0 (sceneOf (payload s) .variables))
-    → Telling s kept n t t (replicate 32 0) (record { q = q; i = 0; at = 0; len = 0 }) h f f
-telling s kept n t {q} k e r g =
+pub warning-loop : (s kept : List ℕ) (n : ℕ) (t : WarningSlice) {q h f : ℕ} → Fits t → VariablesFrom (payload s) q → Rising [] (variablesAt (payload s) 0) → drop h (take n kept) ≡ numbersIn f (variableEvents (sceneOf (payload s)) 0 (sceneOf (payload s) .variables))
+    → WarningLoop s kept n t t (replicate 32 0) (record { q = q; i = 0; at = 0; len = 0 }) h f f
+warning-loop s kept n t {q} k e r g =
     record {
       follows = record { short = omega arith; along = λ o. along s e r };
       all = ap (λ (x : List Event). allPushed (warningsIn x) t) from;
@@ -160,7 +160,7 @@ telling s kept n t {q} k e r g =
     from : variableEvents (sceneOf (payload s)) 0 (sceneOf (payload s) .variables) ≡ eventsAt (sceneOf (payload s)) (lonMentions (sceneOf (payload s)) 0 (variablesAt (payload s) q))
     from = ap (variableEvents (sceneOf (payload s)) 0) (scene-lists (payload s) .1 ∙ e .all) ∙ (mention-events (sceneOf (payload s)) 0 (variablesAt (payload s) q))
 
-module _ {s kept : List ℕ} {n : ℕ} {t₀ t : WarningSlice} {starts starts′ : List ℕ} {c : Cursor} {k f j : ℕ} (d : Telling s kept n t₀ t starts c k f j) (m : code-mention.Mention) (a : Asked s true c m starts′) where
+module _ {s kept : List ℕ} {n : ℕ} {t₀ t : WarningSlice} {starts starts′ : List ℕ} {c : Cursor} {k f j : ℕ} (d : WarningLoop s kept n t₀ t starts c k f j) (m : code-mention.Mention) (a : Asked s true c m starts′) where
   abbrev lons : Scene
   lons = sceneOf (payload s)
 
@@ -184,7 +184,7 @@ module _ {s kept : List ℕ} {n : ℕ} {t₀ t : WarningSlice} {starts starts′
     pub lon-fits : b ≡ true → k < n
     lon-fits y = omega (arith, kept-fits (take n kept) k j _ _ lons-left (lon-event ∙ y), length-take-le n kept z)
 
-    pub lon-control : b ≡ true → {t′ : WarningSlice} {k′ : ℕ} → t′ ≡ t → k′ ≡ k + 1 → Telling s kept n t₀ t′ starts′ (m .next) k′ f (j + 1)
+    pub lon-control : b ≡ true → {t′ : WarningSlice} {k′ : ℕ} → t′ ≡ t → k′ ≡ k + 1 → WarningLoop s kept n t₀ t′ starts′ (m .next) k′ f (j + 1)
     lon-control y u v =
         rw (u, v, add-one j)
         (record {
@@ -197,7 +197,7 @@ module _ {s kept : List ℕ} {n : ℕ} {t₀ t : WarningSlice} {starts starts′
         })
 
     pub lon-warned : {positions : List ℕ} {h : ℕ} → ResolvedNames s positions h (lons .features) → b ≡ false → {t′ : WarningSlice} {k′ kind : ℕ} → kind ≡ kindBy (maybeFloat (m .lat)) (anyNameIs (payload s) (take h positions) (bytesAt (payload s) (m .at) (m .len)))
-        → t′ ≡ pushed (record { kind = kind; index = m .index }) t → k′ ≡ k → Telling s kept n t₀ t′ starts′ (m .next) k′ f (j + 1)
+        → t′ ≡ pushed (record { kind = kind; index = m .index }) t → k′ ≡ k → WarningLoop s kept n t₀ t′ starts′ (m .next) k′ f (j + 1)
     lon-warned g y x u v =
         rw (u, v, x, add-one j)
         (record {

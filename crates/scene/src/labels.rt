@@ -211,8 +211,8 @@ fn consider_reference(s: &[u8], b: Best, it: Item, i: usize) -> Best
     ensures { λ r. ⌜ bestBy r ≡ considerAt (bestBy b) (itemKey (itemBy (payload (now (s .entry))) it) i)
         (referencePoint (itemBy (payload (now (s .entry))) it)) ⌝ }
 {
-    let spot = reference_point(s, it);
-    if !spot.some {
+    let reference = reference_point(s, it);
+    if !reference.some {
         return b;
     }
     let key = Key {
@@ -221,7 +221,7 @@ fn consider_reference(s: &[u8], b: Best, it: Item, i: usize) -> Best
         col: it.col,
         order: i,
     };
-    consider_point(b, key, spot.x, spot.y)
+    consider_point(b, key, reference.x, reference.y)
 }
 
 // The first item from q on, as the i-th, becomes a candidate.

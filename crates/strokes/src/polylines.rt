@@ -4,7 +4,7 @@ ghost use mathlib.Core.Bool.{true};
 ghost use Prim.Native.Nat.{_≤_};
 ghost use lib.ListN.{length, take};
 ghost use Rattle.strokes.specs.Contracts.Space.{outputBy, most, Fits, KeepsFit, Bounds};
-ghost use Rattle.strokes.specs.Contracts.Space.{FillReady, RingReady, Fills, DrawsLoaded, DrawsRing};
+ghost use Rattle.strokes.specs.Contracts.Space.{CanFill, CanDrawRing, Fills, DrawsLoaded, DrawsRing};
 use crate::positions::draw_without_writing;
 use crate::positions::stroke;
 use crate::state::Ctx;
@@ -30,7 +30,7 @@ fn fill(
     features: &mut [u32],
     st: State,
 ) -> State
-    requires { ⌜ FillReady l (length (now work)) (now positions) (now features) st ⌝ }
+    requires { ⌜ CanFill l (length (now work)) (now positions) (now features) st ⌝ }
     ensures { λ r. ⌜ Fills cx p l
         (now (work .entry)) (now (positions .entry)) (now (features .entry)) st
         (now (work .exit)) (now (positions .exit)) (now (features .exit)) r ⌝ }
@@ -149,7 +149,7 @@ pub fn draw_ring(
     features: &mut [u32],
     st: State,
 ) -> State
-    requires { ⌜ RingReady d (length (now work)) (now positions) (now features) st ⌝ }
+    requires { ⌜ CanDrawRing d (length (now work)) (now positions) (now features) st ⌝ }
     ensures { λ r. ⌜ DrawsRing cx p d
         (now (work .entry)) (now (positions .entry)) (now (features .entry)) st
         (now (positions .exit)) (now (features .exit)) r ⌝ }

@@ -6,7 +6,7 @@ ghost use lib.ListN.{length};
 ghost use Rattle.values.specs.Contracts.Points.{pointWith, pointsIn};
 ghost use Rattle.strokes.specs.Strokes.{strokeOf, drawWithoutWriting, pointOf};
 ghost use Rattle.strokes.specs.Contracts.Space.{behindAt, projectAndClose, Rewrites, firstRepeatedIn, Finished};
-ghost use Rattle.strokes.specs.Contracts.Space.{Strokes, Warns, StrokeReady};
+ghost use Rattle.strokes.specs.Contracts.Space.{Strokes, Warns, CanStroke};
 use crate::state::Ctx;
 use crate::state::FEATURE_ROOM;
 use crate::state::POSITION_ROOM;
@@ -121,7 +121,7 @@ pub fn stroke(
     features: &mut [u32],
     st: State,
 ) -> State
-    requires { ⌜ StrokeReady (length (now work)) from to (now positions) (now features) st ⌝ }
+    requires { ⌜ CanStroke (length (now work)) from to (now positions) (now features) st ⌝ }
     ensures { λ r. ⌜ Strokes (strokeOf cx p geometry role (pointsIn (now (work .entry)) from to) (st .budget))
         (now (positions .entry)) (now (features .entry)) st (now (positions .exit)) (now (features .exit)) r ⌝ }
 {

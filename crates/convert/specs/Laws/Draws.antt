@@ -90,9 +90,9 @@ record Told (b : Budget) (t : Trace) : Type 0 where
   replays : TraceReplays b t
   fives : Each Five (warningsIn (t .events))
 
-told-quiet : (b : Budget) → Told b (noEvents b)
+told-no-events : (b : Budget) → Told b (noEvents b)
 unfolding drawsIn warningsIn
-told-quiet b = record { replays = still-replays [] b refl; fives = tt }
+told-no-events b = record { replays = still-replays [] b refl; fives = tt }
 
 told-need : (n : ℕ) (b : Budget) → Told b (oneEvent (need n) b)
 unfolding drawsIn warningsIn
@@ -131,20 +131,20 @@ module _ (cx : Ctx) where
     unfolding strokeOf
     told-stroke geometry role ps b = told-then (told-densified ps b) (told-feature p geometry role _ _)
 
-    told-unwritten : (ps : List Point) (b : Budget) → Told b (drawWithoutWriting cx (p .item) ps b)
+    told-not-written : (ps : List Point) (b : Budget) → Told b (drawWithoutWriting cx (p .item) ps b)
     unfolding drawWithoutWriting
-    told-unwritten ps b = told-then (told-densified ps b) (told-missing (p .item) _)
+    told-not-written ps b = told-then (told-densified ps b) (told-missing (p .item) _)
 
     told-fill : (outline : Maybe (List Point)) (ring : List Point) (b : Budget) → Told b (fillOf cx p outline ring b)
     unfolding fillOf
-    told-fill outline ring b = told-pick (p .fill && leb 4 (length (orValue outline ring))) (told-stroke 2 1 (orValue outline ring) b) (told-quiet b)
+    told-fill outline ring b = told-pick (p .fill && leb 4 (length (orValue outline ring))) (told-stroke 2 1 (orValue outline ring) b) (told-no-events b)
 
     told-shape : (closed : Bool) (ps ring : List Point) (outline : Maybe (List Point)) (b : Budget) → Told b (shapeTrace cx p closed ps ring outline b)
     unfolding shapeTrace
     told-shape closed ps ring outline b =
-        told-pick (ltb (length ps) 2) (told-quiet b)
+        told-pick (ltb (length ps) 2) (told-no-events b)
         (told-pick (closed && leb 4 (length ring)) (told-stroke 2 0 ring b)
-        (told-then (told-fill outline ring b) (told-pick closed (told-unwritten ps _) (told-stroke 1 0 ps _))))
+        (told-then (told-fill outline ring b) (told-pick closed (told-not-written ps _) (told-stroke 1 0 ps _))))
 
     told-polyline : (closed : Bool) (ps : List Point) (outline : Maybe (List Point)) (b : Budget) → Told b (polylineOrPolygonOf cx p closed ps outline b)
     unfolding polylineOrPolygonOf
@@ -170,7 +170,7 @@ module _ (cx : Ctx) where
 
   told-paths : (p : Props) (many : Bool) (i : ℕ) (qs outlines : List DrawnPath) (b : Budget) → Told b (pathsOf cx p many i qs outlines b)
   unfolding pathsOf
-  told-paths p many i [] outlines b = told-quiet b
+  told-paths p many i [] outlines b = told-no-events b
   told-paths p many i (q ∷ qs) outlines b =
       told-then (told-path (withPart p (cond many (suc i) 0)) q (firstPath outlines) b) (told-paths p many (suc i) qs (laterPaths outlines) _)
 
@@ -188,12 +188,12 @@ module _ (cx : Ctx) where
   told-drawn p it Points b = told-points p (it .closed) (it .points) (it .fillPoints) b
   told-drawn p it Paths b = told-all-paths p (it .paths) (it .fillPaths) b
   told-drawn p it Missing b = told-missing (p .item) b
-  told-drawn p it Nothing b = told-quiet b
+  told-drawn p it Nothing b = told-no-events b
 
   module _ (rule : ℕ → Bool) where
     told-items : (i : ℕ) (its : List DrawnItem) (b : Budget) → Told b (itemsOf rule cx i its b)
     unfolding itemsOf itemOf
-    told-items i [] b = told-quiet b
+    told-items i [] b = told-no-events b
     told-items i (it ∷ its) b = told-then (told-drawn (propsOf rule i it) it (shapeOf it) b) (told-items (suc i) its _)
 
 -- ---- convert

@@ -64,38 +64,38 @@ end-each Q p [] h k = tt
 end-each Q p (q ∷ []) h k = (h, tt)
 end-each Q p (q ∷ r ∷ rs) h k = (k .0, end-each Q p (r ∷ rs) h (k .1))
 
-sealed-length : (ps : List Point) → length (firstRepeated ps) ≡ length ps
-sealed-length [] = refl
-sealed-length (p ∷ ps) = ap suc (end-length p ps)
+repeated-length : (ps : List Point) → length (firstRepeated ps) ≡ length ps
+repeated-length [] = refl
+repeated-length (p ∷ ps) = ap suc (end-length p ps)
 
-sealed-closed : (ps : List Point) → Closed (firstRepeated ps)
-sealed-closed [] = tt
-sealed-closed (p ∷ []) = refl
-sealed-closed (p ∷ q ∷ qs) = end-last p p q qs
+repeated-closed : (ps : List Point) → Closed (firstRepeated ps)
+repeated-closed [] = tt
+repeated-closed (p ∷ []) = refl
+repeated-closed (p ∷ q ∷ qs) = end-last p p q qs
 
-sealed-each : (Q : Point → Type 0) (ps : List Point) → Each Q ps → Each Q (firstRepeated ps)
-sealed-each Q [] h = tt
-sealed-each Q (p ∷ ps) h = (h .0, end-each Q p ps (h .0) (h .1))
+repeated-each : (Q : Point → Type 0) (ps : List Point) → Each Q ps → Each Q (firstRepeated ps)
+repeated-each Q [] h = tt
+repeated-each Q (p ∷ ps) h = (h .0, end-each Q p ps (h .0) (h .1))
 
 -- ---- traces whose features are well formed
-record Fine (t : Trace) : Type 0 where
+record Formed (t : Trace) : Type 0 where
   each : AllWellFormed (featuresIn (t .events))
 
-fine-feature : (p : Props) (geometry role : ℕ) (ps : List Point) (b : Budget) → Geometry geometry ps → Each Earthly ps → Fine (oneEvent (featureOf p geometry role ps) b)
+formed-feature : (p : Props) (geometry role : ℕ) (ps : List Point) (b : Budget) → Geometry geometry ps → Each Earthly ps → Formed (oneEvent (featureOf p geometry role ps) b)
 unfolding featureOf featuresIn
-fine-feature p geometry role ps b g h = record { each = (record { geometry = g; counted = refl; globe = globe ps h }, tt) }
+formed-feature p geometry role ps b g h = record { each = (record { geometry = g; counted = refl; globe = globe ps h }, tt) }
 
-fine-draws : (m : Made) → Fine (drawsTrace m)
+formed-draws : (m : Made) → Formed (drawsTrace m)
 unfolding featuresIn
-fine-draws m = record { each = go (m .draws) }
+formed-draws m = record { each = go (m .draws) }
   where
     go : (ds : List GrantedDraw) → AllWellFormed (featuresIn (map drew ds))
     go [] = tt
     go (d ∷ ds) = go ds
 
-fine-then : {t u : Trace} → Fine t → Fine u → Fine (andThenTrace t (λ r. u))
+formed-then : {t u : Trace} → Formed t → Formed u → Formed (andThenTrace t (λ r. u))
 unfolding featuresIn
-fine-then {t} {u} h k = record { each = go (t .events) (h .each) }
+formed-then {t} {u} h k = record { each = go (t .events) (h .each) }
   where
     go : (es : List Event) → AllWellFormed (featuresIn es) → AllWellFormed (featuresIn (es ++ u .events))
     go [] h = k .each
@@ -104,22 +104,22 @@ fine-then {t} {u} h k = record { each = go (t .events) (h .each) }
     go (feature f ps ∷ es) h = (h .0, go es (h .1))
     go (warned w ∷ es) h = go es h
 
-fine-pick : {t u : Trace} (c : Bool) → (c ≡ true → Fine t) → (c ≡ false → Fine u) → Fine (pickTrace c t u)
-fine-pick true h k = h refl
-fine-pick false h k = k refl
+formed-pick : {t u : Trace} (c : Bool) → (c ≡ true → Formed t) → (c ≡ false → Formed u) → Formed (pickTrace c t u)
+formed-pick true h k = h refl
+formed-pick false h k = k refl
 
 -- no features at all
-fine-quiet : (b : Budget) → Fine (noEvents b)
+formed-no-events : (b : Budget) → Formed (noEvents b)
 unfolding featuresIn
-fine-quiet b = record { each = tt }
+formed-no-events b = record { each = tt }
 
-fine-need : (n : ℕ) (b : Budget) → Fine (oneEvent (need n) b)
+formed-need : (n : ℕ) (b : Budget) → Formed (oneEvent (need n) b)
 unfolding featuresIn
-fine-need n b = record { each = tt }
+formed-need n b = record { each = tt }
 
-fine-missing : (item : ℕ) (b : Budget) → Fine (missing item b)
+formed-missing : (item : ℕ) (b : Budget) → Formed (missing item b)
 unfolding featuresIn
-fine-missing item b = record { each = tt }
+formed-missing item b = record { each = tt }
 
 -- ---- canvas points that a line or a ring can be drawn through: at most 2 ^ 22 in size, so that what stands between them is at most 2 ^ 24
 abbrev Drawable : List Point → Type 0
@@ -261,107 +261,107 @@ module _ (r : Registration) (S : Sound r) (step flatten : Float) where
   carried-least ps b = rw length-map (densify-least step scale ps b)
 
   module _ (p : Props) where
-    fine-line : (role : ℕ) (ps : List Point) (b : Budget) → Drawable ps → 2 ≤ length ps → Fine (strokeOf cx p 1 role ps b)
+    formed-line : (role : ℕ) (ps : List Point) (b : Budget) → Drawable ps → 2 ≤ length ps → Formed (strokeOf cx p 1 role ps b)
     unfolding strokeOf
-    fine-line role ps b h l =
+    formed-line role ps b h l =
         let e = carried-earthly ps b h in
-        fine-then (fine-draws (densified ps b)) (fine-feature p 1 role (carried ps b) _ (record { positions = positions (carried ps b) e; many = omega (arith, carried-least ps b) }) e)
+        formed-then (formed-draws (densified ps b)) (formed-feature p 1 role (carried ps b) _ (record { positions = positions (carried ps b) e; many = omega (arith, carried-least ps b) }) e)
 
-    fine-ring : (role : ℕ) (ps : List Point) (b : Budget) → Drawable ps → 4 ≤ length ps → Fine (strokeOf cx p 2 role ps b)
+    formed-ring : (role : ℕ) (ps : List Point) (b : Budget) → Drawable ps → 4 ≤ length ps → Formed (strokeOf cx p 2 role ps b)
     unfolding strokeOf
-    fine-ring role ps b h l =
+    formed-ring role ps b h l =
         let qs = carried ps b in
-        let e = sealed-each Earthly qs (carried-earthly ps b h) in
-        fine-then (fine-draws (densified ps b))
-        (fine-feature p 2 role (firstRepeated qs) _ (record { positions = positions (firstRepeated qs) e; many = omega (arith, carried-least ps b, sealed-length qs); closed = sealed-closed qs }) e)
+        let e = repeated-each Earthly qs (carried-earthly ps b h) in
+        formed-then (formed-draws (densified ps b))
+        (formed-feature p 2 role (firstRepeated qs) _ (record { positions = positions (firstRepeated qs) e; many = omega (arith, carried-least ps b, repeated-length qs); closed = repeated-closed qs }) e)
 
-    fine-unwritten : (ps : List Point) (b : Budget) → Fine (drawWithoutWriting cx (p .item) ps b)
+    formed-not-written : (ps : List Point) (b : Budget) → Formed (drawWithoutWriting cx (p .item) ps b)
     unfolding drawWithoutWriting
-    fine-unwritten ps b = fine-then (fine-draws (densified ps b)) (fine-missing (p .item) _)
+    formed-not-written ps b = formed-then (formed-draws (densified ps b)) (formed-missing (p .item) _)
 
-    fine-dot : (q : Point) (b : Budget) → NearPoint q → Fine (pointOf cx p q b)
+    formed-dot : (q : Point) (b : Budget) → NearPoint q → Formed (pointOf cx p q b)
     unfolding pointOf
-    fine-dot q b h =
+    formed-dot q b h =
         let i = near-in q h in
         let e : Each Earthly (projectPoint (projectionOf r) q ∷ []) = (placed-earthly q (record { x = wider 22 24 (q .x) (lit≤ tt) (i .x); y = wider 22 24 (q .y) (lit≤ tt) (i .y) }), tt) in
-        fine-feature p 0 0 (projectPoint (projectionOf r) q ∷ []) b (positions (projectPoint (projectionOf r) q ∷ []) e, refl) e
+        formed-feature p 0 0 (projectPoint (projectionOf r) q ∷ []) b (positions (projectPoint (projectionOf r) q ∷ []) e, refl) e
 
-    fine-fill : (outline : Maybe (List Point)) (ring : List Point) (b : Budget) → Holds Drawable outline → Drawable ring → Fine (fillOf cx p outline ring b)
+    formed-fill : (outline : Maybe (List Point)) (ring : List Point) (b : Budget) → Holds Drawable outline → Drawable ring → Formed (fillOf cx p outline ring b)
     unfolding fillOf
-    fine-fill outline ring b h k =
+    formed-fill outline ring b h k =
         let ps = orValue outline ring in
-        fine-pick (p .fill && leb 4 (length ps)) (λ t. fine-ring 1 ps b (or-holds Drawable outline ring h k) (leb-true _ _ (and-right (p .fill) _ t))) (λ t. fine-quiet b)
+        formed-pick (p .fill && leb 4 (length ps)) (λ t. formed-ring 1 ps b (or-holds Drawable outline ring h k) (leb-true _ _ (and-right (p .fill) _ t))) (λ t. formed-no-events b)
 
-    fine-shape : (closed : Bool) (ps ring : List Point) (outline : Maybe (List Point)) (b : Budget) →
-        Drawable ps → Drawable ring → Holds Drawable outline → Fine (shapeTrace cx p closed ps ring outline b)
+    formed-shape : (closed : Bool) (ps ring : List Point) (outline : Maybe (List Point)) (b : Budget) →
+        Drawable ps → Drawable ring → Holds Drawable outline → Formed (shapeTrace cx p closed ps ring outline b)
     unfolding shapeTrace
-    fine-shape closed ps ring outline b h i j =
-        fine-pick (ltb (length ps) 2) (λ t. fine-quiet b) (λ n.
-        fine-pick (closed && leb 4 (length ring)) (λ t. fine-ring 0 ring b i (leb-true _ _ (and-right closed _ t))) (λ t.
-        fine-then (fine-fill outline ring b j i) (fine-pick closed (λ t. fine-unwritten ps _) (λ t. fine-line 0 ps _ h (omega (arith, ltb-false (length ps) 2 n))))))
+    formed-shape closed ps ring outline b h i j =
+        formed-pick (ltb (length ps) 2) (λ t. formed-no-events b) (λ n.
+        formed-pick (closed && leb 4 (length ring)) (λ t. formed-ring 0 ring b i (leb-true _ _ (and-right closed _ t))) (λ t.
+        formed-then (formed-fill outline ring b j i) (formed-pick closed (λ t. formed-not-written ps _) (λ t. formed-line 0 ps _ h (omega (arith, ltb-false (length ps) 2 n))))))
 
-    fine-polyline : (closed : Bool) (ps : List Point) (outline : Maybe (List Point)) (b : Budget) → Drawable ps → Holds Drawable outline → Fine (polylineOrPolygonOf cx p closed ps outline b)
+    formed-polyline : (closed : Bool) (ps : List Point) (outline : Maybe (List Point)) (b : Budget) → Drawable ps → Holds Drawable outline → Formed (polylineOrPolygonOf cx p closed ps outline b)
     unfolding polylineOrPolygonOf
-    fine-polyline closed ps outline b h i =
-        fine-then (fine-need _ b) (fine-shape closed ps (closeRingOf ps) (closedOutline outline) b h (close-drawable ps h) (outline-drawable outline i))
+    formed-polyline closed ps outline b h i =
+        formed-then (formed-need _ b) (formed-shape closed ps (closeRingOf ps) (closedOutline outline) b h (close-drawable ps h) (outline-drawable outline i))
 
-    fine-made : (m : Made) → Drawable (m .points) → 4 ≤ length (m .points) → Fine (ringTrace cx p m)
+    formed-made : (m : Made) → Drawable (m .points) → 4 ≤ length (m .points) → Formed (ringTrace cx p m)
     unfolding ringTrace
-    fine-made m h l = fine-then (fine-draws m) (fine-then (fine-need _ (m .after)) (fine-ring 0 (m .points) _ h l))
+    formed-made m h l = formed-then (formed-draws m) (formed-then (formed-need _ (m .after)) (formed-ring 0 (m .points) _ h l))
 
-    fine-outline : (closed : Bool) (ps : List Point) (o : Maybe DrawnPath) (b : Budget) → Drawable ps → Holds R.NearPath o → Fine (outlineOf cx p closed ps o b)
+    formed-outline : (closed : Bool) (ps : List Point) (o : Maybe DrawnPath) (b : Budget) → Drawable ps → Holds R.NearPath o → Formed (outlineOf cx p closed ps o b)
     unfolding outlineOf
-    fine-outline closed ps none b h i = fine-polyline closed ps none b h tt
-    fine-outline closed ps (some o) b h i = fine-then (fine-draws (pathPointsOf flatten o b)) (fine-polyline closed ps (some _) _ h (path-drawable flatten o b i))
+    formed-outline closed ps none b h i = formed-polyline closed ps none b h tt
+    formed-outline closed ps (some o) b h i = formed-then (formed-draws (pathPointsOf flatten o b)) (formed-polyline closed ps (some _) _ h (path-drawable flatten o b i))
 
-    fine-path : (path : DrawnPath) (o : Maybe DrawnPath) (b : Budget) → R.NearPath path → Holds R.NearPath o → Fine (pathOf cx p path o b)
+    formed-path : (path : DrawnPath) (o : Maybe DrawnPath) (b : Budget) → R.NearPath path → Holds R.NearPath o → Formed (pathOf cx p path o b)
     unfolding pathOf
-    fine-path path o b h i = fine-then (fine-draws (pathPointsOf flatten path b)) (fine-outline (path .closed) _ o _ (path-drawable flatten path b h) i)
+    formed-path path o b h i = formed-then (formed-draws (pathPointsOf flatten path b)) (formed-outline (path .closed) _ o _ (path-drawable flatten path b h) i)
 
-    fine-points : (closed : Bool) (ps outline : Maybe (List Point)) (b : Budget) → Holds Drawable ps → Holds Drawable outline → Fine (pointsTrace cx p closed ps outline b)
+    formed-points : (closed : Bool) (ps outline : Maybe (List Point)) (b : Budget) → Holds Drawable ps → Holds Drawable outline → Formed (pointsTrace cx p closed ps outline b)
     unfolding pointsTrace
-    fine-points closed none outline b h i = fine-missing (p .item) b
-    fine-points closed (some ps) outline b h i = fine-polyline closed ps outline b h i
+    formed-points closed none outline b h i = formed-missing (p .item) b
+    formed-points closed (some ps) outline b h i = formed-polyline closed ps outline b h i
 
-  fine-paths : (p : Props) (many : Bool) (i : ℕ) (qs outlines : List DrawnPath) (b : Budget) → Each R.NearPath qs → Each R.NearPath outlines → Fine (pathsOf cx p many i qs outlines b)
+  formed-paths : (p : Props) (many : Bool) (i : ℕ) (qs outlines : List DrawnPath) (b : Budget) → Each R.NearPath qs → Each R.NearPath outlines → Formed (pathsOf cx p many i qs outlines b)
   unfolding pathsOf
-  fine-paths p many i [] outlines b h k = fine-quiet b
-  fine-paths p many i (q ∷ qs) outlines b h k =
-      fine-then (fine-path (withPart p (cond many (suc i) 0)) q (firstPath outlines) b (h .0) (head-near outlines k))
-      (fine-paths p many (suc i) qs (laterPaths outlines) _ (h .1) (tail-near outlines k))
+  formed-paths p many i [] outlines b h k = formed-no-events b
+  formed-paths p many i (q ∷ qs) outlines b h k =
+      formed-then (formed-path (withPart p (cond many (suc i) 0)) q (firstPath outlines) b (h .0) (head-near outlines k))
+      (formed-paths p many (suc i) qs (laterPaths outlines) _ (h .1) (tail-near outlines k))
 
-  fine-all-paths : (p : Props) (qs outlines : List DrawnPath) (b : Budget) → Each R.NearPath qs → Each R.NearPath outlines → Fine (pathsTrace cx p qs outlines b)
+  formed-all-paths : (p : Props) (qs outlines : List DrawnPath) (b : Budget) → Each R.NearPath qs → Each R.NearPath outlines → Formed (pathsTrace cx p qs outlines b)
   unfolding pathsTrace
-  fine-all-paths p [] outlines b h k = fine-missing (p .item) b
-  fine-all-paths p (q ∷ qs) outlines b h k = fine-paths p (ltb 0 (length qs)) 0 (q ∷ qs) outlines b h k
+  formed-all-paths p [] outlines b h k = formed-missing (p .item) b
+  formed-all-paths p (q ∷ qs) outlines b h k = formed-paths p (ltb 0 (length qs)) 0 (q ∷ qs) outlines b h k
 
-  fine-drawn : (p : Props) (it : DrawnItem) (s : Shape) (b : Budget) → NearItem it → NearShape s → Fine (drawnOf cx p it s b)
+  formed-drawn : (p : Props) (it : DrawnItem) (s : Shape) (b : Budget) → NearItem it → NearShape s → Formed (drawnOf cx p it s b)
   unfolding drawnOf
-  fine-drawn p it (Box x y w h rad) b N k =
-      fine-made p (boxRingOf step scale flatten (at x y) w h rad b) (box-in step scale flatten (at x y) w h rad b (k .0) (k .1) (k .2) (k .3)) (ring-least (box-ring step scale flatten (at x y) w h rad b))
-  fine-drawn p it (Ellipse x y w h) b N k =
-      fine-made p (ellipseRingOf step scale flatten (at x y) (half w) (half h) b) (ellipse-in step scale flatten (at x y) (half w) (half h) b (k .0) (half-near w (k .1)) (half-near h (k .2)))
+  formed-drawn p it (Box x y w h rad) b N k =
+      formed-made p (boxRingOf step scale flatten (at x y) w h rad b) (box-in step scale flatten (at x y) w h rad b (k .0) (k .1) (k .2) (k .3)) (ring-least (box-ring step scale flatten (at x y) w h rad b))
+  formed-drawn p it (Ellipse x y w h) b N k =
+      formed-made p (ellipseRingOf step scale flatten (at x y) (half w) (half h) b) (ellipse-in step scale flatten (at x y) (half w) (half h) b (k .0) (half-near w (k .1)) (half-near h (k .2)))
       (omega (arith, ring-least (ellipse-ring step scale flatten (at x y) (half w) (half h) b)))
-  fine-drawn p it (Circle x y c) b N k =
-      fine-made p (ellipseRingOf step scale flatten (at x y) c c b) (ellipse-in step scale flatten (at x y) c c b (k .0) (k .1) (k .1))
+  formed-drawn p it (Circle x y c) b N k =
+      formed-made p (ellipseRingOf step scale flatten (at x y) c c b) (ellipse-in step scale flatten (at x y) c c b (k .0) (k .1) (k .1))
       (omega (arith, ring-least (ellipse-ring step scale flatten (at x y) c c b)))
-  fine-drawn p it (Dot x y) b N k = fine-dot p (at x y) b k
-  fine-drawn p it Points b N k = fine-points p (it .closed) (it .points) (it .fillPoints) b (listed-drawable (it .points) (N .points)) (listed-drawable (it .fillPoints) (N .fillPoints))
-  fine-drawn p it Paths b N k = fine-all-paths p (it .paths) (it .fillPaths) b (N .paths) (N .fillPaths)
-  fine-drawn p it Missing b N k = fine-missing (p .item) b
-  fine-drawn p it Nothing b N k = fine-quiet b
+  formed-drawn p it (Dot x y) b N k = formed-dot p (at x y) b k
+  formed-drawn p it Points b N k = formed-points p (it .closed) (it .points) (it .fillPoints) b (listed-drawable (it .points) (N .points)) (listed-drawable (it .fillPoints) (N .fillPoints))
+  formed-drawn p it Paths b N k = formed-all-paths p (it .paths) (it .fillPaths) b (N .paths) (N .fillPaths)
+  formed-drawn p it Missing b N k = formed-missing (p .item) b
+  formed-drawn p it Nothing b N k = formed-no-events b
 
   module _ (rule : ℕ → Bool) where
-    fine-items : (i : ℕ) (its : List DrawnItem) (b : Budget) → Each NearItem its → Fine (itemsOf rule cx i its b)
+    formed-items : (i : ℕ) (its : List DrawnItem) (b : Budget) → Each NearItem its → Formed (itemsOf rule cx i its b)
     unfolding itemsOf itemOf
-    fine-items i [] b h = fine-quiet b
-    fine-items i (it ∷ its) b h = fine-then (fine-drawn (propsOf rule i it) it (shapeOf it) b (h .0) (shape-measured it (h .0) .near)) (fine-items (suc i) its _ (h .1))
+    formed-items i [] b h = formed-no-events b
+    formed-items i (it ∷ its) b h = formed-then (formed-drawn (propsOf rule i it) it (shapeOf it) b (h .0) (shape-measured it (h .0) .near)) (formed-items (suc i) its _ (h .1))
 
-fine-spent : (b : Budget) → Fine (spentOf b)
+formed-spent : (b : Budget) → Formed (spentOf b)
 unfolding spentOf featuresIn
-fine-spent b = fine-pick (b .hit) (λ t. record { each = tt }) (λ t. fine-quiet b)
+formed-spent b = formed-pick (b .hit) (λ t. record { each = tt }) (λ t. formed-no-events b)
 
 pub convert-well-formed : (rule : ℕ → Bool) (r : Registration) (step flatten : Float) (its : List DrawnItem) (b : Budget) → Sound r → Each NearItem its →
     AllWellFormed (featuresIn (convertOf rule (record { projection = projectionOf r; step = step; flatten = flatten }) its b .events))
 unfolding convertOf
-convert-well-formed rule r step flatten its b S N = fine-then (fine-items r S step flatten rule 0 its b N) (fine-spent _) .each
+convert-well-formed rule r step flatten its b S N = formed-then (formed-items r S step flatten rule 0 its b N) (formed-spent _) .each

@@ -32,9 +32,9 @@ use Rattle.strokes.specs.Space.{Output}
 use Rattle.strokes.specs.Contracts.Space.{most, outputBy, Applied, Small, DrawsQuietly, RingLoaded, RingEnds, DrawsRing}
 
 -- from a work slice of the same length
-pub played-from : {a : Trace} {j k : ℕ} {ps : List Float} {fs v : List ℕ} (st : State) {u : Output} {b : Budget} → j ≡ k
+pub applied-from : {a : Trace} {j k : ℕ} {ps : List Float} {fs v : List ℕ} (st : State) {u : Output} {b : Budget} → j ≡ k
     → Applied a (outputBy j ps fs v st) u b → Applied a (outputBy k ps fs v st) u b
-played-from st e h = rw e at h
+applied-from st e h = rw e at h
 
 -- ---- rings
 -- a ring has points, and few
@@ -83,9 +83,9 @@ module _ {w w′ : List Float} {m : Made} {d : PointCursor} (one : Written w w�
       }
 
   -- and drawn
-  pub ring-played : (cx : Ctx) (p : Props) {st r : State} {ps ps′ : List Float} {fs fs′ : List ℕ} → DrawsRing cx p d w′ ps fs st ps′ fs′ r
+  pub ring-applied : (cx : Ctx) (p : Props) {st r : State} {ps ps′ : List Float} {fs fs′ : List ℕ} → DrawsRing cx p d w′ ps fs st ps′ fs′ r
       → DrawsQuietly (ringTrace cx p m) w ps fs st w′ ps′ fs′ r
-  ring-played cx p {st = st} drawn v h = played-from st (one .kept) (drawn m ringed v (rw (one .kept) h))
+  ring-applied cx p {st = st} drawn v h = applied-from st (one .kept) (drawn m ringed v (rw (one .kept) h))
 
 -- ---- points
 module _ (cx : Ctx) (p : Props) (closed : Bool) {ps : Maybe (List Point)} (outline : Maybe (List Point)) (b : Budget) {c : Budget} {t u : Output} where

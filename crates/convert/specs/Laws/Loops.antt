@@ -25,8 +25,8 @@ use Rattle.convert.specs.Convert.{firstPath, laterPaths, outlineOf, path
 use Rattle.strokes.specs.Strokes.{Trace, noEvents, oneEvent, warned, andThenTrace, polylineOrPolygonOf}
 use Rattle.strokes.specs.Space.{Output}
 use Rattle.strokes.specs.Contracts.Space.{outputBy, most, Fits, Applied, Bounds, Loads, LoadsPath, outlineBy}
-use Rattle.strokes.specs.Laws.Applying.{played-quiet, played-stuck, played-then, played-drawn, Onward, onward-next}
-use Rattle.strokes.specs.Laws.Loading.{laid-bounds}
+use Rattle.strokes.specs.Laws.Applying.{applied-no-events, applied-stuck, applied-then, applied-drawn, Onward, onward-next}
+use Rattle.strokes.specs.Laws.Loading.{loaded-bounds}
 
 -- ---- one path
 pub path-fits : {n q : ℕ} {r : Path} → PathWithin n q r → PathFits n r
@@ -34,8 +34,8 @@ path-fits h = record { start = h .start; cubics = h .cubics; points = h .points 
 
 module _ (w w′ : List Float) (tol : Float) (path : DrawnPath) (b : Budget) (l : Workspace) where
   path-bounds : (outline : Maybe DrawnPath) → LoadsPath w w′ tol path outline b l → l .ok ≡ true → Bounds l (length w′) × (l .budget .left ≤ most)
-  path-bounds none h fits = (laid-bounds h fits, h .left fits)
-  path-bounds (some o) h fits = (laid-bounds h fits, h .left fits)
+  path-bounds none h fits = (loaded-bounds h fits, h .left fits)
+  path-bounds (some o) h fits = (loaded-bounds h fits, h .left fits)
 
   path-kept : (outline : Maybe DrawnPath) → LoadsPath w w′ tol path outline b l → length w′ ≡ length w
   path-kept none h = h .kept
@@ -53,18 +53,18 @@ path-drawn : (cx : Ctx) (p : Props) (path : DrawnPath) (outline : Maybe DrawnPat
 unfolding pathOf outlineOf
 path-drawn cx p path none b w w′ l h draw =
     let m = pathPointsOf (cx .flatten) path b in
-    played-drawn m (λ r. outlineOf cx p (path .closed) (m .points) none r) (draw w (m .points) none (m .after) h)
+    applied-drawn m (λ r. outlineOf cx p (path .closed) (m .points) none r) (draw w (m .points) none (m .after) h)
 path-drawn cx p path (some o) b w w′ l h draw =
     let m = pathPointsOf (cx .flatten) path b in
     let n = pathPointsOf (cx .flatten) o (m .after) in
-    played-drawn m (λ r. outlineOf cx p (path .closed) (m .points) (some o) r)
-    (played-drawn n (λ r. polylineOrPolygonOf cx p (path .closed) (m .points) (some (n .points)) r) (draw w (m .points) (some (n .points)) (n .after) h))
+    applied-drawn m (λ r. outlineOf cx p (path .closed) (m .points) (some o) r)
+    (applied-drawn n (λ r. polylineOrPolygonOf cx p (path .closed) (m .points) (some (n .points)) r) (draw w (m .points) (some (n .points)) (n .after) h))
 
-pub path-played : (cx : Ctx) {p props : Props} (path : DrawnPath) (outline : Maybe DrawnPath) (w w′ : List Float) (l : Workspace) {positions : List Float} {features warnings : List ℕ} (st : State) {u : Output} {c : Budget}
+pub path-applied : (cx : Ctx) {p props : Props} (path : DrawnPath) (outline : Maybe DrawnPath) (w w′ : List Float) (l : Workspace) {positions : List Float} {features warnings : List ℕ} (st : State) {u : Output} {c : Budget}
     → LoadsPath w w′ (cx .flatten) path outline (st .budget) l → props ≡ p
     → ((v : List Float) (ps : List Point) (o : Maybe (List Point)) (d : Budget) → Loads v w′ (path .closed) ps o d l → Applied (polylineOrPolygonOf cx props (path .closed) ps o d) (outputBy (length w′) positions features warnings st) u c)
     → Applied (pathOf cx p path outline (st .budget)) (outputBy (length w) positions features warnings st) u c
-path-played cx path outline w w′ l st h e draw =
+path-applied cx path outline w w′ l st h e draw =
     rw (← e, ← path-kept w w′ (cx .flatten) path (st .budget) l outline h) (path-drawn cx _ path outline (st .budget) w w′ l h draw)
 
 -- ---- a loop: i are done, which lie before q; what plays the rest from sheet t on plays the whole from t₀ on
@@ -84,11 +84,11 @@ none-done a t b q h =
 module _ {whole rest : Trace} {t₀ t : Output} {b : Budget} {q i : ℕ} (d : Loop whole t₀ t rest b q i) where
   -- nothing is left
   all-done : rest ≡ noEvents b → Applied whole t₀ t b
-  all-done e = d .onward t b (rw e (played-quiet t b (d .fits)))
+  all-done e = d .onward t b (rw e (applied-no-events t b (d .fits)))
 
   -- something has lacked room
   pub no-more : (t .number ≡ 0 → ⊥) → Applied whole t₀ t b
-  no-more n = d .onward t b (played-stuck rest t b n (d .fits))
+  no-more n = d .onward t b (applied-stuck rest t b n (d .fits))
 
   one-done : {a : Trace} {u : Output} {c : Budget} {next : ℕ} (f : Budget → Trace) → rest ≡ andThenTrace a f → Applied a t u c → q < next → Loop whole t₀ u (f c) c next (i + 1)
   one-done f e one more =
@@ -150,8 +150,8 @@ module _ (b : Budget) where
 module _ (rule : ℕ → Bool) (cx : Ctx) (its : List DrawnItem) (b : Budget) {t u : Output} {c : Budget} (all : Applied (itemsOf rule cx 0 its b) t u c) where
   pub all-within : not (c .hit) ≡ true → Applied (convertOf rule cx its b) t u c
   unfolding convertOf
-  all-within n = played-then spentOf all (rw (unspent c n) (played-quiet u c (all .fits)))
+  all-within n = applied-then spentOf all (rw (unspent c n) (applied-no-events u c (all .fits)))
 
   pub all-spent : {v : Output} {d : Budget} → not (c .hit) ≡ false → Applied (oneEvent (warned (record { kind = 6; index = 0 })) c) u v d → Applied (convertOf rule cx its b) t v d
   unfolding convertOf
-  all-spent n h = played-then spentOf all (rw (spent-warns c n) h)
+  all-spent n h = applied-then spentOf all (rw (spent-warns c n) h)

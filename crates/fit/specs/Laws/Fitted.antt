@@ -34,7 +34,7 @@ use Rattle.fit.specs.Fit.{projectedOf, noSums, added, sumsOf, dividedBy,
 use Rattle.fit.specs.Laws.Bearing.{hypot-parts, bearing-in}
 
 -- ---- control points, and their projected positions
-pub record Placed (c : Control) : Type 0 where
+pub record ControlWithin (c : Control) : Type 0 where
   pub x : Between mMillion million (c .x)
   pub y : Between mMillion million (c .y)
   pub lon : Between m180 K.c180 (c .lon)
@@ -53,7 +53,7 @@ record ProjectedIn (m : ProjectedControl) : Type 0 where
 whole-edge : Whole edge 20330312
 whole-edge = record { is-finite = tt; up-is = refl; no-minus = refl }
 
-projected : (c : Control) → Placed c → ProjectedIn (projectedOf c)
+projected : (c : Control) → ControlWithin c → ProjectedIn (projectedOf c)
 unfolding projectedOf
 projected c h =
     let p : LonLat = record { lon = c .lon; lat = c .lat } in
@@ -231,6 +231,6 @@ projected-in (m ∷ ms) l h k =
     } in
     again-in (roundOf a (m ∷ ms)) (m ∷ ms) S (round-in a (m ∷ ms) N S) k
 
-pub fit-in : (cs : List Control) → length cs ≤ 64 → Each Placed cs → fitOf cs .some ≡ true → Fitted (fitOf cs)
+pub fit-in : (cs : List Control) → length cs ≤ 64 → Each ControlWithin cs → fitOf cs .some ≡ true → Fitted (fitOf cs)
 unfolding fitOf
-fit-in cs l h k = projected-in (map projectedOf cs) (subst (λ (n : ℕ). n ≤ 64) (sym (length-map cs projectedOf)) l) (each-map projectedOf Placed ProjectedIn projected cs h) k
+fit-in cs l h k = projected-in (map projectedOf cs) (subst (λ (n : ℕ). n ≤ 64) (sym (length-map cs projectedOf)) l) (each-map projectedOf ControlWithin ProjectedIn projected cs h) k

@@ -1,6 +1,6 @@
 use borrow.Author.Needs.{needs}
 use Rattle.geopic.specs.Geopic.{Buffers}
-use Rattle.geopic.specs.Laws.Calls.{early-answer, early-lent, is-registered, is-refused}
+use Rattle.geopic.specs.Laws.Calls.{early-answer, early-buffers, is-registered, is-refused}
 use Rattle.geopic.proofs.geopic_place.Statement.{statement}
 use Rattle.geopic.proofs.geopic_place.Tie as tie
 
@@ -32,7 +32,7 @@ returns : tie.Need-returns
 returns c =
     let s = c .before .before .before .before .before .before .before .before .before .before .before .before .args .s .now in
     let o = is-refused s (c .before .before .before .before .before .open-stream .ensures) (c .before .before .number .given .1) in
-    (early-answer s (lent (c .before .before .before .before .before .before .before .before .before .before .before .before)) (o .0) (o .1) (c .refuse .ensures), early-lent s (lent (c .before .before .before .before .before .before .before .before .before .before .before .before)) (o .0) (o .1))
+    (early-answer s (lent (c .before .before .before .before .before .before .before .before .before .before .before .before)) (o .0) (o .1) (c .refuse .ensures), early-buffers s (lent (c .before .before .before .before .before .before .before .before .before .before .before .before)) (o .0) (o .1))
 
 same-length : tie.Need-same-length
 same-length c = search needs

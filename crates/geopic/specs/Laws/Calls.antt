@@ -36,7 +36,7 @@ use Rattle.strokes.specs.Strokes.{warned, Trace}
 use Rattle.strokes.specs.Space.{Output, outOfRoom, withWarning}
 use Rattle.strokes.specs.Contracts.Space.{outputBy, Fits, Applied}
 use Rattle.geopic.specs.Geopic.{maxStep, fresh, ctxOf, traceOf, Buffers, unused, outputOf, early, conditions, numberOf, refusal, acceptance, answerOf, clear, sliceBy, buffersAfter}
-use Rattle.strokes.specs.Laws.Applying.{played-quiet, played-stuck, played-then}
+use Rattle.strokes.specs.Laws.Applying.{applied-no-events, applied-stuck, applied-then}
 use Rattle.strokes.specs.Laws.Events.{warned-fits, warned-lacks}
 use Rattle.geopic.specs.declared.Opened.{Opened}
 use Rattle.geopic.specs.declared.Opened.the-variants.{Refused, Registered}
@@ -95,15 +95,15 @@ one-told w ws b rest t start h = go (leb (t .usedWarnings + 2) (length (t .warni
     go : (x : Bool) → leb (t .usedWarnings + 2) (length (t .warnings)) ≡ x → Goal (pushed w (pushing (t .warnings) true (t .usedWarnings)))
     go true e =
         let one = warned-fits w t b start h (leb-true _ _ e) in
-        subst Goal (sym (push-fits w (t .warnings) (t .usedWarnings) e)) (played-then (telling ws) one (rest (outOfRoom 0 (withWarning w t)) refl (one .fits)))
+        subst Goal (sym (push-fits w (t .warnings) (t .usedWarnings) e)) (applied-then (telling ws) one (rest (outOfRoom 0 (withWarning w t)) refl (one .fits)))
     go false e =
         let one = warned-lacks w t b start h (leb-false _ _ e) in
         subst Goal (sym (push-lacks w (t .warnings) (t .usedWarnings) e))
-        (rw (push-none ws (t .warnings) (t .usedWarnings)) (played-then (telling ws) one (played-stuck (telling ws b) (outOfRoom 18 t) b (λ z. eqb-false 18 0 refl z) (one .fits))))
+        (rw (push-none ws (t .warnings) (t .usedWarnings)) (applied-then (telling ws) one (applied-stuck (telling ws b) (outOfRoom 18 t) b (λ z. eqb-false 18 0 refl z) (one .fits))))
 
 all-told : (ws : List Warning) (b : Budget) → Tells ws b
 unfolding allPushed
-all-told [] b t start h = subst (λ (u : Output). Applied (telling [] b) t u b) (ap (λ (n : ℕ). outOfRoom n t) start) (played-quiet t b h)
+all-told [] b t start h = subst (λ (u : Output). Applied (telling [] b) t u b) (ap (λ (n : ℕ). outOfRoom n t) start) (applied-no-events t b h)
 all-told (w ∷ ws) b t start h = one-told w ws b (all-told ws b) t start h
 
 -- ---- everything that is drawn
@@ -126,7 +126,7 @@ module _ (s : List ℕ) where
     pub drawn : {r : Registration} {p : Projection} {tol : Float} {u : Output} {b : Budget} → r ≡ registrationOf sc → p ≡ projectionOf r → tol ≡ sc .flatten
         → Applied (convertOf onScreen (record { projection = p; step = maxStep; flatten = tol }) (itemsAt (payload s) 0) fresh) begin u b → Applied (traceOf sc) (unused t) u b
     unfolding traceOf
-    drawn e f g d = played-then (convertOf onScreen (ctxOf sc) (sc .items)) begun (rw (f, e, g, ← scene-lists (payload s) .3) at d)
+    drawn e f g d = applied-then (convertOf onScreen (ctxOf sc) (sc .items)) begun (rw (f, e, g, ← scene-lists (payload s) .3) at d)
 
 -- ---- what registration says
 module _ (sc : Scene) {o : Outcome} (e : o ≡ outcomeOf sc) where
@@ -159,12 +159,12 @@ module _ (s : List ℕ) (t : Buffers) where
     pub early-answer : {a : Answer} → a ≡ refusal n → a ≡ answerOf s t
     early-answer e = refused (by-early s t first ∙ sym is) some e
 
-    pub early-lent : t ≡ buffersAfter s t
+    pub early-buffers : t ≡ buffersAfter s t
     unfolding buffersAfter sliceBy
-    early-lent = rw (ne-eqb (firstOf (early s)) 0 first)
+    early-buffers = rw (ne-eqb (firstOf (early s)) 0 first)
 
   pub untouched : (firstOf (early s) ≡ 0 → ⊥) → buffersAfter s t ≡ t
-  untouched h = sym (early-lent refl h)
+  untouched h = sym (early-buffers refl h)
 
   pub cleared : firstOf (early s) ≡ 0 → (answerOf s t .number ≡ 0 → ⊥) → buffersAfter s t
       ≡ record { work = clear f0 (length (t .work)); positions = clear f0 (length (t .positions)); features = clear 0 (length (t .features)); warnings = clear 0 (length (t .warnings)) }
@@ -184,10 +184,10 @@ module _ (s : List ℕ) (t : Buffers) where
       pub late-answer : {a : Answer} → a ≡ refusal (u .number) → a ≡ answerOf s t
       late-answer e = refused late-number some e
 
-      pub late-lent : {w p : List Float} {f v : List ℕ} → w ≡ clear f0 (u .work) → p ≡ clear f0 (length (u .positions)) → f ≡ clear 0 (length (u .features)) → v ≡ clear 0 (length (u .warnings))
+      pub late-buffers : {w p : List Float} {f v : List ℕ} → w ≡ clear f0 (u .work) → p ≡ clear f0 (length (u .positions)) → f ≡ clear 0 (length (u .features)) → v ≡ clear 0 (length (u .warnings))
           → record { work = w; positions = p; features = f; warnings = v } ≡ buffersAfter s t
       unfolding buffersAfter sliceBy
-      late-lent work positions features warnings =
+      late-buffers work positions features warnings =
           rw (work, positions, features, warnings, d .work, d .positions, d .features, d .warnings, none, late-number, ne-eqb (u .number) 0 some)
 
     module _ (room : u .number ≡ 0) where
@@ -199,9 +199,9 @@ module _ (s : List ℕ) (t : Buffers) where
       unfolding answerOf
       accepted-answer e f = rw (late-number, eq-eqb (u .number) 0 room, ← e, ← sheet, ← d .after room) f
 
-      pub accepted-lent : {w : List Float} → w ≡ clear f0 (u .work) → record { work = w; positions = u .positions; features = u .features; warnings = u .warnings } ≡ buffersAfter s t
+      pub accepted-buffers : {w : List Float} → w ≡ clear f0 (u .work) → record { work = w; positions = u .positions; features = u .features; warnings = u .warnings } ≡ buffersAfter s t
       unfolding buffersAfter sliceBy
-      accepted-lent e = rw (e, none, late-number, eq-eqb (u .number) 0 room, ← sheet, d .work)
+      accepted-buffers e = rw (e, none, late-number, eq-eqb (u .number) 0 room, ← sheet, d .work)
 
 -- ---- what `open_stream` comes to
 module _ (s : List ℕ) where

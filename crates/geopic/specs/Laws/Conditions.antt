@@ -31,22 +31,22 @@ known-pick : (b : Bool) (t u : Output) → known (t .number) ≡ true → known 
 known-pick true t u h k = h
 known-pick false t u h k = k
 
-known-played : (e : Event) (t : Output) → known (t .number) ≡ true → known (apply e t .number) ≡ true
+known-applied : (e : Event) (t : Output) → known (t .number) ≡ true → known (apply e t .number) ≡ true
 unfolding apply
-known-played (drew d) t h = h
-known-played (need n) t h = known-pick (leb (2 * n) (t .work)) t (outOfRoom 15 t) h refl
-known-played (feature f ps) t h =
+known-applied (drew d) t h = h
+known-applied (need n) t h = known-pick (leb (2 * n) (t .work)) t (outOfRoom 15 t) h refl
+known-applied (feature f ps) t h =
     known-pick (leb (t .usedPositions + length (flats ps)) (length (t .positions)))
     (pickOutput (leb (t .usedFeatures + 6) (length (t .features))) (withFeature f ps t) (outOfRoom 17 t))
     (outOfRoom 16 t)
     (known-pick (leb (t .usedFeatures + 6) (length (t .features))) (withFeature f ps t) (outOfRoom 17 t) h refl)
     refl
-known-played (warned w) t h = known-pick (leb (t .usedWarnings + 2) (length (t .warnings))) (withWarning w t) (outOfRoom 18 t) h refl
+known-applied (warned w) t h = known-pick (leb (t .usedWarnings + 2) (length (t .warnings))) (withWarning w t) (outOfRoom 18 t) h refl
 
 known-all : (es : List Event) (t : Output) → known (t .number) ≡ true → known (applyAll es t .number) ≡ true
 unfolding applyAll
 known-all [] t h = h
-known-all (e ∷ es) t h = known-all es _ (known-pick (eqb (t .number) 0) _ t (known-played e t h) h)
+known-all (e ∷ es) t h = known-all es _ (known-pick (eqb (t .number) 0) _ t (known-applied e t h) h)
 
 late : (a b c d e : Bool) (n : ℕ) → a ≡ eqb n 0 → b ≡ eqb n 15 → c ≡ eqb n 16 → d ≡ eqb n 17 → e ≡ eqb n 18 → a || (b || (c || (d || e))) ≡ true
     → firstOf ((15, b) ∷ (16, c) ∷ (17, d) ∷ (18, e) ∷ []) ≡ n

@@ -181,25 +181,25 @@ module _ (s : List ℕ) where
     scene-spent = rw (answer-is, hit-is)
 
     -- ---- the slices
-    lent-is : buffersAfter s t ≡ record { work = clear f0 (length (t .work)); positions = outputOf sc t .positions; features = outputOf sc t .features; warnings = outputOf sc t .warnings }
+    buffers-is : buffersAfter s t ≡ record { work = clear f0 (length (t .work)); positions = outputOf sc t .positions; features = outputOf sc t .features; warnings = outputOf sc t .warnings }
     unfolding buffersAfter sliceBy
-    lent-is = rw (is-early, is-number)
+    buffers-is = rw (is-early, is-number)
 
-    sheet-number : outputOf sc t .number ≡ 0
-    sheet-number = sym (by-space s t is-early) ∙ is-number
+    output-number : outputOf sc t .number ≡ 0
+    output-number = sym (by-space s t is-early) ∙ is-number
 
     read-back : ReadBack (traceOf sc .events) (unused t) (outputOf sc t)
     unfolding outputOf
-    read-back = reads-back (traceOf sc .events) (unused t) refl refl refl scene-well-formed sheet-number
+    read-back = reads-back (traceOf sc .events) (unused t) refl refl refl scene-well-formed output-number
 
     pub scene-features : featuresAt (buffersAfter s t .features) (buffersAfter s t .positions) 0 0 (answerOf s t .features) ≡ featuresIn (traceOf sc .events)
-    scene-features = rw (lent-is, answer-is) (read-back .features)
+    scene-features = rw (buffers-is, answer-is) (read-back .features)
 
     pub formed-read : AllWellFormed (featuresAt (buffersAfter s t .features) (buffersAfter s t .positions) 0 0 (answerOf s t .features))
     formed-read = rw scene-features scene-well-formed
 
     pub scene-warnings : warningsAt (buffersAfter s t .warnings) 0 (answerOf s t .warnings) ≡ warningsIn (traceOf sc .events)
-    scene-warnings = rw (lent-is, answer-is) (read-back .warnings)
+    scene-warnings = rw (buffers-is, answer-is) (read-back .warnings)
 
     pub scene-six : anyOfKind 6 (warningsAt (buffersAfter s t .warnings) 0 (answerOf s t .warnings)) ≡ fellShort (drawsIn (traceOf sc .events))
     scene-six = ap (anyOfKind 6) scene-warnings ∙ warning-is ∙ hit-is
@@ -216,4 +216,4 @@ module _ (s : List ℕ) where
         let p : 2 * (outputOf sc t .usedPositions / 2) ≡ outputOf sc t .usedPositions = omega (arith, read-back .usedPositions) in
         let f : 6 * (outputOf sc t .usedFeatures / 6) ≡ outputOf sc t .usedFeatures = omega (arith, read-back .usedFeatures) in
         let w : 2 * (outputOf sc t .usedWarnings / 2) ≡ outputOf sc t .usedWarnings = omega (arith, read-back .usedWarnings) in
-        rw (lent-is, answer-is, p, f, w) (read-back .tailPositions, read-back .tailFeatures, read-back .tailWarnings)
+        rw (buffers-is, answer-is, p, f, w) (read-back .tailPositions, read-back .tailFeatures, read-back .tailWarnings)

@@ -41,11 +41,11 @@ abbrev whole : ℕ → Float
 whole n = ofInt binary64 (pos n)
 
 -- with so many words for features
-abbrev pub lent-with : ℕ → Buffers
-lent-with words = record { work = replicate 32 (whole 11); positions = replicate 32 (whole 12); features = replicate words 13; warnings = replicate 4 14 }
+abbrev pub buffers-with : ℕ → Buffers
+buffers-with words = record { work = replicate 32 (whole 11); positions = replicate 32 (whole 12); features = replicate words 13; warnings = replicate 4 14 }
 
 abbrev pub lent : Buffers
-lent = lent-with 12
+lent = buffers-with 12
 
 -- ---- the P lines: each number to the nearest whole number of 10⁻⁹ degree, by value
 abbrev pub agree : List Float → List Float → Bool
@@ -81,8 +81,8 @@ sheet = (refl, refl, refl, refl, refl, refl)
 
 -- with a word too few for the feature line: 17, and every slice is cleared
 pub no-room :
-    (answerOf stream (lent-with 5) ≡ refusal 17)
-    × (buffersAfter stream (lent-with 5) ≡ record { work = replicate 32 o; positions = replicate 32 o; features = replicate 5 0; warnings = replicate 4 0 })
+    (answerOf stream (buffers-with 5) ≡ refusal 17)
+    × (buffersAfter stream (buffers-with 5) ≡ record { work = replicate 32 o; positions = replicate 32 o; features = replicate 5 0; warnings = replicate 4 0 })
 unfolding everything
 no-room = (refl, refl)
 

@@ -28,7 +28,7 @@ use Rattle.fit.specs.declared.Control.{Control}
 use Rattle.fit.specs.declared.Fit.{Fit}
 use Rattle.fit.specs.Fit.{fitOf}
 use Rattle.projection.specs.Laws.Project.{Sound}
-use Rattle.fit.specs.Laws.Fitted.{Placed, Fitted, fit-in}
+use Rattle.fit.specs.Laws.Fitted.{ControlWithin, Fitted, fit-in}
 use Rattle.stream.specs.Numbers.{u64At, floatOf, floatAt}
 use Rattle.stream.specs.declared.Float64.{Float64}
 use Rattle.stream.specs.declared.Float64.the-variants.{Finite, NotFinite}
@@ -237,7 +237,7 @@ both-near : (es fs : List Event) → Each EventNear es → Each EventNear fs →
 both-near [] fs h k = k
 both-near (e ∷ es) fs h k = (h .0, both-near es fs (h .1) k)
 
-placed-in : (es : List Event) → Each EventNear es → allWithinLimits (controlsIn es) ≡ true → Each Placed (controlsIn es)
+placed-in : (es : List Event) → Each EventNear es → allWithinLimits (controlsIn es) ≡ true → Each ControlWithin (controlsIn es)
 unfolding controlsIn allWithinLimits
 placed-in [] h a = tt
 placed-in (control c ∷ es) h a =
@@ -265,7 +265,7 @@ module _ (sc : Scene) (N : NearScene sc) where
       let m = var sc (name ++ suffixLat) in
       onto-near (isLon (v .name)) (lonEvent sc i name (v .value) m) (variableEvents sc (suc i) vs) (lon-near i name (v .value) m) (variables-near (suc i) vs)
 
-  pub controls-placed : allWithinLimits (controlsOf sc) ≡ true → Each Placed (controlsOf sc)
+  pub controls-placed : allWithinLimits (controlsOf sc) ≡ true → Each ControlWithin (controlsOf sc)
   unfolding controlsOf events
   controls-placed a = placed-in (events sc) (both-near (featureEvents sc 0 (sc .features)) (variableEvents sc 0 (sc .variables)) (features-near 0 (sc .features)) (variables-near 0 (sc .variables))) a
 
@@ -356,7 +356,7 @@ fitted-sound f n F s = record {
   of-format = F .of-format;
 }
 
-registered : (sc : Scene) (cs : List Control) → Tame sc → Each Placed cs → Passes sc cs → Sound (registrationBy sc (anchorOf sc) cs)
+registered : (sc : Scene) (cs : List Control) → Tame sc → Each ControlWithin cs → Passes sc cs → Sound (registrationBy sc (anchorOf sc) cs)
 unfolding registrationBy
 registered sc [] t c p =
     declared-sound sc _ (record { x = f0; y = f0 }) 0 t (anchor-earth (anchorOf sc) (p .anchor)) (record { x = zero-in .2; y = zero-in .2 }) (is-true (lt f0 (scaleValue sc)) (p .above)) (p .view) (p .scale) (p .small)

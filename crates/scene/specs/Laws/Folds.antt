@@ -91,12 +91,12 @@ module _ (name s : List ℕ) (q i : ℕ) (b : Maybe Best) (h : Hit) where
   next-item o e c = rw (chosen _ _ (e ∙ ap (λ (x : Maybe (List ℕ)). labelIs x name) (item-label (payload s) (h .at))) c, one-listed o itemAt refl, found-again o, add-one) refl
 
 -- an item's point that is there, or not
-module _ (b : Maybe Best) (k : Key) (spot : OptionalPoint) {r : Maybe Point} (e : maybePoint spot ≡ r) where
-  pub no-point : not (spot .some) ≡ true → b ≡ considerAt b k r
-  no-point n = rw (← e, not-true (spot .some) n) refl
+module _ (b : Maybe Best) (k : Key) (reference : OptionalPoint) {r : Maybe Point} (e : maybePoint reference ≡ r) where
+  pub no-point : not (reference .some) ≡ true → b ≡ considerAt b k r
+  no-point n = rw (← e, not-true (reference .some) n) refl
 
-  pub with-point : {v : Maybe Best} → not (spot .some) ≡ false → v ≡ consider b k (record { x = spot .x; y = spot .y }) → v ≡ considerAt b k r
-  with-point n f = rw (← e, not-false (spot .some) n) f
+  pub with-point : {v : Maybe Best} → not (reference .some) ≡ false → v ≡ consider b k (record { x = reference .x; y = reference .y }) → v ≡ considerAt b k r
+  with-point n f = rw (← e, not-false (reference .some) n) f
 
 -- ---- the best of all
 given-point : (t : Bool) (b : Best) → given t (b .at) ≡ pointOf (given t b)

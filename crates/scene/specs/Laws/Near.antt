@@ -157,16 +157,16 @@ chain (x ∷ xs) zero m h = chain-more (x ∷ xs) (recordOf (x ∷ xs)) (λ k. e
 chain (x ∷ xs) (suc k) m h = chain xs k (omega arith) h
 
 -- what those of a tag say of the canvas
-abbrev Says : ℕ → List ℕ → Type 0
-Says t b =
+abbrev NearRecord : ℕ → List ℕ → Type 0
+NearRecord t b =
     cond (eqb t 5) (NearPoint (placeAt b .at))
     (cond (eqb t 6) (NearItem (itemAt b))
     (cond (eqb t 7) (NearPoints (pointsAt b 4 (u16At b 2)))
     (cond (eqb t 8) (NearPath (pathAt b))
     (Unit {0}))))
 
-abbrev AllSay : List Entry → Type 0
-AllSay es = (t k : ℕ) → Each (Says t) (recordsOf t k es)
+abbrev AllNear : List Entry → Type 0
+AllNear es = (t k : ℕ) → Each (NearRecord t) (recordsOf t k es)
 
 -- a value tail those of j
 value-near : (b : List ℕ) (p j m : ℕ) (t : Bool) → Run b p (valuesWidth m / 8) → (t ≡ true → valuesWidth j + 8 ≤ valuesWidth m) → Holds Near (given t (floatValueAt b (p + valuesWidth j)))
@@ -177,11 +177,11 @@ value-near b p j m t r f =
     eights : valuesWidth j ≡ 8 * (valuesWidth j / 8)
     eights = unfold valuesWidth in omega arith
 
-item-near : (b : List ℕ) (n m : ℕ) (es : List Entry) → m < 32 → Run b (13 + n) (valuesWidth m / 8) → AllSay es → NearItem (itemWith b n m es)
+item-near : (b : List ℕ) (n m : ℕ) (es : List Entry) → m < 32 → Run b (13 + n) (valuesWidth m / 8) → AllNear es → NearItem (itemWith b n m es)
 unfolding itemWith
 item-near b n m es h r a =
     let points : (k : ℕ) → Holds NearPoints (first (λ b. pointsAt b 4 (u16At b 2)) (recordsOf 7 k es)) = λ k. first-holds NearPoints (λ b. pointsAt b 4 (u16At b 2)) (recordsOf 7 k es) (a 7 k) in
-    let paths : (k : ℕ) → Each NearPath (map pathAt (recordsOf 8 k es)) = λ k. each-map pathAt (Says 8) NearPath (λ b w. w) (recordsOf 8 k es) (a 8 k) in
+    let paths : (k : ℕ) → Each NearPath (map pathAt (recordsOf 8 k es)) = λ k. each-map pathAt (NearRecord 8) NearPath (λ b w. w) (recordsOf 8 k es) (a 8 k) in
     record {
       at = given-holds NearPoint (bit m 1) (pointAt b (13 + n)) (λ e. point-near b (13 + n) (valuesWidth m / 8) (omega (arith, at-within m h e)) r);
       w = value-near b (13 + n) (m % 2) m (bit m 2) r (w-within m h);
@@ -199,20 +199,20 @@ unfolding formAt limitedAt
 path-near b zero k c g m h = rw (← c refl) (point-near b 4 2 (omega arith) (run b 4 2 (and-left _ _ h)), cubics-near b 22 k (run b 22 (6 * k) (and-right (allOnCanvas b 4 2) _ h)))
 path-near b (suc f) k c g m h = rw (← g (omega arith)) (points-near b 6 k (run b 6 (2 * k) h))
 
-says : (b : List ℕ) (r : Record) → Told b r → AllSay (tail (entries b 0)) → Says (tagOf r) b
+near-record : (b : List ℕ) (r : Record) → Told b r → AllNear (tail (entries b 0)) → NearRecord (tagOf r) b
 unfolding limitedAt placeAt itemAt pathAt
-says b Rescale t a = tt
-says b (Option o) t a = tt
-says b (Feature n) t a = tt
-says b (Variable n) t a = tt
-says b (Place n) t a = rw (← t .fields .0 .is) (point-near b (2 + n) 2 (omega arith) (run b (2 + n) 2 (t .limits)))
-says b (Item k f n m) t a =
+near-record b Rescale t a = tt
+near-record b (Option o) t a = tt
+near-record b (Feature n) t a = tt
+near-record b (Variable n) t a = tt
+near-record b (Place n) t a = rw (← t .fields .0 .is) (point-near b (2 + n) 2 (omega arith) (run b (2 + n) 2 (t .limits)))
+near-record b (Item k f n m) t a =
     let i = t .fields in
     rw (← i .label-is, ← i .has-is) (item-near b n m (tail (entries b 0)) (i .has) (run b (13 + n) (valuesWidth m / 8) (t .limits)) a)
-says b (Points r n) t a =
+near-record b (Points r n) t a =
     let i = t .fields in
     rw (← i .count) (record { few = omega (arith, points-length b 4 n, t .fits, t .short); points = points-near b 4 n (run b 4 (2 * n) (t .limits)) })
-says b (Path r c f n) t a =
+near-record b (Path r c f n) t a =
     let i = t .fields in
     rw (← i .form-is) (path-near b f n (i .cubics) (i .points) (i .form) (t .limits))
 
@@ -225,13 +225,13 @@ sought-each Q t k r b ls q h = by (eqb (tagOf r) t && eqb (keyOf r) k) refl (end
     by false e true f = rw (e, f) tt
     by false e false f = rw (e, f) h
 
-all-say : (es : List Entry) → Chain es → AllSay es
+all-near : (es : List Entry) → Chain es → AllNear es
 unfolding recordsOf
-all-say [] c t k = tt
-all-say (e ∷ es) c t k =
-    sought-each (Says t) t k (e .parsed) (e .bytes) (recordsOf t k es)
-    (λ x. subst (λ (u : ℕ). Says u (e .bytes)) x (says (e .bytes) (e .parsed) (c .0) (rw (c .1) (all-say es (c .2)))))
-    (all-say es (c .2) t k)
+all-near [] c t k = tt
+all-near (e ∷ es) c t k =
+    sought-each (NearRecord t) t k (e .parsed) (e .bytes) (recordsOf t k es)
+    (λ x. subst (λ (u : ℕ). NearRecord u (e .bytes)) x (near-record (e .bytes) (e .parsed) (c .0) (rw (c .1) (all-near es (c .2)))))
+    (all-near es (c .2) t k)
 
 -- ---- the mean of points
 sum-total : (f : Point → Float) (a : Float) (ps : List Point) → sumOf f a ps ≡ total a (map f ps)
@@ -330,8 +330,8 @@ pub limited-near : (l : List ℕ) → length l ≤ longest → limited l ≡ tru
 unfolding limited sceneOf
 limited-near l m h =
     let es = entries l 0 in
-    let a = all-say es (chain l 0 m h) in
+    let a = all-near es (chain l 0 m h) in
     record {
-      places = each-map placeAt (Says 5) (λ p. NearPoint (p .at)) (λ b w. w) (recordsOf 5 0 es) (a 5 0);
-      items = each-map itemAt (Says 6) NearItem (λ b w. w) (recordsOf 6 0 es) (a 6 0);
+      places = each-map placeAt (NearRecord 5) (λ p. NearPoint (p .at)) (λ b w. w) (recordsOf 5 0 es) (a 5 0);
+      items = each-map itemAt (NearRecord 6) NearItem (λ b w. w) (recordsOf 6 0 es) (a 6 0);
     }

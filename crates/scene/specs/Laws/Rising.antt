@@ -117,20 +117,20 @@ lookup-on name v ws h = rw (before-not-same (v .name) name h .0) refl
 
 -- ---- the variables of a payload
 -- each entry is what its bytes say
-abbrev Said : List Entry → Type 0
-Said [] = Unit {0}
-Said (e ∷ es) = Fields (e .bytes) (e .parsed) × Said es
+abbrev AllFields : List Entry → Type 0
+AllFields [] = Unit {0}
+AllFields (e ∷ es) = Fields (e .bytes) (e .parsed) × AllFields es
 
-said-more : (l : List ℕ) (s : Step) (f : ℕ → List Entry) → recordOf l ≡ s → ((n : ℕ) → Said (f n)) → Said (more l s f)
-said-more l (Got r k) f e g = (stands l e .fields, g (k - 1))
-said-more l End f e g = tt
-said-more l Bad f e g = tt
+fields-more : (l : List ℕ) (s : Step) (f : ℕ → List Entry) → recordOf l ≡ s → ((n : ℕ) → AllFields (f n)) → AllFields (more l s f)
+fields-more l (Got r k) f e g = (stands l e .fields, g (k - 1))
+fields-more l End f e g = tt
+fields-more l Bad f e g = tt
 
-said : (l : List ℕ) (n : ℕ) → Said (entries l n)
+all-fields : (l : List ℕ) (n : ℕ) → AllFields (entries l n)
 unfolding entries
-said [] n = tt
-said (x ∷ xs) zero = said-more (x ∷ xs) (recordOf (x ∷ xs)) (λ n. entries xs n) refl (λ n. said xs n)
-said (x ∷ xs) (suc n) = said xs n
+all-fields [] n = tt
+all-fields (x ∷ xs) zero = fields-more (x ∷ xs) (recordOf (x ∷ xs)) (λ n. entries xs n) refl (λ n. all-fields xs n)
+all-fields (x ∷ xs) (suc n) = all-fields xs n
 
 -- one record further: only a variable is in the list, and only it changes the name
 module _ (b : List ℕ) (p : Pass) (es : List Entry) (on : (q : Pass) → inOrder es q ≡ true → Rising (q .name) (map variableAt (recordsOf 4 0 es))) where
@@ -151,11 +151,11 @@ module _ (b : List ℕ) (p : Pass) (es : List Entry) (on : (q : Pass) → inOrde
   one-on (Points r c) s h = tt
   one-on (Path r c f k) s h = tt
 
-rising : (es : List Entry) (p : Pass) → Said es → inOrder es p ≡ true → Rising (p .name) (map variableAt (recordsOf 4 0 es))
+rising : (es : List Entry) (p : Pass) → AllFields es → inOrder es p ≡ true → Rising (p .name) (map variableAt (recordsOf 4 0 es))
 unfolding inOrder recordsOf
 rising [] p s h = tt
 rising (e ∷ es) p s h = one-on (e .bytes) p es (λ q. rising es q (s .1)) (e .parsed) (s .0) h
 
 pub variables-rising : (l : List ℕ) → laidOut l ≡ true → Rising [] (variablesAt l 0)
 unfolding laidOut laidOutFrom
-variables-rising l h = rising (entries l 0) start (said l 0) (and-right (ends l 0) _ h)
+variables-rising l h = rising (entries l 0) start (all-fields l 0) (and-right (ends l 0) _ h)

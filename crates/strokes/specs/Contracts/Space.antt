@@ -115,7 +115,7 @@ KeepsFit w p f st w′ p′ f′ r =
     (v : List ℕ) → Fits (outputBy (length w) p f v st) (st .budget) → Fits (outputBy (length w′) p′ f′ v r) (r .budget)
 
 -- what is used of positions and feature lines lies in the slices
-pub record Ready (p : List Float) (f : List ℕ) (st : State) : Type 0 where
+pub record CanDraw (p : List Float) (f : List ℕ) (st : State) : Type 0 where
   pub positions : st .positions ≤ length p
   pub features : st .features ≤ length f
   pub left : st .budget .left ≤ most
@@ -218,7 +218,7 @@ pub record RingLoaded (w : List Float) (m : Made) (d : PointCursor) : Type 0 whe
 
 -- ---- what the parts ask for, and do for every sheet
 -- points from `from` to `to` in a work slice of n floats, and room behind what is used
-pub record StrokeReady (n from to : ℕ) (p : List Float) (f : List ℕ) (st : State) : Type 0 where
+pub record CanStroke (n from to : ℕ) (p : List Float) (f : List ℕ) (st : State) : Type 0 where
   pub some : from + 2 ≤ to
   pub points : to ≤ n
   pub few : to ≤ longest
@@ -227,7 +227,7 @@ pub record StrokeReady (n from to : ℕ) (p : List Float) (f : List ℕ) (st : S
   pub left : st .budget .left ≤ most
 
 -- a shape's points in a work slice of n floats
-pub record FillReady (l : Workspace) (n : ℕ) (p : List Float) (f : List ℕ) (st : State) : Type 0 where
+pub record CanFill (l : Workspace) (n : ℕ) (p : List Float) (f : List ℕ) (st : State) : Type 0 where
   pub bounds : Bounds l n
   pub positions : st .positions ≤ length p
   pub features : st .features ≤ length f
@@ -240,7 +240,7 @@ pub record RingEnds (d : PointCursor) (n : ℕ) : Type 0 where
   pub few : d .at ≤ longest
   pub left : d .budget .left ≤ most
 
-pub record RingReady (d : PointCursor) (n : ℕ) (p : List Float) (f : List ℕ) (st : State) : Type 0 where
+pub record CanDrawRing (d : PointCursor) (n : ℕ) (p : List Float) (f : List ℕ) (st : State) : Type 0 where
   pub ring : d .ok ≡ true → RingEnds d n
   pub positions : st .positions ≤ length p
   pub features : st .features ≤ length f

@@ -32,14 +32,14 @@ draws-still [] t = refl
 draws-still (d ∷ ds) t = ap (applyAll (map drew ds)) (pick-same (eqb (t .number) 0) t) ∙ draws-still ds t
 
 -- nothing happens
-pub played-quiet : (t : Output) (b : Budget) → Fits t b → Applied (noEvents b) t t b
+pub applied-no-events : (t : Output) (b : Budget) → Fits t b → Applied (noEvents b) t t b
 unfolding applyAll
-played-quiet t b h =
+applied-no-events t b h =
     record { number = refl; same = λ e. refl; after = λ e. refl; work = refl; positions = refl; features = refl; warnings = refl; fits = h }
 
 -- a sheet on which something has lacked room already
-pub played-stuck : (a : Trace) (t : Output) (b : Budget) → (t .number ≡ 0 → ⊥) → Fits t b → Applied a t t b
-played-stuck a t b n h =
+pub applied-stuck : (a : Trace) (t : Output) (b : Budget) → (t .number ≡ 0 → ⊥) → Fits t b → Applied a t t b
+applied-stuck a t b n h =
     let s = stuck (a .events) t (ne-eqb (t .number) 0 n) in
     record {
       number = ap (λ (u : Output). u .number) (sym s);
@@ -90,16 +90,16 @@ module _ {a : Trace} {t u v : Output} {b c : Budget} (f : Budget → Trace) (one
         fits = two .fits;
       }
 
-  pub played-then : Applied (andThenTrace a f) t v c
-  played-then = go (eqb (u .number) 0) refl
+  pub applied-then : Applied (andThenTrace a f) t v c
+  applied-then = go (eqb (u .number) 0) refl
     where
       go : (x : Bool) → eqb (u .number) 0 ≡ x → Applied (andThenTrace a f) t v c
       go true e = go-on (eqb-true (u .number) 0 e)
       go false e = stop (eqb-false (u .number) 0 e)
 
 -- a producer's draws before it
-pub played-drawn : (m : Made) (f : Budget → Trace) {t u : Output} {b : Budget} → Applied (f (m .after)) t u b → Applied (andThenTrace (drawsTrace m) f) t u b
-played-drawn m f {t} {u} {b} h =
+pub applied-drawn : (m : Made) (f : Budget → Trace) {t u : Output} {b : Budget} → Applied (f (m .after)) t u b → Applied (andThenTrace (drawsTrace m) f) t u b
+applied-drawn m f {t} {u} {b} h =
     let e : applyAll (map drew (m .draws) ++ f (m .after) .events) t ≡ applyAll (f (m .after) .events) t =
     play-append (map drew (m .draws)) (f (m .after) .events) t ∙ ap (applyAll (f (m .after) .events)) (draws-still (m .draws) t) in
     record {
@@ -118,4 +118,4 @@ abbrev pub Onward : Trace → Output → Output → Trace → Type 0
 Onward whole t u rest = (v : Output) (c : Budget) → Applied rest u v c → Applied whole t v c
 
 pub onward-next : {whole a : Trace} {t u v : Output} {b : Budget} (f : Budget → Trace) → Onward whole t u (andThenTrace a f) → Applied a u v b → Onward whole t v (f b)
-onward-next f l one w c h = l w c (played-then f one h)
+onward-next f l one w c h = l w c (applied-then f one h)

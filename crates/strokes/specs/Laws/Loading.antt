@@ -46,8 +46,8 @@ module _ (a b : List Float) (n : ℕ) (e : take n a ≡ take n b) where
 
 -- ---- Loads, by its answer
 module _ {w w′ : List Float} {closed : Bool} {ps : List Point} {o : Maybe (List Point)} {b : Budget} {r : Workspace} where
-  lays-short : r .ok ≡ false → length w < 2 * workOf closed ps (closeRingOf ps) (closedOutline o) → length w′ ≡ length w → Loads w w′ closed ps o b r
-  lays-short short h whole =
+  loads-short : r .ok ≡ false → length w < 2 * workOf closed ps (closeRingOf ps) (closedOutline o) → length w′ ≡ length w → Loads w w′ closed ps o b r
+  loads-short short h whole =
       record {
         asked = short ∙ sym (lt-leb _ _ h);
         laid = λ e. absurd (false≢true (sym short ∙ e));
@@ -56,9 +56,9 @@ module _ {w w′ : List Float} {closed : Bool} {ps : List Point} {o : Maybe (Lis
         kept = whole;
       }
 
-  lays-all : r .ok ≡ true → 2 * workOf closed ps (closeRingOf ps) (closedOutline o) ≤ length w → Loaded w′ closed ps o r → r .budget ≡ b → b .left ≤ most
+  loads-all : r .ok ≡ true → 2 * workOf closed ps (closeRingOf ps) (closedOutline o) ≤ length w → Loaded w′ closed ps o r → r .budget ≡ b → b .left ≤ most
       → length w′ ≡ length w → Loads w w′ closed ps o b r
-  lays-all fits h there same left whole =
+  loads-all fits h there same left whole =
       record { asked = fits ∙ sym (le-leb _ _ h); laid = λ e. there; after = λ e. same; left = λ e. rw same left; kept = whole }
 
 -- ---- how many points there are
@@ -75,9 +75,9 @@ ends-at w none r h = omega (arith, h .1)
 ends-at w (some q) r h = omega (arith, h .1, flats-length (closeRingOf q))
 
 -- what was laid out lies in the slice
-pub laid-bounds : {w w′ : List Float} {closed : Bool} {ps : List Point} {o : Maybe (List Point)} {b : Budget} {r : Workspace} → Loads w w′ closed ps o b r → r .ok ≡ true → Bounds r (length w′)
+pub loaded-bounds : {w w′ : List Float} {closed : Bool} {ps : List Point} {o : Maybe (List Point)} {b : Budget} {r : Workspace} → Loads w w′ closed ps o b r → r .ok ≡ true → Bounds r (length w′)
 unfolding workOf
-laid-bounds {w = w} {w′ = w′} {closed = closed} {ps = ps} {o = o} {r = r} lays fits =
+loaded-bounds {w = w} {w′ = w′} {closed = closed} {ps = ps} {o = o} {r = r} lays fits =
     let l = lays .laid fits in
     let room : 2 * workOf closed ps (closeRingOf ps) (closedOutline o) ≤ length w = leb-true _ _ (sym (lays .asked) ∙ fits) in
     let ends = ends-at w′ o r (l .outline) in
@@ -91,23 +91,23 @@ laid-bounds {w = w} {w′ = w′} {closed = closed} {ps = ps} {o = o} {r = r} la
 
 -- and there is where an outline goes
 pub end-in : {w w′ : List Float} {closed : Bool} {ps : List Point} {o : Maybe (List Point)} {b : Budget} {r : Workspace} → Loads w w′ closed ps o b r → r .ok ≡ true → r .ring ≤ length w′
-end-in lays fits = let b = laid-bounds lays fits in omega arith
+end-in lays fits = let b = loaded-bounds lays fits in omega arith
 
 pub outline-in : {w w₁ : List Float} {at : ℕ} {m : Made} {d : PointCursor} → Written w w₁ at m d → d .ok ≡ true → (at ≤ d .at) × (d .at ≤ length w₁)
 outline-in one fits = (omega (arith, one .next fits), next-in one fits)
 
 -- points without room: none with an outline either
-pub lays-more : {w w′ : List Float} {closed : Bool} {ps : List Point} {b : Budget} {r : Workspace} → Loads w w′ closed ps none b r → r .ok ≡ false
+pub loads-more : {w w′ : List Float} {closed : Bool} {ps : List Point} {b : Budget} {r : Workspace} → Loads w w′ closed ps none b r → r .ok ≡ false
     → (o : Maybe (List Point)) (c : Budget) → Loads w w′ closed ps o c r
 unfolding workOf
-lays-more {w = w} {closed = closed} {ps = ps} own short o c =
+loads-more {w = w} {closed = closed} {ps = ps} own short o c =
     let h : length w < 2 * workOf closed ps (closeRingOf ps) none = leb-false _ _ (sym (own .asked) ∙ short) in
-    lays-short short (omega arith) (own .kept)
+    loads-short short (omega arith) (own .kept)
 
 pub path-short : {w w′ : List Float} (tol : Float) (p : DrawnPath) (b : Budget) {r : Workspace} → LoadsPath w w′ tol p none b r → r .ok ≡ false
     → (o : Maybe DrawnPath) → LoadsPath w w′ tol p o b r
 path-short tol p b own short none = own
-path-short tol p b own short (some o) = lays-more own short _ _
+path-short tol p b own short (some o) = loads-more own short _ _
 
 -- ---- a record's count is below 65536
 pub points-small : (l : List ℕ) (p n : ℕ) (b : Budget) → n < 65536 → b .left ≤ most → Small (withoutDraws (pointsAt l p n) b)
@@ -165,7 +165,7 @@ module _ {w w₁ : List Float} (closed : Bool) {m : Made} {d : PointCursor} (one
   unfolding workOf
   own-short short refused =
       let h : length w < 0 + length (flats (m .points)) = leb-false _ _ (sym (one .asked) ∙ short) in
-      lays-short refused (omega (arith, flats-length (m .points), ring-within closed (m .points))) (one .kept)
+      loads-short refused (omega (arith, flats-length (m .points), ring-within closed (m .points))) (one .kept)
 
   module _ (done : d .ok ≡ true) {w₂ : List Float} {e : PointCursor} (two : Written w₁ w₂ (d .at) (closer closed w₁ (d .at) (d .budget)) e) where
     whole : Written w w₂ 0 (closedIf closed m) e
@@ -176,7 +176,7 @@ module _ {w w₁ : List Float} (closed : Bool) {m : Made} {d : PointCursor} (one
     unfolding workOf
     ring-short short refused =
         let h : length w < 0 + length (flats (closedIf closed m .points)) = leb-false _ _ (sym (whole .asked) ∙ short) in
-        lays-short refused (omega (arith, rw closed-points at h, flats-length (ringOf closed (m .points)))) (whole .kept)
+        loads-short refused (omega (arith, rw closed-points at h, flats-length (ringOf closed (m .points)))) (whole .kept)
 
     module _ (fits : e .ok ≡ true) where
       ends : e .at ≡ 2 * length (ringOf closed (m .points))
@@ -185,13 +185,13 @@ module _ {w w₁ : List Float} (closed : Bool) {m : Made} {d : PointCursor} (one
       -- one point more has none
       pub own-full : {r : Workspace} → length w₂ < e .at + 2 → r .ok ≡ false → Loads w w₂ closed (m .points) none (m .after) r
       unfolding workOf
-      own-full h refused = lays-short refused (omega (arith, ends, whole .kept)) (whole .kept)
+      own-full h refused = loads-short refused (omega (arith, ends, whole .kept)) (whole .kept)
 
-      pub own-laid : Small m → e .at + 2 ≤ length w₂
+      pub own-loaded : Small m → e .at + 2 ≤ length w₂
           → Loads w w₂ closed (m .points) none (m .after) (record { ok = true; points = d .at; ring = e .at; outline = e .at; outlined = false; budget = d .budget })
       unfolding workOf
-      own-laid small room =
-          lays-all refl (omega (arith, ends, whole .kept))
+      own-loaded small room =
+          loads-all refl (omega (arith, ends, whole .kept))
           (record {
             pointsEnd = omega (arith, one .next done);
             points = points-kept w₂ w₁ (d .at) (two .before) 0 (d .at) (omega arith) ∙ written-points one done;
@@ -213,14 +213,14 @@ module _ {w w₁ : List Float} {closed : Bool} {ps : List Point} {b : Budget} {l
     unfolding workOf
     outline-short one short refused =
         let h : length w₁ < l .ring + length (flats (m .points)) = leb-false _ _ (sym (one .asked) ∙ short) in
-        lays-short refused (omega (arith, end-is, flats-length (m .points), close-within (m .points), own .kept)) (one .kept ∙ own .kept)
+        loads-short refused (omega (arith, end-is, flats-length (m .points), close-within (m .points), own .kept)) (one .kept ∙ own .kept)
 
     module _ {w₂ : List Float} {e : PointCursor} (two : Written w₁ w₂ (l .ring) (closedIf true m) e) where
       pub closing-short : {r : Workspace} → e .ok ≡ false → r .ok ≡ false → Loads w w₂ closed ps (some (m .points)) (m .after) r
       unfolding workOf
       closing-short short refused =
           let h : length w₁ < l .ring + length (flats (closeRingOf (m .points))) = leb-false _ _ (sym (two .asked) ∙ short) in
-          lays-short refused (omega (arith, end-is, flats-length (closeRingOf (m .points)), own .kept)) (two .kept ∙ own .kept)
+          loads-short refused (omega (arith, end-is, flats-length (closeRingOf (m .points)), own .kept)) (two .kept ∙ own .kept)
 
       module _ (fits : e .ok ≡ true) where
         fin-is : e .at ≡ l .ring + 2 * length (closeRingOf (m .points))
@@ -228,18 +228,18 @@ module _ {w w₁ : List Float} {closed : Bool} {ps : List Point} {b : Budget} {l
 
         pub outline-full : {r : Workspace} → length w₂ < e .at + 2 → r .ok ≡ false → Loads w w₂ closed ps (some (m .points)) (m .after) r
         unfolding workOf
-        outline-full h refused = lays-short refused (omega (arith, end-is, fin-is, two .kept, own .kept)) (two .kept ∙ own .kept)
+        outline-full h refused = loads-short refused (omega (arith, end-is, fin-is, two .kept, own .kept)) (two .kept ∙ own .kept)
 
-        pub outline-laid : {left : Budget} → length ps ≤ 33554430 → Small m → left ≡ m .after → e .at + 2 ≤ length w₂
+        pub outline-loaded : {left : Budget} → length ps ≤ 33554430 → Small m → left ≡ m .after → e .at + 2 ≤ length w₂
             → Loads w w₂ closed ps (some (m .points)) (m .after) (record { ok = true; points = l .points; ring = l .ring; outline = e .at; outlined = true; budget = left })
         unfolding workOf
-        outline-laid few small left room =
+        outline-loaded few small left room =
             let first = own .laid done in
             let same = points-kept w₂ w₁ (l .ring) (two .before) 0 in
-            lays-all refl (omega (arith, end-is, fin-is, two .kept, own .kept))
+            loads-all refl (omega (arith, end-is, fin-is, two .kept, own .kept))
             (record {
               pointsEnd = first .pointsEnd;
-              points = same (l .points) (laid-bounds own done .points) ∙ first .points;
+              points = same (l .points) (loaded-bounds own done .points) ∙ first .points;
               ringEnd = first .ringEnd;
               ring = same (l .ring) (omega arith) ∙ first .ring;
               outline = (refl, two .next fits, written-points two fits);

@@ -28,7 +28,7 @@ use Rattle.strokes.specs.declared.state.Props.{Props}
 use Rattle.strokes.specs.Strokes.{Trace, need, noEvents, oneEvent, andThenTrace, pickTrace, strokeOf, drawWithoutWriting, fillOf, shapeTrace, closedOutline, workOf, polylineOrPolygonOf, ringTrace}
 use Rattle.strokes.specs.Space.{Output, outOfRoom}
 use Rattle.strokes.specs.Contracts.Space.{most, longest, Fits, Applied, OutlineLoaded, Loaded, Bounds, Loads, RingLoaded}
-use Rattle.strokes.specs.Laws.Applying.{played-quiet, played-stuck, played-then, played-drawn}
+use Rattle.strokes.specs.Laws.Applying.{applied-no-events, applied-stuck, applied-then, applied-drawn}
 use Rattle.strokes.specs.Laws.Events.{need-fits, need-lacks}
 use Rattle.strokes.specs.Laws.Loading.{points-kept}
 
@@ -41,10 +41,10 @@ module _ (n : ℕ) (f : Budget → Trace) {t : Output} (b : Budget) (start : t .
   without-room : (c : Budget) → t .work < 2 * n → Fits t c → Applied (andThenTrace (oneEvent (need n) b) f) t (outOfRoom 15 t) c
   without-room c short h =
       let one = need-lacks n t b start c short h in
-      played-then f one (played-stuck (f c) (outOfRoom 15 t) c (λ z. omega arith) (one .fits))
+      applied-then f one (applied-stuck (f c) (outOfRoom 15 t) c (λ z. omega arith) (one .fits))
 
   with-room : {u : Output} {c : Budget} → 2 * n ≤ t .work → Fits t b → Applied (f b) t u c → Applied (andThenTrace (oneEvent (need n) b) f) t u c
-  with-room room h two = played-then f (need-fits n t b start room h) two
+  with-room room h two = applied-then f (need-fits n t b start room h) two
 
 -- ---- a ring
 -- the points that it needs: one more than it has
@@ -58,7 +58,7 @@ module _ (cx : Ctx) (p : Props) {w : List Float} {m : Made} {d : PointCursor} (r
   ring-lacks : {c : Budget} → Fits t c → length w < 2 * ringNeed m → Applied (ringTrace cx p m) t (outOfRoom 15 t) c
   unfolding ringTrace
   ring-lacks {c} h short =
-      played-drawn m (λ r. andThenTrace (oneEvent (need (ringNeed m)) r) (ringStroke cx p m))
+      applied-drawn m (λ r. andThenTrace (oneEvent (need (ringNeed m)) r) (ringStroke cx p m))
       (without-room (ringNeed m) (ringStroke cx p m) (m .after) start c (rw whole short) h)
 
   -- its points have no room
@@ -77,7 +77,7 @@ module _ (cx : Ctx) (p : Props) {w : List Float} {m : Made} {d : PointCursor} (r
     unfolding ringTrace
     ring-drawn room h stroked =
         let ready = fits-spent h (ringed .left fits) in
-        played-drawn m (λ r. andThenTrace (oneEvent (need (ringNeed m)) r) (ringStroke cx p m))
+        applied-drawn m (λ r. andThenTrace (oneEvent (need (ringNeed m)) r) (ringStroke cx p m))
         (with-room (ringNeed m) (ringStroke cx p m) (m .after) start (omega (arith, flats-length (m .points), ringed .end fits))
         (rw (ringed .after fits) at ready) (rw (ringed .points fits, ringed .after fits) at (stroked ready)))
 
@@ -117,7 +117,7 @@ module _ (cx : Ctx) (p : Props) {w work : List Float} {closed : Bool} {ps : List
     -- fewer than 2 points
     pub shape-few : l .points < 4 → Applied (polylineOrPolygonOf cx p closed ps o b) t t (l .budget)
     unfolding shapeTrace
-    shape-few less = shape-drawn (rw (lt-ltb (length ps) 2 (omega (arith, own-count))) (played-quiet t (l .budget) ready))
+    shape-few less = shape-drawn (rw (lt-ltb (length ps) 2 (omega (arith, own-count))) (applied-no-events t (l .budget) ready))
 
     module _ (more : 4 ≤ l .points) where
       many : ltb (length ps) 2 ≡ false
@@ -136,8 +136,8 @@ module _ (cx : Ctx) (p : Props) {w work : List Float} {closed : Bool} {ps : List
       -- otherwise the fill, which leaves the points as they are, and then a line, or a warning where there are too few points for a ring
       module _ (work′ : List Float) (kept : take (l .points) work′ ≡ take (l .points) work) {u : Output} {c : Budget}
           (filled : Loaded work closed ps o l → Fits t (l .budget) → Applied (fillBy cx p ps o (l .budget)) t u c) where
-        fill-played : Applied (fillBy cx p ps o (l .budget)) t u c
-        fill-played = filled (lays .laid fits) ready
+        fill-applied : Applied (fillBy cx p ps o (l .budget)) t u c
+        fill-applied = filled (lays .laid fits) ready
 
         same-points : pointsIn work′ 0 (l .points) ≡ ps
         same-points = points-kept work′ work (l .points) kept 0 (l .points) (omega arith) ∙ lays .laid fits .points
@@ -146,15 +146,15 @@ module _ (cx : Ctx) (p : Props) {w work : List Float} {closed : Bool} {ps : List
             → (Fits u c → Applied (strokeOf cx p 1 0 (pointsIn work′ 0 (l .points)) c) u v d) → Applied (polylineOrPolygonOf cx p closed ps o b) t v d
         unfolding shapeTrace
         shape-line e stroked =
-            shape-drawn (rw (many, e) (played-then (λ r. strokeOf cx p 1 0 ps r) fill-played (rw same-points at (stroked (fill-played .fits)))))
+            shape-drawn (rw (many, e) (applied-then (λ r. strokeOf cx p 1 0 ps r) fill-applied (rw same-points at (stroked (fill-applied .fits)))))
 
-        pub shape-unwritten : {v : Output} {d : Budget} → closed ≡ true → l .ring < 8
+        pub shape-not-written : {v : Output} {d : Budget} → closed ≡ true → l .ring < 8
             → (Fits u c → Applied (drawWithoutWriting cx (p .item) (pointsIn work′ 0 (l .points)) c) u v d) → Applied (polylineOrPolygonOf cx p closed ps o b) t v d
         unfolding shapeTrace
-        shape-unwritten e less told =
+        shape-not-written e less told =
             let ring = closeRingOf ps in
             let n : length ring < 4 = omega (arith, rw e at (lays .laid fits .ringEnd), flats-length ring) in
-            shape-drawn (rw (many, e, lt-leb 4 (length ring) n) (played-then (λ r. drawWithoutWriting cx (p .item) ps r) fill-played (rw same-points at (told (fill-played .fits)))))
+            shape-drawn (rw (many, e, lt-leb 4 (length ring) n) (applied-then (λ r. drawWithoutWriting cx (p .item) ps r) fill-applied (rw same-points at (told (fill-applied .fits)))))
 
 -- ---- points that stand in a slice already: to put them there changes nothing
 flats-of : (w : List Float) (i n : ℕ) → i + 2 * n ≤ length w → flats (pointsOf w i n) ++ drop (i + 2 * n) w ≡ drop i w
@@ -209,7 +209,7 @@ module _ (cx : Ctx) (p : Props) (outline : Maybe (List Point)) (ring : List Poin
   -- none is asked for
   pub fill-none : p .fill ≡ false → Fits t b → Applied (fillOf cx p outline ring b) t t b
   unfolding fillOf
-  fill-none e h = rw e (played-quiet t b h)
+  fill-none e h = rw e (applied-no-events t b h)
 
   module _ (qs : List Point) (is : orValue outline ring ≡ qs) where
     few : length qs < 4 → Fits t b → Applied (fillOf cx p outline ring b) t t b
@@ -217,8 +217,8 @@ module _ (cx : Ctx) (p : Props) (outline : Maybe (List Point)) (ring : List Poin
     few less h = rw (is, lt-leb 4 (length qs) less) (go (p .fill))
       where
         go : (x : Bool) → Applied (pickTrace (x && false) (strokeOf cx p 2 1 qs b) (noEvents b)) t t b
-        go true = played-quiet t b h
-        go false = played-quiet t b h
+        go true = applied-no-events t b h
+        go false = applied-no-events t b h
 
     drawn : {u : Output} {c : Budget} → p .fill ≡ true → 4 ≤ length qs → Applied (strokeOf cx p 2 1 qs b) t u c → Applied (fillOf cx p outline ring b) t u c
     unfolding fillOf

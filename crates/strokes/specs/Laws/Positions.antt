@@ -31,7 +31,7 @@ use Rattle.strokes.specs.declared.state.Props.{Props}
 use Rattle.strokes.specs.declared.state.State.{State}
 use Rattle.strokes.specs.Strokes.{oneEvent, endWith, firstRepeated, featureOf, strokeOf}
 use Rattle.strokes.specs.Contracts.Space.{outputBy, outOfRoomBy, most, longest, behindAt, projectAndClose, firstRepeatedIn, Fits, Applied, Finished}
-use Rattle.strokes.specs.Laws.Applying.{played-drawn}
+use Rattle.strokes.specs.Laws.Applying.{applied-drawn}
 use Rattle.strokes.specs.Laws.Events.{written-lacks, written-finished}
 
 -- ---- the tail of a slice, lent on
@@ -82,14 +82,14 @@ end-is : (p q : Point) (qs : List Point) → endWith p (q ∷ qs) ≡ butLast q 
 end-is p q [] = refl
 end-is p q (r ∷ rs) = ap (λ (l : List Point). q ∷ l) (end-is p r rs)
 
-sealed-is : (p : Point) (ps : List Point) → firstRepeated (p ∷ ps) ≡ butLast p ps ++ (p ∷ [])
-sealed-is p [] = refl
-sealed-is p (q ∷ qs) = ap (λ (l : List Point). p ∷ l) (end-is p q qs)
+repeated-is : (p : Point) (ps : List Point) → firstRepeated (p ∷ ps) ≡ butLast p ps ++ (p ∷ [])
+repeated-is p [] = refl
+repeated-is p (q ∷ qs) = ap (λ (l : List Point). p ∷ l) (end-is p q qs)
 
-sealed-length : (ps : List Point) → length (firstRepeated ps) ≡ length ps
-sealed-length [] = refl
-sealed-length (p ∷ ps) =
-    ap length (sealed-is p ps) ∙ length-append (butLast p ps) (p ∷ []) ∙ sym (ap length (last-behind p ps) ∙ length-append (butLast p ps) (lastOf p ps ∷ []))
+repeated-length : (ps : List Point) → length (firstRepeated ps) ≡ length ps
+repeated-length [] = refl
+repeated-length (p ∷ ps) =
+    ap length (repeated-is p ps) ∙ length-append (butLast p ps) (p ∷ []) ∙ sym (ap length (last-behind p ps) ∙ length-append (butLast p ps) (lastOf p ps ∷ []))
 
 -- a point stored over another
 stored-over : (w : List Float) (i : ℕ) (a b c d : Float) → set (set (set (set w i a) (i + 1) b) i c) (i + 1) d ≡ set (set w i c) (i + 1) d
@@ -114,11 +114,11 @@ ends-with v from to i p e first =
     let one : to - 1 ≡ i + 1 = omega arith in
     rw (two, one, first .0, first .1)
 
-sealed-put : (w : List Float) (at : ℕ) (ps : List Point) → 1 ≤ length ps → at + length (flats ps) ≤ length w
+repeated-put : (w : List Float) (at : ℕ) (ps : List Point) → 1 ≤ length ps → at + length (flats ps) ≤ length w
     → firstRepeatedIn (put w at (flats ps)) at (at + length (flats ps)) ≡ put w at (flats (firstRepeated ps))
 unfolding flats
-sealed-put w at [] some h = absurd (omega arith)
-sealed-put w at (p ∷ ps) some h =
+repeated-put w at [] some h = absurd (omega arith)
+repeated-put w at (p ∷ ps) some h =
     let front = butLast p ps in
     let last = lastOf p ps in
     let i = at + length (flats front) in
@@ -130,15 +130,15 @@ sealed-put w at (p ∷ ps) some h =
     ∙ ap (λ (v : List Float). set (set v i (p .x)) (i + 1) (p .y)) (sym (put-next w at front last room))
     ∙ stored-over (put w at (flats front)) i (last .x) (last .y) (p .x) (p .y)
     ∙ put-next w at front p room
-    ∙ ap (λ (l : List Point). put w at (flats l)) (sym (sealed-is p ps))
+    ∙ ap (λ (l : List Point). put w at (flats l)) (sym (repeated-is p ps))
 
 pub repeated-written : {q q₁ q₂ : List Float} {at : ℕ} {m : Made} {r : PointCursor} → Written q q₁ at m r → r .ok ≡ true → at + 2 ≤ r .at → q₂ ≡ firstRepeatedIn q₁ at (r .at)
     → Written q q₂ at (onPoints firstRepeated m) r
 repeated-written {q} {q₂ = q₂} {at = at} {m = m} {r = r} one fits some there =
-    let same : length (flats (firstRepeated (m .points))) ≡ length (flats (m .points)) = omega (arith, flats-length (firstRepeated (m .points)), flats-length (m .points), sealed-length (m .points)) in
+    let same : length (flats (firstRepeated (m .points))) ≡ length (flats (m .points)) = omega (arith, flats-length (firstRepeated (m .points)), flats-length (m .points), repeated-length (m .points)) in
     let h = written-room one fits in
     written-all q at (onPoints firstRepeated m) q₂ r (rw same h) fits (rw same (one .next fits)) (one .left fits)
-    (there ∙ rw (one .holds fits, one .next fits) (sealed-put q at (m .points) (omega (arith, one .next fits, flats-length (m .points))) h))
+    (there ∙ rw (one .holds fits, one .next fits) (repeated-put q at (m .points) (omega (arith, one .next fits, flats-length (m .points))) h))
 
 -- ---- a polyline's points become the positions of a line or a ring
 module _ (t : Projection) (geometry : ℕ) where
@@ -146,7 +146,7 @@ module _ (t : Projection) (geometry : ℕ) where
   positions-length ps = go (eqb geometry 2)
     where
       go : (x : Bool) → length (cond x (firstRepeated (map (projectPoint t) ps)) (map (projectPoint t) ps)) ≡ length ps
-      go true = sealed-length (map (projectPoint t) ps) ∙ length-map ps (projectPoint t)
+      go true = repeated-length (map (projectPoint t) ps) ∙ length-map ps (projectPoint t)
       go false = length-map ps (projectPoint t)
 
   module _ {q q₁ : List Float} {at : ℕ} {m : Made} {d : PointCursor} (one : Written q q₁ at m d) where
@@ -197,7 +197,7 @@ module _ (cx : Ctx) (p : Props) (geometry role : ℕ) (ps : List Point) (work : 
   unfolding strokeOf
   stroke-lacks short is =
       let lacks : length q < st .positions + length (flats drawn) = leb-false (st .positions + length (flats drawn)) (length q) (sym (one .asked) ∙ short) in
-      played-drawn made (λ b. oneEvent (featureOf p geometry role drawn) b) (written-lacks p geometry role drawn (made .after) work start h (one .kept) lacks is)
+      applied-drawn made (λ b. oneEvent (featureOf p geometry role drawn) b) (written-lacks p geometry role drawn (made .after) work start h (one .kept) lacks is)
 
   pub stroke-finished : {f′ : List ℕ} {r : State} → d .ok ≡ true → Finished p geometry role (d .at) ((d .at - st .positions) / 2) (d .budget) f f′ st r
       → Applied (strokeOf cx p geometry role ps (st .budget)) (outputBy work q f v st) (outputBy work q₁ f′ v r) (r .budget)
@@ -205,5 +205,5 @@ module _ (cx : Ctx) (p : Props) (geometry role : ℕ) (ps : List Point) (work : 
   stroke-finished fits fin =
       let count : (d .at - st .positions) / 2 ≡ length drawn = omega (arith, one .next fits, flats-length drawn) in
       let left = left-falls (densify-replays (cx .step) (cx .projection .registration .scale) ps (st .budget)) in
-      played-drawn made (λ b. oneEvent (featureOf p geometry role drawn) b)
+      applied-drawn made (λ b. oneEvent (featureOf p geometry role drawn) b)
       (written-finished p geometry role drawn (made .after) work start h (written-room one fits) (one .holds fits) (omega arith) (rw (count, one .next fits, one .left fits) at fin))

@@ -11,7 +11,7 @@ use Rattle.scene.specs.Contracts.Answers.{pathsFrom, PathWithin}
 use Rattle.densify.specs.Contracts.Written.{drawnBy}
 use Rattle.convert.specs.Convert.{pathsOf}
 use Rattle.strokes.specs.Contracts.Space.{outputBy, outlineBy}
-use Rattle.convert.specs.Laws.Loops.{path-fits, path-ready, path-played, Loop, none-done, no-more, all-paths, one-path}
+use Rattle.convert.specs.Laws.Loops.{path-fits, path-ready, path-applied, Loop, none-done, no-more, all-paths, one-path}
 use Rattle.convert.proofs.items.draw_each.Statement.{statement}
 use Rattle.convert.proofs.items.draw_each.Tie as tie
 
@@ -90,7 +90,7 @@ loop-again c =
     let n = c .before .before .before .before .before .before .before .before .before .before .before .before .before .before .before .before .before .before .before .before .before .next-path in
     let o = c .before .before .before .before .before .before .before .before .before .before .before .before .before .before .before .before .before .before .next-outline in
     one-path _ _ _ _ _ (c .before .before .before .before .before .before .before .before .before .before .before .before .before .before .before .before .before .before .before .before .before .before .before .before .loop .inv) (n .result) (n .ensures .0) (c .before .before .before .before .before .before .before .before .before .before .before .before .before .before .before .before .before .before .before .if2 .left) (within (c .before .before .before .before .before .before .before .before .before .before .before .before .before .before .before .before .before .before .before) .more) (o .result) (o .ensures .0)
-    (path-played _ _ _ _ _ _ _ (c .before .before .before .before .before .before .before .before .before .before .before .before .before .before .before .before .load-path .ensures) (c .before .before .before .before .before .before .before .before .before .before .before .before .before .part-of .ensures) (c .before .before .before .before .before .before .before .before .polyline-or-polygon .ensures))
+    (path-applied _ _ _ _ _ _ _ (c .before .before .before .before .before .before .before .before .before .before .before .before .before .before .before .before .load-path .ensures) (c .before .before .before .before .before .before .before .before .before .before .before .before .before .part-of .ensures) (c .before .before .before .before .before .before .before .before .polyline-or-polygon .ensures))
 
 pub draw-each-spec : {M : Type 1} → statement M
 draw-each-spec =

@@ -1,5 +1,5 @@
 use borrow.Author.Needs.{needs}
-use Rattle.convert.specs.Laws.Items.{ellipse-round, ring-in, ring-played}
+use Rattle.convert.specs.Laws.Items.{ellipse-round, ring-in, ring-applied}
 use Rattle.convert.proofs.items.draw_ellipse.Statement.{statement}
 use Rattle.convert.proofs.items.draw_ellipse.Tie as tie
 
@@ -23,7 +23,7 @@ same-length-3 c = search needs
 returns : tie.Need-returns
 returns c =
     let ready = c .before .before .before .before .before .before .before .before .before .before .before .before .before .before .before .pre in
-    ring-played (c .before .before .before .before .before .before .before .before .before .before .ellipse-ring .ensures) (ellipse-round _ _ _ _ _ (ready .left) _ _) _ _ (c .before .before .before .before .draw-ring .ensures)
+    ring-applied (c .before .before .before .before .before .before .before .before .before .before .ellipse-ring .ensures) (ellipse-round _ _ _ _ _ (ready .left) _ _) _ _ (c .before .before .before .before .draw-ring .ensures)
 
 pub draw-ellipse-spec : {M : Type 1} → statement M
 draw-ellipse-spec =

@@ -2,7 +2,7 @@ use mathlib.Core.Path.{refl}
 use borrow.Author.Needs.{needs}
 use Rattle.scene.specs.Contracts.Answers.{itemBy}
 use Rattle.convert.specs.Convert.{propsOf, drawnOf}
-use Rattle.strokes.specs.Laws.Applying.{played-quiet}
+use Rattle.strokes.specs.Laws.Applying.{applied-no-events}
 use Rattle.convert.specs.Laws.Items.{item-drawn}
 use Rattle.convert.proofs.items.draw_item.Statement.{statement}
 use Rattle.convert.proofs.items.draw_item.Tie as tie
@@ -154,7 +154,7 @@ returns-7 c = item-drawn _ _ _ _ refl (c .before .before .before .before .before
 
 returns-8 : tie.Need-returns-8
 unfolding drawnOf
-returns-8 c = item-drawn _ _ _ _ (c .before .before .before .props-of .ensures _) (c .before .before .shape-of .ensures _) (c .enum-told4 .given .1) (played-quiet _ _ (c .before .before .before .before .before .before .before .before .before .pre .1))
+returns-8 c = item-drawn _ _ _ _ (c .before .before .before .props-of .ensures _) (c .before .before .shape-of .ensures _) (c .enum-told4 .given .1) (applied-no-events _ _ (c .before .before .before .before .before .before .before .before .before .pre .1))
 
 pub draw-item-spec : {M : Type 1} → statement M
 draw-item-spec =

@@ -1,8 +1,8 @@
 use borrow.Author.Needs.{needs}
 use borrow.Author.Tests.{not-true, not-false}
 use Rattle.scene.specs.Laws.Answers.{is-given, not-given}
-use Rattle.strokes.specs.Laws.Loading.{laid-bounds}
-use Rattle.convert.specs.Laws.Items.{played-from, points-missing, points-drawn}
+use Rattle.strokes.specs.Laws.Loading.{loaded-bounds}
+use Rattle.convert.specs.Laws.Items.{applied-from, points-missing, points-drawn}
 use Rattle.convert.proofs.items.draw_points.Statement.{statement}
 use Rattle.convert.proofs.items.draw_points.Tie as tie
 
@@ -28,7 +28,7 @@ load-points-requires c κs = (c .before .before .before .before .points-of .ensu
 polyline-or-polygon-requires : tie.Need-polyline-or-polygon-requires
 polyline-or-polygon-requires c κs =
     let lays = c .before .before .before .before .before .before .load-points .ensures in
-    (λ ok. (laid-bounds lays ok, lays .left ok), rw (lays .kept) (c .before .before .before .before .before .before .before .before .before .before .before .before .before .before .before .before .before .pre))
+    (λ ok. (loaded-bounds lays ok, lays .left ok), rw (lays .kept) (c .before .before .before .before .before .before .before .before .before .before .before .before .before .before .before .before .before .pre))
 
 same-length-2 : tie.Need-same-length-2
 same-length-2 c = search needs
@@ -46,7 +46,7 @@ returns-2 : tie.Need-returns-2
 returns-2 c =
     let lays = c .before .before .before .before .before .before .before .before .before .before .before .before .before .before .before .load-points .ensures in
     points-drawn _ _ _ _ _ (is-given (c .before .before .before .before .before .before .before .before .before .before .before .before .before .before .before .before .before .before .before .before .points-of .result .some) _ (c .before .before .before .before .before .before .before .before .before .before .before .before .before .before .before .before .before .before .before .before .points-of .ensures .0) (not-false _ (c .before .before .before .before .before .before .before .before .before .before .before .before .before .before .before .before .before .before .if1 .left))) (c .before .before .before .before .before .before .before .before .before .before .before .before .before .before .before .before .before .points-of2 .ensures .0)
-    (played-from (c .before .before .before .before .before .before .before .before .before .before .before .before .before .before .before .before .before .before .before .before .before .before .before .before .before .before .args .st) (lays .kept) (c .before .before .before .before .before .before .before .before .polyline-or-polygon .ensures _ _ _ _ lays))
+    (applied-from (c .before .before .before .before .before .before .before .before .before .before .before .before .before .before .before .before .before .before .before .before .before .before .before .before .before .before .args .st) (lays .kept) (c .before .before .before .before .before .before .before .before .polyline-or-polygon .ensures _ _ _ _ lays))
 
 pub draw-points-spec : {M : Type 1} → statement M
 draw-points-spec =

@@ -6,7 +6,7 @@ use Prim.Native.Nat.{_-_}
 use native.Mathlib.Omega.{arith}
 use Rattle.stream.specs.Contracts.Payload.{room}
 use Rattle.scene.specs.Contracts.Answers.{Within}
-use Rattle.register.proofs.VariableTurns.{Turn, turned, long, suffix, start-rises}
+use Rattle.register.proofs.VariableSteps.{VariableStep, turned, long, suffix, start-rises}
 use Rattle.register.proofs.MentionLists.{Looking, looking, no-lon, on-other, one-lon}
 use Rattle.register.proofs.mentions.next_lon.Statement.{statement}
 use Rattle.register.proofs.mentions.next_lon.Tie as tie
@@ -23,7 +23,7 @@ within c h = c .next-variable .ensures .1 .0 (not-false _ h)
 -- a turn, up to whether the variable is `<L>_lon`
 turn : (c : tie.After-is-lon Inv-loop μ-loop)
     → let at = c .before .before .before .before .before .before .before .before .before .loop in
-    Turn (c .before .before .before .before .before .before .before .before .before .before .before .before .args .s .now) (at .starts) (at .at) (at .len) (at .q) (c .before .before .before .before .before .before .before .before .next-variable .result) (c .before .before .before .set-prefix-starts .last .0) (c .is-lon .result)
+    VariableStep (c .before .before .before .before .before .before .before .before .before .before .before .before .args .s .now) (at .starts) (at .at) (at .len) (at .q) (c .before .before .before .before .before .before .before .before .next-variable .result) (c .before .before .before .set-prefix-starts .last .0) (c .is-lon .result)
 turn c =
     let v = c .before .before .before .before .before .before .before .before in
     let h = c .before .before .before .before .before .before .if1 .left in

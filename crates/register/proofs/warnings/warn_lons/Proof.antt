@@ -6,18 +6,18 @@ use native.Mathlib.Omega.{arith}
 use Rattle.stream.specs.Contracts.Payload.{room}
 use Rattle.scene.specs.Laws.Rising.{variables-rising}
 use Rattle.values.specs.Laws.Warnings.{sliceOf, same-slice}
-use Rattle.register.proofs.WarningLaws.{Telling, telling, all-variables, lon-fits, lon-control, lon-warned}
+use Rattle.register.proofs.WarningLaws.{WarningLoop, warning-loop, all-variables, lon-fits, lon-control, lon-warned}
 use Rattle.register.proofs.warnings.warn_lons.Statement.{statement}
 use Rattle.register.proofs.warnings.warn_lons.Tie as tie
 
 abbrev Inv-loop : tie.InvT-loop
-Inv-loop s kept n positions h features out₀ warned₀ starts₀ c₀ k₀ j₀ out warned starts c k j = Telling s kept n (sliceOf out₀ warned₀) (sliceOf out warned) starts c k features j
+Inv-loop s kept n positions h features out₀ warned₀ starts₀ c₀ k₀ j₀ out warned starts c k j = WarningLoop s kept n (sliceOf out₀ warned₀) (sliceOf out warned) starts c k features j
 
 abbrev μ-loop : tie.MeasureT-loop
 μ-loop s kept n positions h features out₀ warned₀ starts₀ c₀ k₀ j₀ out warned starts c k j = room s - c .q
 
 loop-holds : tie.Need-loop-holds Inv-loop μ-loop
-loop-holds c = telling _ _ _ _ (c .before .before .before .before .pre .2) (c .before .before .before .before .pre .0 .surveyed .variables-at) (variables-rising _ (c .before .before .before .before .pre .0 .laid-out)) (c .before .before .before .before .pre .1 .left)
+loop-holds c = warning-loop _ _ _ _ (c .before .before .before .before .pre .2) (c .before .before .before .before .pre .0 .surveyed .variables-at) (variables-rising _ (c .before .before .before .before .pre .0 .laid-out)) (c .before .before .before .before .pre .1 .left)
 
 slice-aggregate-next-mention : tie.Need-slice-aggregate-next-mention Inv-loop μ-loop
 slice-aggregate-next-mention c = sym (c .before .loop .inv .follows .along refl .passed .sized)

@@ -3,7 +3,7 @@ use native.Mathlib.Omega.{arith}
 use borrow.Author.Needs.{needs}
 use borrow.Author.Tests.{not-true, not-false}
 use Rattle.strokes.specs.Strokes.{ringTrace}
-use Rattle.strokes.specs.Laws.Applying.{played-stuck}
+use Rattle.strokes.specs.Laws.Applying.{applied-stuck}
 use Rattle.strokes.specs.Laws.Polygons.{ring-short, ring-full, ring-drawn}
 use Rattle.strokes.proofs.polylines.draw_ring.Statement.{statement}
 use Rattle.strokes.proofs.polylines.draw_ring.Tie as tie
@@ -11,7 +11,7 @@ use Rattle.strokes.proofs.polylines.draw_ring.Tie as tie
 returns : tie.Need-returns
 returns c =
     let a = c .before .before .before .before .before .args in
-    λ m ringed v h. played-stuck (ringTrace (a .cx) (a .p) m) _ _ (c .if1 .taken) h
+    λ m ringed v h. applied-stuck (ringTrace (a .cx) (a .p) m) _ _ (c .if1 .taken) h
 
 out-of-room-requires : tie.Need-out-of-room-requires
 out-of-room-requires c κs = search needs

@@ -8,8 +8,8 @@ use borrow.Author.Tests.{not-true, not-false}
 use lib.ListN.{length}
 use Rattle.strokes.specs.Strokes.{polylineOrPolygonOf}
 use Rattle.strokes.specs.Contracts.Space.{outputBy, Fits, Bounds}
-use Rattle.strokes.specs.Laws.Applying.{played-stuck}
-use Rattle.strokes.specs.Laws.Polygons.{fits-spent, shape-lacks, shape-few, shape-ring, shape-line, shape-unwritten}
+use Rattle.strokes.specs.Laws.Applying.{applied-stuck}
+use Rattle.strokes.specs.Laws.Polygons.{fits-spent, shape-lacks, shape-few, shape-ring, shape-line, shape-not-written}
 use Rattle.strokes.proofs.polylines.polyline_or_polygon.Statement.{statement}
 use Rattle.strokes.proofs.polylines.polyline_or_polygon.Tie as tie
 
@@ -32,7 +32,7 @@ returns : tie.Need-returns
 returns c =
     let e = c .before .before .before .before .before .before in
     let a = e .args in
-    λ w ps o b lays. played-stuck (polylineOrPolygonOf (a .cx) (a .p) (a .closed) ps o b) _ _ (c .if1 .taken) (e .pre .1)
+    λ w ps o b lays. applied-stuck (polylineOrPolygonOf (a .cx) (a .p) (a .closed) ps o b) _ _ (c .if1 .taken) (e .pre .1)
 
 out-of-room-requires : tie.Need-out-of-room-requires
 out-of-room-requires c κs = search needs
@@ -126,7 +126,7 @@ returns-5 c =
     let filled = c .before .before .before .before .before .before .before .before .before .before .before .before .fill .ensures in
     let told = c .before .before .draw-without-writing .ensures in
     λ w ps o b lays.
-    shape-unwritten (a .cx) (a .p) lays refl (room s .0) (e .pre .1) (room s .1) more _ (filled .1 .0)
+    shape-not-written (a .cx) (a .p) lays refl (room s .0) (e .pre .1) (room s .1) more _ (filled .1 .0)
     (λ laid. (rw (s .with-budget .ensures) at (filled .0)) (a .closed) ps o laid _) marked less (told _ _ _)
 
 stroke-requires-2 : tie.Need-stroke-requires-2

@@ -7,7 +7,7 @@ use Rattle.values.specs.Contracts.Points.{pointsIn}
 use Rattle.densify.specs.Laws.Replay.{densify-replays}
 use Rattle.densify.specs.Laws.Sizes.{left-falls}
 use Rattle.strokes.specs.Strokes.{missing, drawWithoutWriting}
-use Rattle.strokes.specs.Laws.Applying.{played-drawn}
+use Rattle.strokes.specs.Laws.Applying.{applied-drawn}
 use Rattle.strokes.proofs.positions.draw_without_writing.Statement.{statement}
 use Rattle.strokes.proofs.positions.draw_without_writing.Tie as tie
 
@@ -35,7 +35,7 @@ returns c w q f h =
     let drawn = (c .before .before .before .with-budget .ensures) in
     let spent = c .before .before .before .before .before .spend-polyline .ensures in
     let left = left-falls (densify-replays (s .cx .step) (s .cx .projection .registration .scale) ps (s .st .budget)) in
-    played-drawn m (λ b. missing (s .item) b)
+    applied-drawn m (λ b. missing (s .item) b)
     (rw (drawn, spent) at (c .before .before .warn .ensures w q f
     (rw (drawn, spent) (record { positions = h .positions; features = h .features; warnings = h .warnings; left = omega arith }))))
 

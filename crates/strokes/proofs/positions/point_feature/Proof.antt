@@ -9,13 +9,13 @@ use Rattle.projection.specs.Projection.{projectPoint}
 use Rattle.densify.specs.Laws.Writing.{written-room}
 use Rattle.projection.specs.Laws.Passes.{placed-is}
 use Rattle.strokes.specs.Strokes.{pointOf}
-use Rattle.strokes.specs.Laws.Applying.{played-stuck}
+use Rattle.strokes.specs.Laws.Applying.{applied-stuck}
 use Rattle.strokes.specs.Laws.Events.{written-lacks, written-finished}
 use Rattle.strokes.proofs.positions.point_feature.Statement.{statement}
 use Rattle.strokes.proofs.positions.point_feature.Tie as tie
 
 returns : tie.Need-returns
-returns c w v h = played-stuck _ _ _ (c .if1 .taken) h
+returns c w v h = applied-stuck _ _ _ (c .if1 .taken) h
 
 geo-requires : tie.Need-geo-requires
 geo-requires c κs = search needs

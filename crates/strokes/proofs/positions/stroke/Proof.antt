@@ -12,13 +12,13 @@ use Rattle.densify.specs.Densify.{Made}
 use Rattle.densify.specs.Contracts.Written.{Written}
 use Rattle.densify.specs.Laws.Writing.{next-in}
 use Rattle.strokes.specs.Contracts.Space.{most, longest, behindAt}
-use Rattle.strokes.specs.Laws.Applying.{played-stuck}
+use Rattle.strokes.specs.Laws.Applying.{applied-stuck}
 use Rattle.strokes.specs.Laws.Positions.{tail-written, strokePoints, strokeMade, stroke-some, stroke-few, stroke-lacks, stroke-finished}
 use Rattle.strokes.proofs.positions.stroke.Statement.{statement}
 use Rattle.strokes.proofs.positions.stroke.Tie as tie
 
 returns : tie.Need-returns
-returns c w v h = played-stuck _ _ _ (c .if1 .taken) h
+returns c w v h = applied-stuck _ _ _ (c .if1 .taken) h
 
 mul-densify-polyline : tie.Need-mul-densify-polyline
 mul-densify-polyline c = search needs

@@ -1,13 +1,13 @@
 use borrow.Author.Needs.{needs}
 use borrow.Author.Tests.{not-true, not-false}
 use Rattle.strokes.specs.Contracts.Space.{outputBy}
-use Rattle.strokes.specs.Laws.Applying.{played-stuck}
+use Rattle.strokes.specs.Laws.Applying.{applied-stuck}
 use Rattle.strokes.specs.Laws.Events.{pushed-fits, pushed-lacks}
 use Rattle.strokes.proofs.state.warn.Statement.{statement}
 use Rattle.strokes.proofs.state.warn.Tie as tie
 
 returns : tie.Need-returns
-returns c w p f h = played-stuck _ _ _ (c .if1 .taken) h
+returns c w p f h = applied-stuck _ _ _ (c .if1 .taken) h
 
 push-warning-requires : tie.Need-push-warning-requires
 push-warning-requires c κs = search needs

@@ -3,7 +3,7 @@ use borrow.Author.Needs.{needs}
 use borrow.Author.Tests.{not-true, not-false}
 use Rattle.densify.specs.Laws.Writing.{next-in}
 use Rattle.densify.specs.Laws.Closing.{closed-done}
-use Rattle.strokes.specs.Laws.Loading.{outline-short, closing-short, outline-full, outline-laid}
+use Rattle.strokes.specs.Laws.Loading.{outline-short, closing-short, outline-full, outline-loaded}
 use Rattle.strokes.proofs.workspace.load_outline.Statement.{statement}
 use Rattle.strokes.proofs.workspace.load_outline.Tie as tie
 
@@ -45,7 +45,7 @@ same-length-3 c = search needs
 returns-4 : tie.Need-returns-4
 returns-4 c = λ w w₁ closed ps b m own done few one small.
     let fits = not-false _ (c .before .before .before .before .before .before .before .before .if1 .left) in
-    outline-laid own done m (closed-done one fits (c .before .before .before .before .before .close-ring .ensures)) (not-false _ (c .before .if2 .left)) few small (one .left fits) (omega arith)
+    outline-loaded own done m (closed-done one fits (c .before .before .before .before .before .close-ring .ensures)) (not-false _ (c .before .if2 .left)) few small (one .left fits) (omega arith)
 
 pub load-outline-spec : {M : Type 1} → statement M
 load-outline-spec =

@@ -6,7 +6,7 @@ use borrow.Author.Needs.{needs}
 use borrow.Author.Tests.{not-true, not-false}
 use Rattle.densify.specs.Contracts.Written.{Written}
 use Rattle.densify.specs.Laws.Writing.{next-in}
-use Rattle.strokes.specs.Laws.Loading.{closer, closer-marked, closer-done, closer-none, own-short, ring-short, own-full, own-laid}
+use Rattle.strokes.specs.Laws.Loading.{closer, closer-marked, closer-done, closer-none, own-short, ring-short, own-full, own-loaded}
 use Rattle.strokes.proofs.workspace.load_own.Statement.{statement}
 use Rattle.strokes.proofs.workspace.load_own.Tie as tie
 
@@ -50,7 +50,7 @@ same-length-3 : tie.Need-same-length-3
 same-length-3 c = closing (c .before .before) .kept
 
 returns-4 : tie.Need-returns-4
-returns-4 c = λ w m one small. own-laid _ one (not-false _ (c .before .before .before .before .if1 .left)) (closing (c .before .before)) refl small (omega arith)
+returns-4 c = λ w m one small. own-loaded _ one (not-false _ (c .before .before .before .before .if1 .left)) (closing (c .before .before)) refl small (omega arith)
 
 pub load-own-spec : {M : Type 1} → statement M
 load-own-spec =

@@ -6,7 +6,7 @@ use Rattle.values.specs.Maybe.{none}
 use Rattle.densify.specs.Densify.{withoutDraws}
 use Rattle.densify.specs.Laws.Writing.{next-in}
 use Rattle.strokes.specs.Contracts.Space.{Loads, Small}
-use Rattle.strokes.specs.Laws.Loading.{end-in, outline-in, lays-more, points-small}
+use Rattle.strokes.specs.Laws.Loading.{end-in, outline-in, loads-more, points-small}
 use Rattle.strokes.proofs.workspace.load_points.Statement.{statement}
 use Rattle.strokes.proofs.workspace.load_points.Tie as tie
 
@@ -35,7 +35,7 @@ same-length : tie.Need-same-length
 same-length c = search needs
 
 returns : tie.Need-returns
-returns c = lays-more (own (c .before .before .before .before)) (not-true _ (c .if1 .taken)) _ _
+returns c = loads-more (own (c .before .before .before .before)) (not-true _ (c .if1 .taken)) _ _
 
 same-length-2 : tie.Need-same-length-2
 same-length-2 c = search needs

@@ -26,7 +26,7 @@ unfolding bytesAt
 along s {q} e r = record { passed = none-passed (variablesAt (payload s)) q (e .all) r; within = omega arith; short = omega arith }
 
 -- the next variable is v, the prefix starts become `to`, and t is whether it is `<L>_lon`
-pub record Turn (s starts : List ℕ) (at len q : ℕ) (v : Variable) (to : List ℕ) (t : Bool) : Type 0 where
+pub record VariableStep (s starts : List ℕ) (at len q : ℕ) (v : Variable) (to : List ℕ) (t : Bool) : Type 0 where
   pub before : Along s starts at len q
   pub lists : variablesAt (payload s) q ≡ variablesBy (payload s) v
   pub found : not (v .some) ≡ false
@@ -42,7 +42,7 @@ pub record Turn (s starts : List ℕ) (at len q : ℕ) (v : Variable) (to : List
 abbrev pub hereOf : List ℕ → Variable → NamedValue
 hereOf s v = record { name = bytesAt (payload s) (v .at) (v .len); value = v .value }
 
-module _ {s starts : List ℕ} {at len q : ℕ} {v : Variable} {to : List ℕ} {t : Bool} (p : Turn s starts at len q v to t) where
+module _ {s starts : List ℕ} {at len q : ℕ} {v : Variable} {to : List ℕ} {t : Bool} (p : VariableStep s starts at len q v to t) where
   abbrev name : List ℕ
   name = bytesAt (payload s) (v .at) (v .len)
 
