@@ -7,6 +7,9 @@ mod archive;
 #[allow(dead_code)]
 #[path = "../tests/leaves/arguments.rs"]
 mod arguments;
+#[allow(dead_code)]
+#[path = "../tests/leaves/digits.rs"]
+mod digits;
 #[path = "../tests/standins.rs"]
 mod standins;
 
@@ -15,7 +18,8 @@ use std::time::Instant;
 
 use arguments::{Arguments, Random};
 
-const CALLS: usize = 20_000;
+// More than a processor's branch predictor learns by heart.
+const CALLS: usize = 65_536;
 
 // The nanoseconds a call of each round.
 struct Times(Vec<f64>);
@@ -67,7 +71,10 @@ fn row<R, S>(
 }
 
 macro_rules! one {
-    ($rounds:expr, $name:ident, $result:ty, $library:expr) => {{
+    ($rounds:expr, $name:ident, $result:ty, $library:expr) => {
+        one!($rounds, stringify!($name), $name, $result, $library)
+    };
+    ($rounds:expr, $row:expr, $name:ident, $result:ty, $library:expr) => {{
         #[inline(never)]
         fn standin(x: f64) -> $result {
             standins::$name(x)
@@ -76,9 +83,8 @@ macro_rules! one {
         fn library(x: f64) -> $result {
             $library(x)
         }
-        let name = stringify!($name);
         row(
-            name,
+            $row,
             $rounds,
             |x, _| archive::$name(x),
             |x, _| standin(x),
@@ -132,6 +138,7 @@ fn main() {
     one!(rounds, round, f64, f64::round);
     one!(rounds, rem_euclid_360, f64, |x: f64| x.rem_euclid(360.0));
     one!(rounds, root, f64, f64::sqrt);
+    one!(rounds, "root_inches", root, f64, f64::sqrt);
     two!(rounds, hypot, f64::hypot);
     one!(rounds, sin, f64, f64::sin);
     one!(rounds, cos, f64, f64::cos);

@@ -1,4 +1,6 @@
-// The C symbols of the static library. Floats in, floats out: every call is safe.
+// The C symbols of the static library. Floats in, numbers out: every call is safe.
+
+use crate::digits::Rooted;
 
 unsafe extern "C" {
     #[link_name = "leaf_abs"]
@@ -20,6 +22,8 @@ unsafe extern "C" {
     pub safe fn rem_euclid_360(x: f64) -> f64;
     #[link_name = "leaf_root"]
     pub safe fn root(x: f64) -> f64;
+    #[link_name = "leaf_root_digits"]
+    pub safe fn root_digits(x: f64) -> Rooted;
     #[link_name = "leaf_hypot"]
     pub safe fn hypot(x: f64, y: f64) -> f64;
     #[link_name = "leaf_sin"]

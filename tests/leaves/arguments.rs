@@ -158,7 +158,7 @@ pub fn edges(leaf: &str) -> Vec<f64> {
                 around(&mut list, 360.0 * power_of_two(e), 2);
             }
         }
-        "root" => {
+        "root" | "root_digits" => {
             // 94,906,265 has the largest square below 2^53.
             for n in (1..=256).chain(94_906_010..=94_906_265) {
                 let side = n as f64;
@@ -294,6 +294,23 @@ fn exact_square(random: &mut Random) -> f64 {
     }
 }
 
+// The square of an odd number below 2^27 under every even exponent that leaves it
+// whole in the format, those of the subnormals too, or a float next to it.
+fn odd_square(random: &mut Random) -> f64 {
+    let n = random.word() >> random.whole(37, 63) | 1;
+    let square = n * n;
+    let above = 64 - i64::from(square.leading_zeros());
+    if above > 53 {
+        // Such a square is no float, but its root is still the nearest to one.
+        return square as f64 * power_of_two(2 * random.whole(-500, 480));
+    }
+    let x = square as f64 * power_of_two(2 * random.whole(-537, (1024 - above) / 2));
+    match random.below(3) {
+        0 => step(x, random.signed(1.0) as i64),
+        _ => x,
+    }
+}
+
 fn with_sign(random: &mut Random, x: f64) -> Arguments {
     (random.signed(x), 0.0)
 }
@@ -332,6 +349,10 @@ pub fn hard(leaf: &str) -> Source {
         "root" => |r| match r.below(2) {
             0 => (near_middle(r), 0.0),
             _ => (exact_square(r), 0.0),
+        },
+        "root_digits" => |r| match r.below(4) {
+            0 => (near_middle(r), 0.0),
+            _ => (odd_square(r), 0.0),
         },
         // Squares of few bits, so that the sum is exact or nearly so.
         "hypot" => |r| {
@@ -440,13 +461,18 @@ pub fn in_use(leaf: &str) -> Source {
             1 => (r.within(7200.0), 0.0),
             _ => (canvas(r), 0.0),
         },
-        "root" => |r| match r.below(3) {
+        "root" | "root_digits" => |r| match r.below(3) {
             0 => (r.between(0.0, 1e12), 0.0),
             1 => (r.between(1.0, 2.0), 0.0),
             _ => {
                 let x = metres(r);
                 (x * x, 0.0)
             }
+        },
+        // The squares of a site grid's lengths.
+        "root_inches" => |r| {
+            let inches = r.whole(1, 16_383) as f64;
+            (inches * inches, 0.0)
         },
         "sin" | "cos" | "tan" => |r| match r.below(4) {
             0 => (latitude(r) * (PI / 180.0), 0.0),

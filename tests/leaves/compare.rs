@@ -3,6 +3,7 @@
 
 mod archive;
 mod arguments;
+mod digits;
 #[path = "../standins.rs"]
 mod standins;
 
@@ -10,15 +11,45 @@ use std::process::exit;
 use std::time::Instant;
 
 use arguments::{Arguments, Random};
+use digits::Rooted;
 
 // Differences shown for each leaf.
 const SHOWN: u64 = 5;
 
+// What a leaf gives: a value, and the number of digits where it tells one.
+struct Answer {
+    value: f64,
+    digits: Option<u32>,
+}
+
+impl<T: Into<f64>> From<T> for Answer {
+    fn from(value: T) -> Answer {
+        Answer {
+            value: value.into(),
+            digits: None,
+        }
+    }
+}
+
+impl Answer {
+    fn rooted(r: Rooted) -> Answer {
+        Answer {
+            value: r.root,
+            digits: Some(r.digits),
+        }
+    }
+
+    fn equals(&self, other: &Answer) -> bool {
+        let values = self.value.to_bits() == other.value.to_bits();
+        (values || self.value.is_nan() && other.value.is_nan()) && self.digits == other.digits
+    }
+}
+
 struct Leaf {
     name: &'static str,
     pair: bool,
-    archive: fn(f64, f64) -> f64,
-    standin: fn(f64, f64) -> f64,
+    archive: fn(f64, f64) -> Answer,
+    standin: fn(f64, f64) -> Answer,
 }
 
 macro_rules! one {
@@ -37,13 +68,13 @@ macro_rules! two {
         Leaf {
             name: stringify!($name),
             pair: true,
-            archive: |x, y| archive::$name(x, y),
-            standin: |x, y| standins::$name(x, y),
+            archive: |x, y| archive::$name(x, y).into(),
+            standin: |x, y| standins::$name(x, y).into(),
         }
     };
 }
 
-const LEAVES: [Leaf; 20] = [
+const LEAVES: [Leaf; 21] = [
     one!(abs),
     two!(max),
     two!(min),
@@ -53,6 +84,12 @@ const LEAVES: [Leaf; 20] = [
     one!(round),
     one!(rem_euclid_360),
     one!(root),
+    Leaf {
+        name: "root_digits",
+        pair: false,
+        archive: |x, _| Answer::rooted(archive::root_digits(x)),
+        standin: |x, _| Answer::rooted(digits::root_digits(x)),
+    },
     two!(hypot),
     one!(sin),
     one!(cos),
@@ -77,12 +114,19 @@ fn written(x: f64) -> String {
     format!("{:#018x} ({x:?})", x.to_bits())
 }
 
+fn answer(a: &Answer) -> String {
+    match a.digits {
+        None => written(a.value),
+        Some(n) => format!("{} of {n} digits", written(a.value)),
+    }
+}
+
 impl Tally<'_> {
     fn compare(&mut self, (x, y): Arguments) {
         let archive = (self.leaf.archive)(x, y);
         let standin = (self.leaf.standin)(x, y);
         self.compared += 1;
-        if archive.to_bits() == standin.to_bits() || archive.is_nan() && standin.is_nan() {
+        if archive.equals(&standin) {
             return;
         }
         self.differences += 1;
@@ -93,8 +137,8 @@ impl Tally<'_> {
             }
             line += &format!(
                 ": archive {}, stand-in {}",
-                written(archive),
-                written(standin)
+                answer(&archive),
+                answer(&standin)
             );
             self.shown.push(line);
         }

@@ -3,7 +3,9 @@ ghost use mathlib.Core.Path.{_≡_};
 ghost use lib.Ieee.Scale.{finite};
 ghost use Rattle.float.specs.Functions.{absOf, truncOf, ceilOf, roundOf, remEuclid360Of, maxOf, minOf};
 ghost use Rattle.root.specs.Root.{rootOf};
+ghost use Rattle.root.specs.Digits.{digitsOf};
 ghost use Rattle.elementary.specs.Functions.{sinOf, cosOf, tanOf, lnOf, expOf, atanOf, acosOf, toRadiansOf, toDegreesOf, hypotOf, atan2Of};
+use root::Rooted;
 
 #[no_mangle]
 pub extern "C" fn leaf_abs(x: f64) -> f64
@@ -45,6 +47,13 @@ pub extern "C" fn leaf_root(x: f64) -> f64
     ensures { λ r. ⌜ r ≡ rootOf x ⌝ }
 {
     root::root(x)
+}
+
+#[no_mangle]
+pub extern "C" fn leaf_root_digits(x: f64) -> Rooted
+    ensures { λ r. ⌜ (r .root ≡ rootOf x) × (r .digits ≡ digitsOf x) ⌝ }
+{
+    root::root_digits(x)
 }
 
 #[no_mangle]

@@ -1,30 +1,33 @@
--- `root::guess` meets its contract: the parabola is tested at each value of the first 9 digits. Assumes nothing.
+-- `root::guess` meets its contract, by the law of a chord. Assumes nothing.
+use Prim.Native.Nat.{ℕ, _+_, _*_, _/_, _%_, _^_, _<_}
 use native.Mathlib.Omega.{arith}
 use borrow.Author.Needs.{needs}
-use Rattle.root.proofs.Parabola.{product-le, below, near}
+use Rattle.root.specs.Contracts.Blocks.{NearRoot}
+use Rattle.root.proofs.Mean.{product-fits, near}
 use Rattle.root.proofs.guess.Statement.{statement}
 use Rattle.root.proofs.guess.Tie as tie
 
-sub-root : tie.Need-sub-root
-sub-root c = search needs
+module _ (c : tie.After-chord-at) where
+  abbrev m : ℕ
+  m = c .before .args .m
 
-mul-root : tie.Need-mul-root
-mul-root c = omega (arith, product-le (c .pre))
+  fits : c .chord-at .result .1 * (m % 2 ^ 47 / 2 ^ 15) < 2 ^ 64
+  fits = product-fits m (c .chord-at .result .0) (c .chord-at .result .1) (c .chord-at .ensures) (c .before .pre .0) (c .before .pre .1)
 
-mul-root-2 : tie.Need-mul-root-2
-mul-root-2 c = omega (arith, product-le (c .pre))
+  close : NearRoot m (c .chord-at .result .0 + c .chord-at .result .1 * (m % 2 ^ 47 / 2 ^ 15) / 2 ^ 32)
+  close = near m (c .chord-at .result .0) (c .chord-at .result .1) (c .chord-at .ensures) (c .before .pre .0) (c .before .pre .1)
 
-add-root : tie.Need-add-root
-add-root c = omega (arith, product-le (c .pre))
+chord-at-requires : tie.Need-chord-at-requires
+chord-at-requires c κs = omega arith
 
-mul-t4 : tie.Need-mul-t4
-mul-t4 c = omega (arith, below (c .pre))
+mul-result : tie.Need-mul-result
+mul-result c = record { fits = fits (c .before) }
 
-sub-t7 : tie.Need-sub-t7
-sub-t7 c = below (c .pre)
+add-result : tie.Need-add-result
+add-result c = omega (arith, close (c .before .before) .most)
 
 returns : tie.Need-returns
-returns c = record { is = omega (arith, below (c .pre)); some = omega arith; near = near (c .pre) }
+returns c = close (c .before .before)
 
 pub guess-spec : {M : Type 1} → statement M
-guess-spec = tie.close (tie.spec sub-root mul-root mul-root-2 add-root mul-t4 sub-t7 returns)
+guess-spec = tie.close (tie.spec chord-at-requires mul-result add-result returns)

@@ -1,40 +1,31 @@
--- `root::whole_root` meets its contract: the first block makes the guess exact, and each of the two that follow has a
--- root of enough digits before it. Assumes nothing.
-use Prim.Native.Nat.{ℕ, _/_, _^_}
+-- `root::whole_root` meets its contract: the first block uses up m, and where something remains no root is exact. Assumes nothing.
+use mathlib.Core.Path.{ap, subst, sym}
+use Prim.Native.Nat.{ℕ, _*_, _^_}
 use native.Mathlib.Omega.{arith}
 use borrow.Author.Needs.{needs}
-use Rattle.root.specs.Contracts.Blocks.{IsRemainder}
-use Rattle.root.proofs.Blocks.{ready-guess, ready, renamed, whole-of}
+use Rattle.root.specs.Laws.Whole.{IsRoot}
+use Rattle.root.proofs.Blocks.{root-ge, root-lt, ends-first, ends-second}
 use Rattle.root.proofs.whole_root.Statement.{statement}
 use Rattle.root.proofs.whole_root.Tie as tie
 
-guess-requires : tie.Need-guess-requires
-guess-requires c κs = search needs
+first-block-requires : tie.Need-first-block-requires
+first-block-requires c κs = search needs
 
-next-block-requires : tie.Need-next-block-requires
-next-block-requires c κs = ready-guess (c .guess .ensures) (omega arith)
-
--- 14 digits
-module _ (c : tie.After-next-block) where
-  abbrev m : ℕ
-  m = c .before .before .args .m
-
-  p14 : IsRemainder (m / 2 ^ 26) (c .next-block .result .root) (c .next-block .result .rem)
-  p14 = renamed (omega (arith, c .before .guess .ensures .is)) (c .next-block .ensures)
-
-next-block-requires-2 : tie.Need-next-block-requires-2
-next-block-requires-2 c κs = ready (2 ^ 13) (p14 c) (omega arith) (omega arith) (omega arith) (omega arith) (omega arith)
-
--- 27 digits
-module _ (c : tie.After-next-block2) where
-  p27 : IsRemainder (m (c .before)) (c .next-block2 .result .root) (c .next-block2 .result .rem)
-  p27 = renamed (omega (arith, p14 (c .before) .is)) (c .next-block2 .ensures)
-
-next-block-requires-3 : tie.Need-next-block-requires-3
-next-block-requires-3 c κs = ready (2 ^ 26) (p27 c) (search needs) (search needs) (omega arith) (omega arith) (omega arith)
+mul-t5 : tie.Need-mul-t5
+mul-t5 c = omega (arith, root-lt (c .before .before .before .first-block .ensures) (search needs))
 
 returns : tie.Need-returns
-returns c = whole-of (renamed (omega (arith, p27 (c .before) .is)) (c .next-block3 .ensures))
+returns c = ends-first (c .before .before .before .first-block .ensures) (c .before .if1 .taken)
+
+second-block-requires : tie.Need-second-block-requires
+second-block-requires c κs =
+    let v = c .before .before .first-block .ensures in
+    (root-ge v (search needs), root-lt v (search needs), v .little)
+
+returns-2 : tie.Need-returns-2
+returns-2 c =
+    let v = c .before .before .before .first-block .ensures in
+    (subst (λ (n : ℕ). IsRoot (n * 2 ^ 54) (c .second-block .result)) (sym (v .is)) (c .second-block .ensures), ends-second (c .second-block .result) v (c .before .if1 .left))
 
 pub whole-root-spec : {M : Type 1} → statement M
-whole-root-spec = tie.close (tie.spec guess-requires next-block-requires next-block-requires-2 next-block-requires-3 returns)
+whole-root-spec = tie.close (tie.spec first-block-requires mul-t5 returns second-block-requires returns-2)

@@ -15,6 +15,9 @@ use lib.Ieee.Bits.{is-true}
 use Rattle.float.specs.Contracts.Decomposition.{unitsAt, Decomposition}
 use Rattle.float.specs.Laws.Patterns.{ofBits-is}
 use Rattle.float.specs.Laws.Units.{plus-fields, value-of-pattern, some-units}
+use lib.Count.{trailingZeros}
+use Rattle.root.specs.Digits.{digitsAt, digitsOf}
+use Rattle.root.specs.Laws.Counted.{counted-exact, counted-other}
 use Rattle.root.specs.Root.{scaled, rootAt, rootOf}
 use Rattle.root.specs.Laws.Whole.{IsRoot, sq-le-root, sq-lt-back, pow-sum}
 use Rattle.root.specs.Laws.Form.{root-read, root-no-nan}
@@ -42,62 +45,78 @@ root-of-value (fin s zero e) n h N = absurd (no-size e n (2 ^ 1074) N (h .1))
 root-of-value (fin true (suc m) e) n h N = absurd (true≢false (h .0))
 root-of-value (fin false (suc m) e) n h N = ap rootAt (scaled-is (suc m) e n (h .1))
 
-below-zero : (v : Float) (n c : ℕ) → HasValue v true n c → 0 < n → rootOf v ≡ nan
-unfolding rootOf
+pub digits-of-value : (v : Float) (n : ℕ) → HasValue v false n (2 ^ 1074) → 0 < n → digitsOf v ≡ digitsAt (n * 2 ^ 1076)
+unfolding digitsOf
+digits-of-value nan n h N = absurd h
+digits-of-value (inf s) n h N = absurd h
+digits-of-value (fin s zero e) n h N = absurd (no-size e n (2 ^ 1074) N (h .1))
+digits-of-value (fin true (suc m) e) n h N = absurd (true≢false (h .0))
+digits-of-value (fin false (suc m) e) n h N = ap digitsAt (scaled-is (suc m) e n (h .1))
+
+below-zero : (v : Float) (n c : ℕ) → HasValue v true n c → 0 < n → (nan ≡ rootOf v) × (0 ≡ digitsOf v)
+unfolding rootOf digitsOf
 below-zero nan n c h N = absurd h
 below-zero (inf s) n c h N = absurd h
 below-zero (fin s zero e) n c h N = absurd (no-size e n c N (h .1))
-below-zero (fin true (suc m) e) n c h N = refl
+below-zero (fin true (suc m) e) n c h N = (refl, refl)
 below-zero (fin false (suc m) e) n c h N = absurd (true≢false (sym (h .0)))
 
 -- ---- a zero, an infinity, and what is below zero
--- the value is its own root
-abbrev Own : ℕ → Type 0
-Own b = ofBits binary64 b ≡ rootOf (ofBits binary64 b)
+-- the value is its own root, and no digits are worked out
+abbrev pub Own : Float → Type 0
+Own v = (v ≡ rootOf v) × (0 ≡ digitsOf v)
 
-plus-zero : Own 0
-unfolding rootOf ofBits
-plus-zero = refl
+plus-zero : Own (ofBits binary64 0)
+unfolding rootOf digitsOf ofBits
+plus-zero = (refl, refl)
 
-minus-zero : Own (2 ^ 63)
-unfolding rootOf ofBits
-minus-zero = refl
+minus-zero : Own (ofBits binary64 (2 ^ 63))
+unfolding rootOf digitsOf ofBits
+minus-zero = (refl, refl)
 
-pub at-zero : (b : ℕ) → b < 2 ^ 64 → b % 2 ^ 63 ≡ 0 → ofBits binary64 b ≡ rootOf (ofBits binary64 b)
+pub at-zero : (b : ℕ) → b < 2 ^ 64 → b % 2 ^ 63 ≡ 0 → Own (ofBits binary64 b)
 at-zero b h e = go (b / 2 ^ 63) refl
   where
-    go : (x : ℕ) → b / 2 ^ 63 ≡ x → Own b
-    go zero f = subst (λ (n : ℕ). Own n) (omega arith) plus-zero
-    go (suc x) f = subst (λ (n : ℕ). Own n) (omega arith) minus-zero
+    go : (x : ℕ) → b / 2 ^ 63 ≡ x → Own (ofBits binary64 b)
+    go zero f = subst (λ (n : ℕ). Own (ofBits binary64 n)) (omega arith) plus-zero
+    go (suc x) f = subst (λ (n : ℕ). Own (ofBits binary64 n)) (omega arith) minus-zero
 
 at-ones : (s : Bool) (x t : ℕ) → x ≡ 2047 → ofFields binary64 s x t ≡ cond (eqb t 0) (inf s) nan
 unfolding ofFields
 at-ones s zero t e = absurd (omega arith)
 at-ones s (suc x) t e = ap (λ (b : Bool). cond b (cond (eqb t 0) (inf s) nan) (odd 53 s (2 ^ 52 + t) x 1074)) (is-true (eqb (suc x) 2047) (subst (λ (n : ℕ). T (eqb (suc x) n)) e (eqb-refl (suc x))))
 
-pub at-infinity : (b : ℕ) → b < 2 ^ 63 → 2047 * 2 ^ 52 ≤ b → ofBits binary64 b ≡ rootOf (ofBits binary64 b)
-at-infinity b h k = subst (λ (v : Float). v ≡ rootOf v) (sym (plus-fields b h ∙ at-ones false (b / 2 ^ 52) (b % 2 ^ 52) (omega arith))) (go (eqb (b % 2 ^ 52) 0))
+pub at-infinity : (b : ℕ) → b < 2 ^ 63 → 2047 * 2 ^ 52 ≤ b → Own (ofBits binary64 b)
+at-infinity b h k = subst Own (sym (plus-fields b h ∙ at-ones false (b / 2 ^ 52) (b % 2 ^ 52) (omega arith))) (go (eqb (b % 2 ^ 52) 0))
   where
-    go : (z : Bool) → cond z (inf false) nan ≡ rootOf (cond z (inf false) nan)
-    go true = unfold rootOf in refl
-    go false = unfold rootOf in refl
+    go : (z : Bool) → Own (cond z (inf false) nan)
+    go true = unfold rootOf digitsOf in (refl, refl)
+    go false = unfold rootOf digitsOf in (refl, refl)
 
-minus-value : (x t : ℕ) → (x ≡ 0 → 0 < t) → rootOf (ofFields binary64 true x t) ≡ nan
+-- it has no root
+abbrev pub None : Float → Type 0
+None v = (nan ≡ rootOf v) × (0 ≡ digitsOf v)
+
+minus-value : (x t : ℕ) → (x ≡ 0 → 0 < t) → None (ofFields binary64 true x t)
 unfolding ofFields
 minus-value zero t h = below-zero (odd 53 true t 0 1074) (t * 1) (2 ^ 1074) (odd-sign 53 true t 0 1074) (mul-pos (h refl) (zero-lt-suc 0))
 minus-value (suc x) t h = go (eqb (suc x) 2047) (eqb t 0)
   where
-    go : (b c : Bool) → rootOf (cond b (cond c (inf true) nan) (odd 53 true (2 ^ 52 + t) x 1074)) ≡ nan
-    go true true = unfold rootOf in refl
-    go true false = unfold rootOf in refl
+    go : (b c : Bool) → None (cond b (cond c (inf true) nan) (odd 53 true (2 ^ 52 + t) x 1074))
+    go true true = unfold rootOf digitsOf in (refl, refl)
+    go true false = unfold rootOf digitsOf in (refl, refl)
     go false c = below-zero (odd 53 true (2 ^ 52 + t) x 1074) ((2 ^ 52 + t) * 2 ^ x) (2 ^ 1074) (odd-sign 53 true (2 ^ 52 + t) x 1074) (mul-pos (omega arith) (pow-pos x))
 
-pub at-minus : (b : ℕ) → b < 2 ^ 64 → 2 ^ 63 < b → rootOf (ofBits binary64 b) ≡ nan
+pub at-minus : (b : ℕ) → b < 2 ^ 64 → 2 ^ 63 < b → None (ofBits binary64 b)
 at-minus b h k =
-    ap rootOf (ofBits-is b ∙ ap (λ (s : Bool). ofFields binary64 s (b % 2 ^ 63 / 2 ^ 52) (b % 2 ^ 52)) (is-true (leb (2 ^ 63) b) (le→leb (2 ^ 63) b (le-of-lt k))))
-    ∙ minus-value (b % 2 ^ 63 / 2 ^ 52) (b % 2 ^ 52) (λ e. omega arith)
+    subst None (sym (ofBits-is b ∙ ap (λ (s : Bool). ofFields binary64 s (b % 2 ^ 63 / 2 ^ 52) (b % 2 ^ 52)) (is-true (leb (2 ^ 63) b) (le→leb (2 ^ 63) b (le-of-lt k)))))
+    (minus-value (b % 2 ^ 63 / 2 ^ 52) (b % 2 ^ 52) (λ e. omega arith))
 
 -- ---- finite and above zero: m * 2 ^ e is m′ * 4 ^ (e / 2), m doubled where e is odd
+-- what is told of a root p of a, of 54 digits
+abbrev pub Told : ℕ → ℕ → ℕ → Type 0
+Told a p d = (p * p ≡ a → d ≡ 54 - trailingZeros 54 p) × ((p * p ≡ a → ⊥) → d ≡ 54)
+
 abbrev pub Evened : ℕ → ℕ → ℕ → Type 0
 Evened m e m′ = ((e % 2 ≡ 1) × (m′ ≡ m * 2)) ⊎ ((e % 2 ≡ 1 → ⊥) × (m′ ≡ m))
 
@@ -126,7 +145,7 @@ module _ {b m e m′ : ℕ} (S : Decomposition b m e) (w : Evened m e m′) wher
       go (inr w) x y = omega arith
 
   module _ {p : ℕ} (A : IsRoot (m′ * 2 ^ 54) p) where
-    p-lo : 2 ^ 53 ≤ p
+    pub p-lo : 2 ^ 53 ≤ p
     p-lo = sq-le-root (2 ^ 53) A (mul-le-mul-right (2 ^ 54) (m-in .0))
 
     pub p-hi : p < 2 ^ 54
@@ -143,3 +162,12 @@ module _ {b m e m′ : ℕ} (S : Decomposition b m e) (w : Evened m e m′) wher
         root-read (m′ * 2 ^ 54) p (e / 2 - 27) A (omega arith) p-lo p-hi fine
         ∙ ap rootAt (sym (S .value ∙ evened m e m′ (S .low) w))
         ∙ sym (root-of-value (ofBits binary64 b) (unitsAt (b / 2 ^ 52) (b % 2 ^ 52)) (value-of-pattern b F) (some-units b B))
+
+    as-form : 0 < b → b < 2047 * 2 ^ 52 → digitsOf (ofBits binary64 b) ≡ digitsAt (m′ * 2 ^ 54 * (2 ^ (e / 2 - 27) * 2 ^ (e / 2 - 27)))
+    as-form B F =
+        digits-of-value (ofBits binary64 b) (unitsAt (b / 2 ^ 52) (b % 2 ^ 52)) (value-of-pattern b F) (some-units b B)
+        ∙ ap digitsAt (S .value ∙ evened m e m′ (S .low) w)
+
+    pub pattern-digits : 0 < b → b < 2047 * 2 ^ 52 → Told (m′ * 2 ^ 54) p (digitsOf (ofBits binary64 b))
+    pattern-digits B F =
+        ((λ h. as-form B F ∙ counted-exact (m′ * 2 ^ 54) p (e / 2 - 27) A p-lo p-hi h), (λ h. as-form B F ∙ counted-other (m′ * 2 ^ 54) p (e / 2 - 27) A p-lo p-hi h))

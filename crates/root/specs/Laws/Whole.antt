@@ -1,8 +1,8 @@
 -- Squares, powers of 2 and whole roots: `isqrt n` is the whole root of n, and grows with n. Assumes nothing.
-use mathlib.Core.Path.{_≡_, sym, ap, _∙_, subst}
+use mathlib.Core.Path.{_≡_, refl, sym, ap, _∙_, subst}
 use mathlib.Core.Bool.{Bool, true, false, not, cond}
 use Prim.Native.Nat.{ℕ, zero, suc, _+_, _*_, _/_, _%_, _^_, _≤_, _<_}
-use native.Mathlib.Nat.{le-trans, le-of-lt, lt-irrefl, lt-of-lt-of-le, lt-of-le-of-lt, lt-of-not-le, not-le-of-lt, mul-le-mul, mul-le-mul-left, mul-lt-mul-of-pos-right, pow-suc, pow-le-pow-left, div-lt-iff-lt-mul, zero-lt-suc}
+use native.Mathlib.Nat.{le-trans, le-antisymm, le-of-eq, le-of-lt, lt-irrefl, lt-of-lt-of-le, lt-of-le-of-lt, lt-of-not-le, not-le-of-lt, mul-le-mul, mul-le-mul-left, mul-lt-mul-of-pos-right, pow-suc, pow-le-pow-left, div-lt-iff-lt-mul, zero-lt-suc}
 use native.Mathlib.Omega.{arith}
 use lib.Dec.{T, leb, leb→le, nleb→lt}
 use lib.Pow.{pow-add, pow-mono}
@@ -40,6 +40,42 @@ odd-square p a o e h =
     let x : p ≡ 2 * q + 1 = omega arith in
     let w : (2 * q + 1) * (2 * q + 1) ≡ a = ap (λ (x : ℕ). x * x) (sym x) ∙ h in
     omega arith
+
+-- a square of four times x is that of an even number
+half-square : (r x : ℕ) → r * r ≡ 4 * x → (r ≡ 2 * (r / 2)) × (r / 2 * (r / 2) ≡ x)
+half-square r x h = go (r % 2) refl
+  where
+    go : (b : ℕ) → r % 2 ≡ b → (r ≡ 2 * (r / 2)) × (r / 2 * (r / 2) ≡ x)
+    go zero e =
+        let q = r / 2 in
+        let f : r ≡ 2 * q = omega arith in
+        let g : 2 * q * (2 * q) ≡ 4 * x = ap (λ (x : ℕ). x * x) (sym f) ∙ h in
+        (f, omega arith)
+    go (suc b) e = absurd (odd-square r (4 * x) (omega arith) (omega arith) h)
+
+-- an exact root of a * 4 ^ j is 2 ^ j times an exact root of a
+pub square-out : (j r a : ℕ) → r * r ≡ a * (2 ^ j * 2 ^ j) → (s : ℕ) × ((r ≡ s * 2 ^ j) × (s * s ≡ a))
+square-out zero r a h = (r, (omega arith, omega arith))
+square-out (suc j) r a h =
+    let d = half-square r (a * (2 ^ j * 2 ^ j)) (h ∙ ap (λ (x : ℕ). a * (x * x)) (pow-suc 2 j) ∙ four a (2 ^ j)) in
+    let v = square-out j (r / 2) a (d .1) in
+    (v .0, (d .0 ∙ ap (λ (x : ℕ). 2 * x) (v .1 .0) ∙ twice (v .0) (2 ^ j) ∙ ap (λ (x : ℕ). v .0 * x) (sym (pow-suc 2 j)), v .1 .1))
+  where
+    four : (a w : ℕ) → a * (w * 2 * (w * 2)) ≡ 4 * (a * (w * w))
+    four a w = omega arith
+
+    twice : (s w : ℕ) → 2 * (s * w) ≡ s * (w * 2)
+    twice s w = omega arith
+
+-- a number has one whole root, and an exact root is that
+pub exact-is : {a p : ℕ} (s : ℕ) → IsRoot a p → s * s ≡ a → p * p ≡ a
+exact-is {a} {p} s A e = le-antisymm (A .least) (le-trans (le-of-eq (sym e)) (mul-le-mul l l))
+  where
+    l : s ≤ p
+    l = sq-le-root s A (le-of-eq e)
+
+pub root-unique : {n r s : ℕ} → IsRoot n r → IsRoot n s → r ≡ s
+root-unique {n} {r} {s} A B = le-antisymm (sq-le-root r B (A .least)) (sq-le-root s A (B .least))
 
 -- ---- `isqrt`
 digits-root : (k n : ℕ) → n < 4 ^ k → IsRoot n (rootDigits k n)
