@@ -1,6 +1,6 @@
 // The C symbols of the static library. Floats in, numbers out: every call is safe.
 
-use crate::digits::Rooted;
+use crate::digits::RootDigits;
 
 unsafe extern "C" {
     #[link_name = "leaf_abs"]
@@ -23,7 +23,7 @@ unsafe extern "C" {
     #[link_name = "leaf_root"]
     pub safe fn root(x: f64) -> f64;
     #[link_name = "leaf_root_digits"]
-    pub safe fn root_digits(x: f64) -> Rooted;
+    pub safe fn root_digits(x: f64) -> RootDigits;
     #[link_name = "leaf_hypot"]
     pub safe fn hypot(x: f64, y: f64) -> f64;
     #[link_name = "leaf_sin"]

@@ -11,7 +11,7 @@ use std::process::exit;
 use std::time::Instant;
 
 use arguments::{Arguments, Random};
-use digits::Rooted;
+use digits::RootDigits;
 
 // Differences shown for each leaf.
 const SHOWN: u64 = 5;
@@ -32,7 +32,7 @@ impl<T: Into<f64>> From<T> for Answer {
 }
 
 impl Answer {
-    fn rooted(r: Rooted) -> Answer {
+    fn rooted(r: RootDigits) -> Answer {
         Answer {
             value: r.root,
             digits: Some(r.digits),

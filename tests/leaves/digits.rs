@@ -5,17 +5,17 @@
 // As `root_digits` of the static library answers.
 #[repr(C)]
 #[derive(Clone, Copy)]
-pub struct Rooted {
+pub struct RootDigits {
     pub root: f64,
     pub digits: u32,
 }
 
-pub fn root_digits(x: f64) -> Rooted {
+pub fn root_digits(x: f64) -> RootDigits {
     if x.is_nan() || x == 0.0 || x == f64::INFINITY {
-        return Rooted { root: x, digits: 0 };
+        return RootDigits { root: x, digits: 0 };
     }
     if x < 0.0 {
-        return Rooted {
+        return RootDigits {
             root: f64::NAN,
             digits: 0,
         };
@@ -48,7 +48,7 @@ pub fn root_digits(x: f64) -> Rooted {
     let (kept, last) = (root >> 1, root & 1 == 1);
     let up = last && (rest > 0 || kept & 1 == 1);
     let scale = f64::from_bits(((e / 2 + 1 + 1023) as u64) << 52);
-    Rooted {
+    RootDigits {
         root: (kept + u128::from(up)) as f64 * scale,
         digits,
     }

@@ -1,9 +1,15 @@
--- The three demands, as theorems about every stream s and whatever slices are lent with it (t). The contract of `geopic_place` says that its answer is `answerOf s t` and that the slices then hold `buffersAfter s t`; both are read off one list of events, `traceOf`.
-use Prim.Native.Nat.{ℕ, _*_}
+-- The three demands, as theorems about every stream s and whatever slices are lent with it (t), and what the changes of document 02 promise. The contract of `geopic_place` says that its answer is `answerOf s t` and that the slices then hold `buffersAfter s t`; both are read off one list of events, `traceOf`.
+use Prim.Native.Nat.{ℕ, suc, _*_, _^_}
 use mathlib.Core.Path.{_≡_}
-use mathlib.Core.Bool.{cond}
+use mathlib.Core.Bool.{false, cond}
 use mathlib.Core.List.{List}
+use lib.IntN.{ℤ}
+use lib.Dec.{T}
+use lib.Ieee.{fin, binary64, fits, round}
 use lib.ListN.{length, drop}
+use Rattle.root.specs.Root.{scaled, sticky, rootOf}
+use Rattle.root.specs.Digits.{digitsOf, workedOut}
+use Rattle.root.specs.Laws.SingleDigits.{single-digits}
 use Rattle.stream.specs.Conditions.{firstOf, NoneHolds}
 use Rattle.stream.specs.Payload.{payload}
 use Rattle.scene.specs.Scene.{Scene, sceneOf}
@@ -92,3 +98,9 @@ module _ (s : List ℕ) (t : Buffers) where
 
     pub demand-3-warning : anyOfKind 6 (warningsAt (buffersAfter s t .warnings) 0 (answerOf s t .warnings)) ≡ fellShort (drawsIn (traceOf sc .events))
     demand-3-warning = scene-six s t h
+
+-- 02, iii. Binary digits of the root, worked out one by one from the highest until nothing remains to be taken off, round to the root, and their number is that of `digitsOf`: for every f64 above zero, (m + 1) * 2 ^ e.
+pub change-iii : (m : ℕ) (e : ℤ) → T (fits binary64 (fin false (suc m) e)) →
+    (round binary64 false (sticky (workedOut (scaled (suc m) e) .0) (scaled (suc m) e)) (2 ^ 1076) ≡ rootOf (fin false (suc m) e))
+    × (workedOut (scaled (suc m) e) .1 ≡ digitsOf (fin false (suc m) e))
+change-iii m e f = single-digits m e f

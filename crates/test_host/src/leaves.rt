@@ -5,7 +5,7 @@ ghost use Rattle.float.specs.Functions.{absOf, truncOf, ceilOf, roundOf, remEuc
 ghost use Rattle.root.specs.Root.{rootOf};
 ghost use Rattle.root.specs.Digits.{digitsOf};
 ghost use Rattle.elementary.specs.Functions.{sinOf, cosOf, tanOf, lnOf, expOf, atanOf, acosOf, toRadiansOf, toDegreesOf, hypotOf, atan2Of};
-use root::Rooted;
+use root::RootDigits;
 
 #[no_mangle]
 pub extern "C" fn leaf_abs(x: f64) -> f64
@@ -50,7 +50,7 @@ pub extern "C" fn leaf_root(x: f64) -> f64
 }
 
 #[no_mangle]
-pub extern "C" fn leaf_root_digits(x: f64) -> Rooted
+pub extern "C" fn leaf_root_digits(x: f64) -> RootDigits
     ensures { λ r. ⌜ (r .root ≡ rootOf x) × (r .digits ≡ digitsOf x) ⌝ }
 {
     root::root_digits(x)

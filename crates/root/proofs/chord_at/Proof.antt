@@ -1,7 +1,7 @@
 -- `root::chord_at` meets its contract: each chord's own numbers, and in the last arm i is 127, as it is none of the
 -- numbers before. Assumes nothing.
 use mathlib.Core.Path.{_≡_}
-use Prim.Native.Nat.{ℕ, zero, suc, _+_, _≤_, _<_}
+use Prim.Native.Nat.{ℕ, zero, suc, _+_, _≤_}
 use native.Mathlib.Omega.{arith}
 use borrow.Author.Needs.{needs}
 use Rattle.root.proofs.chord_at.Statement.{statement}

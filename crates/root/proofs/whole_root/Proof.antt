@@ -1,5 +1,6 @@
--- `root::whole_root` meets its contract: the first block uses up m, and where something remains no root is exact. Assumes nothing.
-use mathlib.Core.Path.{ap, subst, sym}
+-- `root::whole_root` meets its contract: the first block uses up m, and where something remains no root is exact.
+-- Assumes nothing.
+use mathlib.Core.Path.{subst, sym}
 use Prim.Native.Nat.{ℕ, _*_, _^_}
 use native.Mathlib.Omega.{arith}
 use borrow.Author.Needs.{needs}

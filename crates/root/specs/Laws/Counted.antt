@@ -1,6 +1,7 @@
--- The digits of a root in its normal form: for n = a * 4 ^ j and a whole root p of a, of 54 digits, p's zeros at the end are all that an exact root leaves out. Assumes nothing.
+-- The number of digits of a root in its normal form: for n = a * 4 ^ j and the whole root p of a, of 54 digits, an
+-- exact root has all but the zeros at p's end. Assumes nothing.
 use mathlib.Core.Path.{_≡_, refl, sym, ap, ap₂, _∙_, subst}
-use mathlib.Core.Bool.{Bool, true, false, not, cond}
+use mathlib.Core.Bool.{Bool, true, false, cond}
 use Prim.Native.Nat.{ℕ, zero, suc, _+_, _-_, _*_, _/_, _%_, _^_, _≤_, _<_}
 use native.Mathlib.Nat.{le-of-eq, mul-one, zero-add, suc-add, mul-mul-mul-comm, mul-le-mul-right, mul-lt-mul-of-pos-right, pow-suc}
 use native.Mathlib.Omega.{arith}

@@ -9,7 +9,7 @@ use native.Mathlib.Omega.{arith}
 use lib.Dec.{T, leb, eqb, isLe, isEq, le→leb, leb→le, nleb→lt, eqb→eq}
 use lib.Arith.{digits-div, digits-mod, lt→nleb, le→nltb}
 use lib.Pow.{pow-add, pow-pos, pow-lt}
-use lib.Ieee.{Float, binary64, size, nearest, units, nanBits, ofBits}
+use lib.Ieee.{Float, binary64, size, nearest, units, round, nanBits, ofBits}
 use lib.Ieee.Fits.{round-is, round-fits}
 use lib.Ieee.Exact.{HasValue, units-val}
 use lib.Ieee.Nearest.{closest, closest-same}
@@ -59,15 +59,17 @@ closest-near a b q h k = go (leb (q * b) a) (leb→le (q * b) a) (nleb→lt (q *
 
 -- ---- the root R of a * w * w beside the root p of a
 module _ (a p w R : ℕ) (W : 0 < w) (A : IsRoot a p) (B : IsRoot (a * (w * w)) R) where
-  r-lo : p * w ≤ R
+  pub r-lo : p * w ≤ R
   r-lo = sq-le-root (p * w) B (le-trans (le-of-eq (mul-mul-mul-comm p w p w)) (mul-le-mul-right (w * w) (A .least)))
 
-  r-hi : R < p * w + w
+  pub r-hi : R < p * w + w
   r-hi =
       let e : (p + 1) * w ≡ p * w + w = omega arith in
       subst (λ (x : ℕ). R < x) e
       (sq-lt-back R ((p + 1) * w) (lt-of-le-of-lt (B .least) (lt-of-lt-of-le (mul-lt-mul-of-pos-right (A .most) (mul-pos W W)) (le-of-eq (sym (mul-mul-mul-comm (p + 1) w (p + 1) w))))))
 
+-- ---- any R between p * w and the next such number stands for that root
+module _ (a p w R : ℕ) (W : 0 < w) (r-lo : p * w ≤ R) (r-hi : R < p * w + w) where
   sticky-in : (2 * (p * w) ≤ sticky R (a * (w * w))) × (sticky R (a * (w * w)) < 2 * (p * w + w))
   sticky-in = go (eqb (R * R) (a * (w * w))) r-lo r-hi
     where
@@ -105,16 +107,13 @@ module _ (a p w R : ℕ) (W : 0 < w) (A : IsRoot a p) (B : IsRoot (a * (w * w)) 
           closest-near s (4 * w) ((p + 1) / 2) (omega arith) (omega arith)
 
 -- ---- what `round` makes of it
-module _ (a p j : ℕ) (A : IsRoot a p) (even : a % 2 ≡ 0) (lo : 2 ^ 53 ≤ p) (hi : p < 2 ^ 54) where
-  abbrev n : ℕ
-  n = a * (2 ^ j * 2 ^ j)
-
+module _ (a p j R : ℕ) (even : a % 2 ≡ 0) (lo : 2 ^ 53 ≤ p) (hi : p < 2 ^ 54) (r-lo : p * 2 ^ j ≤ R) (r-hi : R < p * 2 ^ j + 2 ^ j) where
   S : ℕ
-  S = sticky (isqrt n) n
+  S = sticky R (a * (2 ^ j * 2 ^ j))
 
   quarter : (2 ^ 52 * 2 ^ j ≤ S / 4) × (S / 4 < 2 ^ 53 * 2 ^ j)
   unfolding S
-  quarter = go S (2 ^ j) (sticky-in a p (2 ^ j) (isqrt n) (pow-pos j) A (isqrt-root n)) (mul-le-mul-right (2 ^ j) lo) (mul-le-mul-right (2 ^ j) hi)
+  quarter = go S (2 ^ j) (sticky-in a p (2 ^ j) R (pow-pos j) r-lo r-hi) (mul-le-mul-right (2 ^ j) lo) (mul-le-mul-right (2 ^ j) hi)
     where
       go : (s w : ℕ) → (2 * (p * w) ≤ s) × (s < 2 * (p * w + w)) → 2 ^ 53 * w ≤ p * w → suc p * w ≤ 2 ^ 54 * w → (2 ^ 52 * w ≤ s / 4) × (s / 4 < 2 ^ 53 * w)
       go s w i l h = let e : suc p * w ≡ p * w + w = omega arith in (omega arith, omega arith)
@@ -131,14 +130,24 @@ module _ (a p j : ℕ) (A : IsRoot a p) (even : a % 2 ≡ 0) (lo : 2 ^ 53 ≤ p)
 
   kept-here : closest (S * 2 ^ 1074) (2 ^ 1076 * 2 ^ j) ≡ (p + 1) / 2
   unfolding S
-  kept-here = unit-out S (2 ^ j) (2 ^ 1074) (pow-pos j) (pow-pos 1074) ∙ kept-is a p (2 ^ j) (isqrt n) (pow-pos j) A (isqrt-root n) even
+  kept-here = unit-out S (2 ^ j) (2 ^ 1074) (pow-pos j) (pow-pos 1074) ∙ kept-is a p (2 ^ j) R (pow-pos j) r-lo r-hi even
 
-  as-units : rootAt n ≡ units binary64 false ((p + 1) / 2) j
-  unfolding rootAt S
-  as-units =
+  pub rounded : round binary64 false (sticky R (a * (2 ^ j * 2 ^ j))) (2 ^ 1076) ≡ units binary64 false ((p + 1) / 2) j
+  unfolding S
+  rounded =
       round-is binary64 false S (2 ^ 1076)
       ∙ ap (λ (k : ℕ). units binary64 false (closest (S * 2 ^ 1074) (2 ^ 1076 * 2 ^ k)) k) dropped
       ∙ ap (λ (x : ℕ). units binary64 false x j) kept-here
+
+module _ (a p j : ℕ) (A : IsRoot a p) (even : a % 2 ≡ 0) (lo : 2 ^ 53 ≤ p) (hi : p < 2 ^ 54) where
+  abbrev n : ℕ
+  n = a * (2 ^ j * 2 ^ j)
+
+  pub as-units : rootAt (a * (2 ^ j * 2 ^ j)) ≡ units binary64 false ((p + 1) / 2) j
+  unfolding rootAt
+  as-units =
+      let B = isqrt-root n in
+      rounded a p j (isqrt n) even lo hi (r-lo a p (2 ^ j) (isqrt n) (pow-pos j) A B) (r-hi a p (2 ^ j) (isqrt n) (pow-pos j) A B)
 
   module _ (fine : j < 1994) where
     in-range : (p + 1) / 2 * 2 ^ j < 2 ^ 2098
@@ -154,8 +163,8 @@ module _ (a p j : ℕ) (A : IsRoot a p) (even : a % 2 ≡ 0) (lo : 2 ^ 53 ≤ p)
     root-value = subst (λ (v : Float). HasValue v false ((p + 1) / 2 * 2 ^ j) (2 ^ 1074)) (sym as-units) (units-val binary64 false ((p + 1) / 2) j in-range)
 
     pub root-read : ofBits binary64 (j * 2 ^ 52 + (p + 1) / 2) ≡ rootAt (a * (2 ^ j * 2 ^ j))
-    unfolding rootAt S
-    root-read = ap (ofBits binary64) (omega arith) ∙ pattern-reads (rootAt n) false ((p + 1) / 2) j (round-fits binary64 false S (2 ^ 1076)) (omega arith) (omega arith) root-value
+    unfolding rootAt
+    root-read = ap (ofBits binary64) (omega arith) ∙ pattern-reads (rootAt n) false ((p + 1) / 2) j (round-fits binary64 false (sticky (isqrt n) n) (2 ^ 1076)) (omega arith) (omega arith) root-value
 
 -- the pattern is at most that of the infinity
 pub root-no-nan : (j q : ℕ) → j < 1994 → q ≤ 2 ^ 53 → T (not (nanBits binary64 (j * 2 ^ 52 + q)))

@@ -26,7 +26,7 @@ use Rattle.root.specs.Laws.Form.{root-read, root-no-nan}
 not-none : (n d : ℕ) → 0 < n → 0 < d → 0 ≡ n * d → ⊥
 not-none n d N D e = lt-irrefl 0 (subst (λ (x : ℕ). 0 < x) (sym e) (mul-pos N D))
 
-scaled-is : (m : ℕ) (e : ℤ) (n : ℕ) → m * up e * 2 ^ 1074 ≡ n * down e → scaled m e ≡ n * 2 ^ 1076
+pub scaled-is : (m : ℕ) (e : ℤ) (n : ℕ) → m * up e * 2 ^ 1074 ≡ n * down e → scaled m e ≡ n * 2 ^ 1076
 unfolding scaled
 scaled-is m e n h =
     ap (λ (x : ℕ). x / down e)
@@ -45,7 +45,7 @@ root-of-value (fin s zero e) n h N = absurd (no-size e n (2 ^ 1074) N (h .1))
 root-of-value (fin true (suc m) e) n h N = absurd (true≢false (h .0))
 root-of-value (fin false (suc m) e) n h N = ap rootAt (scaled-is (suc m) e n (h .1))
 
-pub digits-of-value : (v : Float) (n : ℕ) → HasValue v false n (2 ^ 1074) → 0 < n → digitsOf v ≡ digitsAt (n * 2 ^ 1076)
+digits-of-value : (v : Float) (n : ℕ) → HasValue v false n (2 ^ 1074) → 0 < n → digitsOf v ≡ digitsAt (n * 2 ^ 1076)
 unfolding digitsOf
 digits-of-value nan n h N = absurd h
 digits-of-value (inf s) n h N = absurd h
