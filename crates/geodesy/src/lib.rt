@@ -2,8 +2,10 @@
 ghost use mathlib.Core.Path.{_≡_};
 ghost use Rattle.geodesy.specs.Geodesy.{normalizeLonOf, mercatorForwardOf, mercatorInverseOf};
 ghost use Rattle.geodesy.specs.Contracts.Stages.{longitudeOf, expOrdinateOf, latitudeOf};
+use elementary::Both;
 use elementary::atan;
 use elementary::exp;
+use elementary::exp_both;
 use elementary::ln;
 use elementary::tan;
 use elementary::to_degrees;
@@ -63,6 +65,13 @@ pub fn exp_ordinate(y: f64) -> f64
     ensures { λ r. ⌜ r ≡ expOrdinateOf y ⌝ }
 {
     exp(y / MERCATOR_RADIUS)
+}
+
+// The same of two ordinates, side by side.
+pub fn exp_ordinate_both(y: f64, z: f64) -> Both
+    ensures { λ r. ⌜ (r .first ≡ expOrdinateOf y) × (r .second ≡ expOrdinateOf z) ⌝ }
+{
+    exp_both(y / MERCATOR_RADIUS, z / MERCATOR_RADIUS)
 }
 
 // The latitude for a, the arc tangent of what `exp_ordinate` gives.

@@ -1,7 +1,7 @@
 // Canvas points to the Earth, after the source's register.rs with its frame Mercator.
 ghost use mathlib.Core.Path.{_≡_};
 ghost use Rattle.projection.specs.Projection.{projectionOf, toLonLatBy, round9Of, geoBy};
-ghost use Rattle.projection.specs.Contracts.Stages.{planePositionOf, expStageOf, roundedLatitudeOf};
+ghost use Rattle.projection.specs.Contracts.Stages.{planePositionOf, planeStageOf, roundedLatitudeOf};
 ghost use Rattle.elementary.specs.Contracts.Stages.{atanThird};
 use elementary::atan_third;
 use elementary::cos;
@@ -10,7 +10,6 @@ use elementary::to_radians;
 use float::round;
 use geodesy::LonLat;
 use geodesy::Metres;
-use geodesy::exp_ordinate;
 use geodesy::latitude;
 use geodesy::longitude;
 use geodesy::mercator_forward;
@@ -107,15 +106,15 @@ pub fn geo(p: Projection, x: f64, y: f64) -> LonLat
     }
 }
 
-// The first stage of `geo`, for a line of points: the longitude that is given out, and the exponential of the ordinate
-// where the latitude will stand.
-pub fn exp_stage(p: Projection, x: f64, y: f64) -> LonLat
-    ensures { λ r. ⌜ r ≡ expStageOf p x y ⌝ }
+// The first stage of `geo`, for a line of points: the longitude that is given out, and the ordinate on the plane where
+// the latitude will stand.
+pub fn plane_stage(p: Projection, x: f64, y: f64) -> LonLat
+    ensures { λ r. ⌜ r ≡ planeStageOf p x y ⌝ }
 {
     let m = plane_position(p, x, y);
     LonLat {
         lon: round9(longitude(m.x)),
-        lat: exp_ordinate(m.y),
+        lat: m.y,
     }
 }
 

@@ -1,8 +1,9 @@
--- `geoBy` in stages: the longitude that is given out with the exponential of the ordinate, and the latitude of its arc tangent.
+-- `geoBy` in stages: the longitude that is given out with the ordinate on the plane, and the latitude of the arc tangent of
+-- its exponential.
 use lib.Ieee.{Float, binary64, neg, add, sub, mul}
 use Rattle.geodesy.specs.declared.LonLat.{LonLat}
 use Rattle.geodesy.specs.declared.Metres.{Metres}
-use Rattle.geodesy.specs.Contracts.Stages.{longitudeOf, expOrdinateOf, latitudeOf}
+use Rattle.geodesy.specs.Contracts.Stages.{longitudeOf, latitudeOf}
 use Rattle.values.specs.declared.Point.{Point}
 use Rattle.elementary.specs.Contracts.Stages.{atanFirst, atanSecond, atanThird}
 use Rattle.projection.specs.declared.Projection.{Projection}
@@ -20,15 +21,15 @@ planePositionOf p x y =
     let n = add binary64 (mul binary64 (neg dx) (p .sin)) (mul binary64 dy (p .cos)) in
     record { x = add binary64 (p .east) e; y = add binary64 (p .north) n }
 
-unfoldable pub expStageOf : Projection → Float → Float → LonLat
-expStageOf p x y = let m = planePositionOf p x y in record { lon = round9Of (longitudeOf (m .x)); lat = expOrdinateOf (m .y) }
+unfoldable pub planeStageOf : Projection → Float → Float → LonLat
+planeStageOf p x y = let m = planePositionOf p x y in record { lon = round9Of (longitudeOf (m .x)); lat = m .y }
 
 unfoldable pub roundedLatitudeOf : Float → Float
 roundedLatitudeOf a = round9Of (latitudeOf a)
 
 -- ---- of a point
-unfoldable pub expStageBy : Projection → Point → Point
-expStageBy t p = let g = expStageOf t (p .x) (p .y) in record { x = g .lon; y = g .lat }
+unfoldable pub planeStageBy : Projection → Point → Point
+planeStageBy t p = let g = planeStageOf t (p .x) (p .y) in record { x = g .lon; y = g .lat }
 
 unfoldable pub stageOf : Stage → Float → Float
 stageOf First v = atanFirst v

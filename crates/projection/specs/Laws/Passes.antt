@@ -4,7 +4,7 @@ use mathlib.Core.Path.{_≡_, refl, sym, _∙_}
 use mathlib.Core.List.{List, [], _∷_, _++_, map, map-append, map-map}
 use native.Mathlib.Omega.{arith}
 use lib.ListN.{length, set, getD, length-map, length-set}
-use lib.Seq.{set-getD}
+use lib.Seq.{set-getD, getD-set-other}
 use lib.Ieee.{Float, nan}
 use Rattle.values.specs.declared.Point.{Point}
 use Rattle.values.specs.Points.{flats, pointOf, pointsOf}
@@ -13,10 +13,11 @@ use Rattle.values.specs.Contracts.Points.{pointsIn, inPlace}
 use Rattle.values.specs.Laws.Put.{put-none, value-behind, put-over}
 use Rattle.values.specs.Laws.Points.{flats-length, put-next, points-count, points-between, points-last, points-back}
 use Rattle.geodesy.specs.declared.LonLat.{LonLat}
+use Rattle.geodesy.specs.Contracts.Stages.{expOrdinateOf}
 use Rattle.projection.specs.declared.Projection.{Projection}
 use Rattle.projection.specs.declared.project.Stage.the-variants.{First, Second, Last}
 use Rattle.projection.specs.Projection.{geoBy, projectPoint}
-use Rattle.projection.specs.Contracts.Stages.{expStageOf, expStageBy, stageOf, onY}
+use Rattle.projection.specs.Contracts.Stages.{planeStageOf, planeStageBy, stageOf, onY}
 use Rattle.projection.specs.Laws.Project.{geo-staged}
 
 -- the two stores of one point more
@@ -80,6 +81,15 @@ pub pass-turn-y : (g : Float → Float) {w₀ : List Float} {from to : ℕ} {w :
     → (y : Float) → y ≡ g (getD w (i + 1) nan) → Passed (onY g) w₀ from to (set w (i + 1) y) (i + 2)
 pass-turn-y g {w = w} {i = i} h k y e = rw (set-getD w i nan) at (pass-turn h k (record { x = getD w i nan; y = y }) (rw e))
 
+-- the y of a point and of the next
+pub pass-turn-both : (g : Float → Float) {w₀ : List Float} {from to : ℕ} {w : List Float} {i : ℕ} → Passed (onY g) w₀ from to w i → i + 4 ≤ to
+    → (y z : Float) → y ≡ g (getD w (i + 1) nan) → z ≡ g (getD w (i + 3) nan) → Passed (onY g) w₀ from to (set (set w (i + 1) y) (i + 3) z) (i + 4)
+pass-turn-both g {w₀ = w₀} {from = from} {to = to} {w = w} {i = i} h k y z d e =
+    let a : i + 2 + 1 ≡ i + 3 = omega arith in
+    let b : i + 2 + 2 ≡ i + 4 = omega arith in
+    let o : (i + 3 ≡ i + 1 → ⊥) = λ f. omega arith in
+    rw (a, b) at (pass-turn-y g (pass-turn-y g h (omega arith) y d) (omega arith) z (rw (a, getD-set-other w (i + 1) (i + 3) y nan o) e))
+
 -- ---- one pass after another
 module _ (w : List Float) (from to : ℕ) (h : from ≤ to) (k : to ≤ length w) where
   mapped-room : (f : Point → Point) → length (flats (map f (pointsIn w from to))) ≡ 2 * ((to - from) / 2)
@@ -98,16 +108,17 @@ pub placed-is : (t : Projection) {g : LonLat} (p : Point) → g ≡ geoBy t (p .
 unfolding projectPoint
 placed-is t p e = rw e
 
--- of `stretch`
-pub stretched-is : (t : Projection) {g : LonLat} (p : Point) → g ≡ expStageOf t (p .x) (p .y) → record { x = g .lon; y = g .lat } ≡ expStageBy t p
-unfolding expStageBy
-stretched-is t p e = rw e
+-- of `plane_stage`
+pub plane-is : (t : Projection) {g : LonLat} (p : Point) → g ≡ planeStageOf t (p .x) (p .y) → record { x = g .lon; y = g .lat } ≡ planeStageBy t p
+unfolding planeStageBy
+plane-is t p e = rw e
 
-placed-staged : (t : Projection) (p : Point) → onY (stageOf Last) (onY (stageOf Second) (onY (stageOf First) (expStageBy t p))) ≡ projectPoint t p
-unfolding projectPoint expStageBy stageOf
+placed-staged : (t : Projection) (p : Point) → onY (stageOf Last) (onY (stageOf Second) (onY (stageOf First) (onY expOrdinateOf (planeStageBy t p)))) ≡ projectPoint t p
+unfolding projectPoint planeStageBy stageOf
 placed-staged t p = rw geo-staged
 
-pub four-passes : (t : Projection) (w : List Float) (from to : ℕ) → from ≤ to → to ≤ length w → {a b c d : List Float} → a ≡ inPlace (expStageBy t) w from to
-    → b ≡ inPlace (onY (stageOf First)) a from to → c ≡ inPlace (onY (stageOf Second)) b from to → d ≡ inPlace (onY (stageOf Last)) c from to
-    → d ≡ inPlace (projectPoint t) w from to
-four-passes t w from to h k ea eb ec ed = rw (ed, ec, eb, ea, pass-then w from to h k, pass-then w from to h k, pass-then w from to h k) (λ i. inPlace (λ p. placed-staged t p i) w from to)
+pub five-passes : (t : Projection) (w : List Float) (from to : ℕ) → from ≤ to → to ≤ length w → {a b c d e : List Float} → a ≡ inPlace (planeStageBy t) w from to
+    → b ≡ inPlace (onY expOrdinateOf) a from to
+    → c ≡ inPlace (onY (stageOf First)) b from to → d ≡ inPlace (onY (stageOf Second)) c from to → e ≡ inPlace (onY (stageOf Last)) d from to
+    → e ≡ inPlace (projectPoint t) w from to
+five-passes t w from to h k ea eb ec ed ee = rw (ee, ed, ec, eb, ea, pass-then w from to h k, pass-then w from to h k, pass-then w from to h k, pass-then w from to h k) (λ i. inPlace (λ p. placed-staged t p i) w from to)

@@ -28,7 +28,7 @@ use Rattle.geodesy.specs.Laws.Finite.{m180, c90, OnEarth, inverse-in, forward-e
 use Rattle.projection.specs.declared.Registration.{Registration}
 use Rattle.projection.specs.declared.Projection.{Projection}
 use Rattle.projection.specs.Projection.{anchorOf, planeOffsetOf, toLonLatOf, toLonLatBy, billion, round9Of, geoOf, geoBy}
-use Rattle.projection.specs.Contracts.Stages.{planePositionOf, expStageOf, roundedLatitudeOf}
+use Rattle.projection.specs.Contracts.Stages.{planePositionOf, planeStageOf, roundedLatitudeOf}
 
 abbrev pub maxScale : Float
 maxScale = ofBits binary64 0x41cdcd6500000000
@@ -123,6 +123,6 @@ geo-in r S x y v w = rounded-earth (toLonLatOf r x y) (project-in r S x y v w)
 
 -- ---- `geoBy` in stages
 pub geo-staged : (p : Projection) (x y : Float)
-    → geoBy p x y ≡ record { lon = expStageOf p x y .lon; lat = roundedLatitudeOf (atanThird (atanSecond (atanFirst (expStageOf p x y .lat)))) }
-unfolding geoBy toLonLatBy mercatorInverseOf planePositionOf expStageOf roundedLatitudeOf longitudeOf expOrdinateOf latitudeOf
+    → geoBy p x y ≡ record { lon = planeStageOf p x y .lon; lat = roundedLatitudeOf (atanThird (atanSecond (atanFirst (expOrdinateOf (planeStageOf p x y .lat))))) }
+unfolding geoBy toLonLatBy mercatorInverseOf planePositionOf planeStageOf roundedLatitudeOf longitudeOf expOrdinateOf latitudeOf
 geo-staged p x y = rw stages-exp

@@ -1,20 +1,19 @@
 use Prim.Native.Nat.{_+_, _-_}
-use mathlib.Core.Path.{_≡_, sym, ap, _∙_}
+use mathlib.Core.Path.{_≡_, sym, ap₂, _∙_}
 use mathlib.Core.Logic.{⊎-elim}
 use native.Mathlib.Omega.{arith}
 use lib.ListN.{getD, length-set}
 use lib.Ieee.{nan}
 use borrow.Author.Needs.{needs}
 use borrow.Author.Tests.{not-false}
-use Rattle.values.specs.declared.Point.{Point}
-use Rattle.projection.specs.Contracts.Stages.{expStageOf, expStageBy}
+use Rattle.projection.specs.Contracts.Stages.{planeStageOf, planeStageBy}
 use Rattle.values.specs.Points.{pointOf}
-use Rattle.projection.specs.Laws.Passes.{Passed, pass-start, pass-end, pass-none, pass-turn, stretched-is}
-use Rattle.projection.proofs.project.exp_stage_points.Statement.{statement}
-use Rattle.projection.proofs.project.exp_stage_points.Tie as tie
+use Rattle.projection.specs.Laws.Passes.{Passed, pass-start, pass-end, pass-none, pass-turn, plane-is}
+use Rattle.projection.proofs.project.plane_stage_points.Statement.{statement}
+use Rattle.projection.proofs.project.plane_stage_points.Tie as tie
 
 abbrev Inv-loop : tie.InvT-loop
-Inv-loop t out₀ from to last-x₀ last-y₀ g₀ i₀ out last-x last-y g i = Passed (expStageBy t) out₀ from to out i × (g ≡ expStageOf t last-x last-y)
+Inv-loop t out₀ from to last-x₀ last-y₀ g₀ i₀ out last-x last-y g i = Passed (planeStageBy t) out₀ from to out i × (g ≡ planeStageOf t last-x last-y)
 
 abbrev μ-loop : tie.MeasureT-loop
 μ-loop t out₀ from to last-x₀ last-y₀ g₀ i₀ out last-x last-y g i = to - i
@@ -40,11 +39,11 @@ mul-last-y c = search needs
 slice-read-last-y : tie.Need-slice-read-last-y Inv-loop μ-loop
 slice-read-last-y c = omega arith
 
-exp-stage-requires : tie.Need-exp-stage-requires Inv-loop μ-loop
-exp-stage-requires c κs = search needs
+plane-stage-requires : tie.Need-plane-stage-requires Inv-loop μ-loop
+plane-stage-requires c κs = search needs
 
 loop-holds : tie.Need-loop-holds Inv-loop μ-loop
-loop-holds c = (pass-start _ _ _ _ (c .before .before .before .before .before .pre .0) (c .before .before .before .before .before .pre .1), c .exp-stage .ensures)
+loop-holds c = (pass-start _ _ _ _ (c .before .before .before .before .before .pre .0) (c .before .before .before .before .before .pre .1), c .plane-stage .ensures)
 
 sub-loop : tie.Need-sub-loop Inv-loop μ-loop
 sub-loop c = omega arith
@@ -64,11 +63,11 @@ mul-y c = search needs
 slice-read-y : tie.Need-slice-read-y Inv-loop μ-loop
 slice-read-y c = omega arith
 
-same-point-requires : tie.Need-same-point-requires Inv-loop μ-loop
-same-point-requires c κs = search needs
+same-values-requires : tie.Need-same-values-requires Inv-loop μ-loop
+same-values-requires c κs = search needs
 
-exp-stage-requires-2 : tie.Need-exp-stage-requires-2 Inv-loop μ-loop
-exp-stage-requires-2 c κs = search needs
+plane-stage-requires-2 : tie.Need-plane-stage-requires-2 Inv-loop μ-loop
+plane-stage-requires-2 c κs = search needs
 
 mul-out : tie.Need-mul-out Inv-loop μ-loop
 mul-out c = search needs
@@ -92,16 +91,16 @@ loop-less : tie.Need-loop-less Inv-loop μ-loop
 loop-less c = omega arith
 
 -- worked out, or as it was
-made-is : (c : tie.Joined2 Inv-loop μ-loop) → let l = c .before .before .before .before .before .loop in c .if2 .g ≡ expStageOf (c .before .before .before .before .before .before .before .before .before .before .before .args .t) (getD (l .out) (l .i) nan) (getD (l .out) (l .i + 1) nan)
+made-is : (c : tie.Joined2 Inv-loop μ-loop) → let l = c .before .before .before .before .before .loop in c .if2 .g ≡ planeStageOf (c .before .before .before .before .before .before .before .before .before .before .before .args .t) (getD (l .out) (l .i) nan) (getD (l .out) (l .i + 1) nan)
 made-is c =
     ⊎-elim (λ k. k .2 ∙ k .1 .ensures)
-    (λ k. k .1 ∙ c .before .before .before .before .before .loop .inv .1 ∙ ap (λ (p : Point). expStageOf (c .before .before .before .before .before .before .before .before .before .before .before .args .t) (p .x) (p .y)) (sym (c .before .same-point .ensures .0 (not-false _ (k .0 .left)))))
+    (λ k. k .1 ∙ c .before .before .before .before .before .loop .inv .1 ∙ (let e = c .before .same-values .ensures .0 (not-false _ (k .0 .left)) in ap₂ (planeStageOf _) (sym (e .0)) (sym (e .1))))
     (c .if2 .came)
 
 loop-again : tie.Need-loop-again Inv-loop μ-loop
 loop-again c =
     let l = c .before .before .before .before .before .loop in
-    (pass-turn (l .inv .0) (omega arith) _ (stretched-is _ (pointOf (l .out) (l .i)) (made-is c)), made-is c)
+    (pass-turn (l .inv .0) (omega arith) _ (plane-is _ (pointOf (l .out) (l .i)) (made-is c)), made-is c)
 
 same-length : tie.Need-same-length Inv-loop μ-loop
 same-length c = c .before .loop .inv .0 .kept
@@ -109,8 +108,8 @@ same-length c = c .before .loop .inv .0 .kept
 returns-2 : tie.Need-returns-2 Inv-loop μ-loop
 returns-2 c = pass-end (c .before .loop .inv .0) (omega arith)
 
-pub exp-stage-points-spec : {M : Type 1} → statement M
-exp-stage-points-spec =
+pub plane-stage-points-spec : {M : Type 1} → statement M
+plane-stage-points-spec =
     tie.close
     (tie.spec
     Inv-loop
@@ -122,7 +121,7 @@ exp-stage-points-spec =
     add-last-y
     mul-last-y
     slice-read-last-y
-    exp-stage-requires
+    plane-stage-requires
     loop-holds
     sub-loop
     mul-x
@@ -130,8 +129,8 @@ exp-stage-points-spec =
     add-y
     mul-y
     slice-read-y
-    same-point-requires
-    exp-stage-requires-2
+    same-values-requires
+    plane-stage-requires-2
     mul-out
     slice-write-out
     add-out
