@@ -107,6 +107,8 @@ struct Tally<'a> {
     leaf: &'a Leaf,
     compared: u64,
     differences: u64,
+    // Arguments without digits, with an exact root, and with 54 digits of another.
+    told: [u64; 3],
     shown: Vec<String>,
 }
 
@@ -126,6 +128,9 @@ impl Tally<'_> {
         let archive = (self.leaf.archive)(x, y);
         let standin = (self.leaf.standin)(x, y);
         self.compared += 1;
+        if let Some(n) = standin.digits {
+            self.told[usize::from(n > 0) + usize::from(n == 54)] += 1;
+        }
         if archive.equals(&standin) {
             return;
         }
@@ -150,6 +155,7 @@ fn run<'a>(leaf: &'a Leaf, count: u64, seed: u64) -> Tally<'a> {
         leaf,
         compared: 0,
         differences: 0,
+        told: [0; 3],
         shown: Vec::new(),
     };
     let edges = if leaf.pair {
@@ -200,6 +206,10 @@ fn main() {
             "{:<16}{:>14}{:>14}",
             leaf.name, tally.compared, tally.differences
         );
+        if tally.told != [0; 3] {
+            let [none, exact, other] = tally.told;
+            println!("    no digits {none}, an exact root {exact}, 54 digits of another {other}");
+        }
         for line in &tally.shown {
             println!("{line}");
         }

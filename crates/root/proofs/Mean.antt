@@ -8,7 +8,7 @@ use native.Mathlib.Nat.{le-trans, le-of-lt, mul-le-mul, mul-le-mul-left, mul-le-
 use native.Mathlib.Omega.{arith}
 use lib.Dec.{T, leb, leb→le, nleb→lt}
 use Rattle.root.specs.Laws.Whole.{sq-lt-back}
-use Rattle.root.specs.Contracts.Blocks.{IsChord, NearRoot, IsRemainder}
+use Rattle.root.specs.Contracts.Halves.{IsChord, NearRoot, IsRemainder}
 
 -- ---- the guess: low + d, d the part of the rise that u is of 2 ^ 47, less two at most
 module _ (i low rise : ℕ) (C : IsChord i low rise) where

@@ -1,7 +1,7 @@
 -- `root::guess` meets its contract, by the law of a chord. Assumes nothing.
 use Prim.Native.Nat.{ℕ, _+_, _*_, _/_, _%_, _^_, _<_}
 use native.Mathlib.Omega.{arith}
-use Rattle.root.specs.Contracts.Blocks.{NearRoot}
+use Rattle.root.specs.Contracts.Halves.{NearRoot}
 use Rattle.root.proofs.Mean.{product-fits, near}
 use Rattle.root.proofs.guess.Statement.{statement}
 use Rattle.root.proofs.guess.Tie as tie

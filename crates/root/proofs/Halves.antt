@@ -1,4 +1,4 @@
--- The two blocks of digits, and where they end. Assumes nothing.
+-- The two halves of the digits, and where they end. Assumes nothing.
 use mathlib.Core.Path.{_≡_, refl, sym, ap, _∙_, subst}
 use mathlib.Core.Bool.{Bool, true, false, not}
 use mathlib.Core.Logic.{inl, inr}
@@ -8,9 +8,9 @@ use native.Mathlib.Omega.{arith}
 use lib.Dec.{T, ltb, ltb→lt, nltb→le}
 use mir.Val.{boolByte}
 use Rattle.root.specs.Laws.Whole.{IsRoot, sq-le-root, sq-lt-back, square-out, exact-is}
-use Rattle.root.specs.Contracts.Blocks.{IsRemainder, Ends}
+use Rattle.root.specs.Contracts.Halves.{IsRemainder, Ends}
 
--- ---- the first block
+-- ---- the first half
 pub whole-of : {n r e : ℕ} → IsRemainder n r e → IsRoot n r
 whole-of v = let s = v .is in record { least = omega arith; most = omega arith }
 
@@ -20,7 +20,7 @@ root-ge v h = sq-le-root (2 ^ 26) (whole-of v) h
 pub root-lt : {n r e : ℕ} → IsRemainder n r e → n < 2 ^ 54 → r < 2 ^ 27
 root-lt {n} {r} {e} v h = sq-lt-back r (2 ^ 27) (lt-of-le-of-lt (whole-of v .least) h)
 
--- ---- the second block
+-- ---- the second half
 -- top, or one less where `have` is below `need`
 settled : (n top have need : ℕ) → n + need ≡ top * top + have → have ≤ 2 * top → need < have + 2 * top → (boolByte (ltb have need) ≤ top) × IsRoot n (top - boolByte (ltb have need))
 settled n top have need s h k = go (ltb have need) top (ltb→lt have need) (nltb→le have need) s h k

@@ -1,4 +1,4 @@
--- What is known of a whole root between the blocks of its digits.
+-- What is known of a whole root between the halves of its digits.
 use mathlib.Core.Path.{_≡_}
 use mathlib.Core.Logic.{_⊎_}
 use Prim.Native.Nat.{ℕ, _+_, _*_, _^_, _≤_, _<_}
@@ -20,7 +20,7 @@ pub record NearRoot (m g : ℕ) : Type 0 where
   pub above : g * g ≤ m + 2 ^ 38
   pub below : m ≤ g * g + (2 ^ 40 + 2 ^ 30)
 
--- ---- a block
+-- ---- a half of the digits
 -- n is a square and what is left, too little for the next square: `root` is the whole root of n
 pub record IsRemainder (n root rem : ℕ) : Type 0 where
   pub is : n ≡ root * root + rem

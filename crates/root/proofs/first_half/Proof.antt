@@ -1,13 +1,13 @@
--- `root::first_block` meets its contract: the mean of the guess and the quotient is the whole root or one more. Assumes
+-- `root::first_half` meets its contract: the mean of the guess and the quotient is the whole root or one more. Assumes
 -- nothing.
 use mathlib.Core.Logic.{inl, inr, ⊎-elim}
 use Prim.Native.Nat.{ℕ, _+_, _-_, _*_, _/_, _^_, _<_}
 use native.Mathlib.Omega.{arith}
 use borrow.Author.Needs.{needs}
-use Rattle.root.specs.Contracts.Blocks.{IsRemainder}
+use Rattle.root.specs.Contracts.Halves.{IsRemainder}
 use Rattle.root.proofs.Mean.{Lowered, lowered, quotient-lt, square-lt}
-use Rattle.root.proofs.first_block.Statement.{statement}
-use Rattle.root.proofs.first_block.Tie as tie
+use Rattle.root.proofs.first_half.Statement.{statement}
+use Rattle.root.proofs.first_half.Tie as tie
 
 -- what `guess` gave
 module _ (c : tie.After-guess) where
@@ -55,5 +55,5 @@ sub-t4 c = omega (arith, whole (c .before) .is)
 returns : tie.Need-returns
 returns c = whole (c .before)
 
-pub first-block-spec : {M : Type 1} → statement M
-first-block-spec = tie.close (tie.spec guess-requires div-root add-root mul-if1 sub-root mul-t5 sub-t4 returns)
+pub first-half-spec : {M : Type 1} → statement M
+first-half-spec = tie.close (tie.spec guess-requires div-root add-root mul-if1 sub-root mul-t5 sub-t4 returns)
