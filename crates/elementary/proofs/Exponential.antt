@@ -1,5 +1,5 @@
--- The exponential from its parts: the argument in its limits, the exponent, the series of what is left, and the power of
--- 2. Assumes nothing.
+-- The exponential from its parts: the argument in its limits, the exponent, the series of what is left, and the power
+-- of 2. Assumes nothing.
 use mathlib.Core.Path.{_≡_, sym, ap, ap₂, _∙_, subst}
 use mathlib.Core.Bool.{false, not}
 use lib.Dec.{T}

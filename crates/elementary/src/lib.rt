@@ -1,10 +1,8 @@
 // The elementary functions of document 01, for every f64.
 ghost use mathlib.Core.Path.{_≡_};
-ghost use Prim.Native.Nat.{_<_};
 ghost use lib.Dec.{T};
-ghost use lib.ListN.{length};
 ghost use lib.Ieee.Positive.{positive};
-ghost use Rattle.elementary.specs.Series.{seriesOf, oddOf, logarithmTable, exponentialTable, arctangentTable};
+ghost use Rattle.elementary.specs.Series.{seriesOf, evenOf, oddOf, sineTable, cosineTable, logarithmTable, exponentialTable, arctangentTable};
 ghost use Rattle.elementary.specs.Contracts.Stages.{atanFirst, atanSecond, quadrupled, atanThird};
 ghost use Rattle.elementary.specs.Functions.{clampOf, toRadiansOf, toDegreesOf, hypotOf, remTauOf, quadrantOf, restOf, sineAt, cosineAt, sinOf, cosOf, tanOf, lnAt, lnOf, twoTo, expOf, halfAngleOf, atanSmall, atanNonneg, atanOf, angleOf, halfPlaneOf, atan2Of, acosOf};
 ghost use Rattle.elementary.specs.Contracts.Powers.{Small};
@@ -151,20 +149,39 @@ pub struct Both {
     pub second: f64,
 }
 
-// Two series, side by side: a term waits for the one before it, and not for the other series.
-fn series_both(s: &[f64], t: &[f64], v: f64, w: f64) -> Both
-    requires { ⌜ (0 < length (now s)) × (length (now t) ≡ length (now s)) ⌝ }
-    ensures { λ r. ⌜ (r .first ≡ seriesOf (now (s .entry)) v) × (r .second ≡ seriesOf (now (t .entry)) w) ⌝ }
+// A series at two values, side by side: a term waits for the one before it, and not for the other value.
+fn series_both(t: &[f64], v: f64, w: f64) -> Both
+    ensures { λ r. ⌜ (r .first ≡ seriesOf (now (t .entry)) v) × (r .second ≡ seriesOf (now (t .entry)) w) ⌝ }
 {
-    let mut first = s[0];
+    if t.len() == 0 {
+        return Both {
+            first: 0.0,
+            second: 0.0,
+        };
+    }
+    let mut first = t[0];
     let mut second = t[0];
     let mut i = 1;
-    while i < s.len() {
-        first = first * v + s[i];
+    while i < t.len() {
+        first = first * v + t[i];
         second = second * w + t[i];
         i += 1;
     }
     Both { first, second }
+}
+
+fn sine_series(u: f64) -> f64
+    ensures { λ r. ⌜ r ≡ oddOf sineTable u ⌝ }
+{
+    let t = SINE;
+    series(&t, u * u) * u
+}
+
+fn cosine_series(u: f64) -> f64
+    ensures { λ r. ⌜ r ≡ evenOf cosineTable u ⌝ }
+{
+    let t = COSINE;
+    series(&t, u * u)
 }
 
 fn logarithm_series(s: f64) -> f64
@@ -185,7 +202,7 @@ fn exponential_series_both(u: f64, v: f64) -> Both
     ensures { λ r. ⌜ (r .first ≡ seriesOf exponentialTable u) × (r .second ≡ seriesOf exponentialTable v) ⌝ }
 {
     let t = EXPONENTIAL;
-    series_both(&t, &t, u, v)
+    series_both(&t, u, v)
 }
 
 fn arctangent_series(v: f64) -> f64
@@ -241,31 +258,54 @@ fn reduce(t: f64) -> Reduced
     }
 }
 
+fn sine_at(q: f64, u: f64) -> f64
+    ensures { λ r. ⌜ r ≡ sineAt q u ⌝ }
+{
+    if q == 0.0 {
+        return sine_series(u);
+    }
+    if q == 1.0 {
+        return cosine_series(u);
+    }
+    if q == 2.0 {
+        return -sine_series(u);
+    }
+    -cosine_series(u)
+}
+
+fn cosine_at(q: f64, u: f64) -> f64
+    ensures { λ r. ⌜ r ≡ cosineAt q u ⌝ }
+{
+    if q == 0.0 {
+        return cosine_series(u);
+    }
+    if q == 1.0 {
+        return -sine_series(u);
+    }
+    if q == 2.0 {
+        return -cosine_series(u);
+    }
+    sine_series(u)
+}
+
+pub fn sin(t: f64) -> f64
+    ensures { λ r. ⌜ r ≡ sinOf t ⌝ }
+{
+    let p = reduce(t);
+    let v = sine_at(p.q, p.u);
+    if t < 0.0 { -v } else { v }
+}
+
+pub fn cos(t: f64) -> f64
+    ensures { λ r. ⌜ r ≡ cosOf t ⌝ }
+{
+    let p = reduce(t);
+    cosine_at(p.q, p.u)
+}
+
 pub struct SinCos {
     pub sin: f64,
     pub cos: f64,
-}
-
-// The sine and the cosine of the angle u in the quadrant q.
-fn sin_cos_at(q: f64, u: f64) -> SinCos
-    ensures { λ r. ⌜ (r .sin ≡ sineAt q u) × (r .cos ≡ cosineAt q u) ⌝ }
-{
-    let sine = SINE;
-    let cosine = COSINE;
-    let v = u * u;
-    let r = series_both(&sine, &cosine, v, v);
-    let s = r.first * u;
-    let c = r.second;
-    if q == 0.0 {
-        return SinCos { sin: s, cos: c };
-    }
-    if q == 1.0 {
-        return SinCos { sin: c, cos: -s };
-    }
-    if q == 2.0 {
-        return SinCos { sin: -s, cos: -c };
-    }
-    SinCos { sin: -c, cos: s }
 }
 
 // The sine and the cosine, by one reduction.
@@ -273,29 +313,13 @@ pub fn sin_cos(t: f64) -> SinCos
     ensures { λ r. ⌜ (r .sin ≡ sinOf t) × (r .cos ≡ cosOf t) ⌝ }
 {
     let p = reduce(t);
-    let v = sin_cos_at(p.q, p.u);
+    let v = sine_at(p.q, p.u);
+    let c = cosine_at(p.q, p.u);
     if t < 0.0 {
-        SinCos {
-            sin: -v.sin,
-            cos: v.cos,
-        }
+        SinCos { sin: -v, cos: c }
     } else {
-        v
+        SinCos { sin: v, cos: c }
     }
-}
-
-pub fn sin(t: f64) -> f64
-    ensures { λ r. ⌜ r ≡ sinOf t ⌝ }
-{
-    let v = sin_cos(t);
-    v.sin
-}
-
-pub fn cos(t: f64) -> f64
-    ensures { λ r. ⌜ r ≡ cosOf t ⌝ }
-{
-    let v = sin_cos(t);
-    v.cos
 }
 
 pub fn tan(t: f64) -> f64

@@ -6,7 +6,8 @@ use lib.Count.{trailingZeros}
 use lib.Ieee.{Float, nan, inf, fin, size}
 use Rattle.root.specs.Root.{isqrt, scaled}
 
--- ---- their number: from the first 1 to the last where the root is exact, 54 for any other finite argument above zero, else 0
+-- ---- their number
+-- from the first 1 to the last where the root is exact, 54 for any other finite argument above zero, else 0:
 -- the binary digits of n from the first 1 to the last
 unfoldable pub significant : ℕ → ℕ
 unfolding size trailingZeros
@@ -26,15 +27,15 @@ digitsOf (fin s zero e) = 0
 digitsOf (fin true (suc m) e) = 0
 digitsOf (fin false (suc m) e) = digitsAt (scaled (suc m) e)
 
--- ---- one by one: binary digits of the root of n from the highest, ended as soon as nothing remains to be taken off n
--- r is the root so far, and the next digit stands at place k + j, where k + 1 of the 54 digits are left
+-- ---- one by one, from the highest, ended as soon as nothing remains to be taken off
+-- r is the root of n so far; where k + 1 of the 54 digits are left, the next has the place k + j, so its 1 is 2 ^ (k + j)
 unfoldable pub workFrom : ℕ → ℕ → ℕ → ℕ → ℕ × ℕ
 workFrom j n zero r = (r, 54)
 workFrom j n (suc k) r =
     cond (eqb (r * r) n) (r, 54 - suc k)
     (let more = r + 2 ^ (k + j) in workFrom j n k (cond (leb (more * more) n) more r))
 
--- the root, as far as it is worked out, and the number of its digits; the whole root has (size n + 1) / 2
+-- the root of n as far as it is worked out, and the number of its digits; the whole root has (size n + 1) / 2
 unfoldable pub workedOut : ℕ → ℕ × ℕ
 unfolding workFrom size
 workedOut n = workFrom ((size n + 1) / 2 - 54) n 54 0

@@ -7,9 +7,6 @@ use Rattle.elementary.proofs.exponential_series_both.Tie as tie
 slice-aggregate-series-both : tie.Need-slice-aggregate-series-both
 slice-aggregate-series-both c = search needs
 
-slice-aggregate-series-both-2 : tie.Need-slice-aggregate-series-both-2
-slice-aggregate-series-both-2 c = search needs
-
 series-both-requires : tie.Need-series-both-requires
 series-both-requires c κs = search needs
 
@@ -20,4 +17,4 @@ returns c = c .series-both .ensures
 
 pub exponential-series-both-spec : {M : Type 1} → statement M
 exponential-series-both-spec =
-    tie.close (tie.spec slice-aggregate-series-both slice-aggregate-series-both-2 series-both-requires returns)
+    tie.close (tie.spec slice-aggregate-series-both series-both-requires returns)

@@ -6,15 +6,18 @@ use lib.ListN.{length, drop}
 use Rattle.float.specs.Horner.{horner}
 use Rattle.float.specs.Laws.Horner.{horner-step}
 use Rattle.elementary.specs.Series.{seriesOf}
-use Rattle.elementary.proofs.Horner.{first, last}
+use Rattle.elementary.proofs.Horner.{empty, first, last}
 use Rattle.elementary.proofs.series_both.Statement.{statement}
 use Rattle.elementary.proofs.series_both.Tie as tie
 
 abbrev Inv-loop : tie.InvT-loop
-Inv-loop s t v w first₀ second₀ i₀ a b i = (i ≤ length s) × (horner a (drop i s) v ≡ seriesOf s v) × (horner b (drop i t) w ≡ seriesOf t w)
+Inv-loop t v w first₀ second₀ i₀ a b i = (i ≤ length t) × (horner a (drop i t) v ≡ seriesOf t v) × (horner b (drop i t) w ≡ seriesOf t w)
 
 abbrev μ-loop : tie.MeasureT-loop
-μ-loop s t v w first₀ second₀ i₀ a b i = length s - i
+μ-loop t v w first₀ second₀ i₀ a b i = length t - i
+
+returns : tie.Need-returns Inv-loop μ-loop
+returns c = (empty _ _ (c .if1 .taken), empty _ _ (c .if1 .taken))
 
 shared-slice-read-first : tie.Need-shared-slice-read-first Inv-loop μ-loop
 shared-slice-read-first c = omega arith
@@ -46,18 +49,14 @@ loop-less c = omega arith
 loop-again : tie.Need-loop-again Inv-loop μ-loop
 loop-again c =
     let l = c .before .before .before .loop in
-    let a = c .before .before .before .before .before .before .args in
-    let h : l .i < length (a .s .now) = omega arith in
-    let k : l .i < length (a .t .now) = omega (arith, c .before .before .before .before .before .before .pre) in
-    (omega arith, sym (horner-step _ _ _ _ h) ∙ l .inv .1, sym (horner-step _ _ _ _ k) ∙ l .inv .2)
+    let h : l .i < length (c .before .before .before .before .before .before .before .args .t .now) = omega arith in
+    (omega arith, sym (horner-step _ _ _ _ h) ∙ l .inv .1, sym (horner-step _ _ _ _ h) ∙ l .inv .2)
 
-returns : tie.Need-returns Inv-loop μ-loop
-returns c =
+returns-2 : tie.Need-returns-2 Inv-loop μ-loop
+returns-2 c =
     let l = c .before .loop in
-    let a = c .before .before .before .before .args in
-    let h : length (a .s .now) ≤ l .i = omega arith in
-    let k : length (a .t .now) ≤ l .i = omega (arith, c .before .before .before .before .pre) in
-    (sym (last _ _ _ _ h) ∙ l .inv .1, sym (last _ _ _ _ k) ∙ l .inv .2)
+    let h : length (c .before .before .before .before .before .args .t .now) ≤ l .i = omega arith in
+    (sym (last _ _ _ _ h) ∙ l .inv .1, sym (last _ _ _ _ h) ∙ l .inv .2)
 
 pub series-both-spec : {M : Type 1} → statement M
 series-both-spec =
@@ -65,6 +64,7 @@ series-both-spec =
     (tie.spec
     Inv-loop
     μ-loop
+    returns
     shared-slice-read-first
     shared-slice-read-second
     loop-holds
@@ -75,4 +75,4 @@ series-both-spec =
     add-i
     loop-less
     loop-again
-    returns)
+    returns-2)

@@ -1,5 +1,5 @@
--- `geoBy` in stages: the longitude that is given out with the ordinate on the plane, and the latitude of the arc tangent of
--- its exponential.
+-- `geoBy` in stages: the longitude that is given out with the ordinate on the plane, and the latitude of the arc tangent
+-- of its exponential.
 use lib.Ieee.{Float, binary64, neg, add, sub, mul}
 use Rattle.geodesy.specs.declared.LonLat.{LonLat}
 use Rattle.geodesy.specs.declared.Metres.{Metres}
