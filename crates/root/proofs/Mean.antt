@@ -2,11 +2,11 @@
 -- Assumes nothing.
 use mathlib.Core.Path.{_≡_, sym, ap, _∙_, subst}
 use mathlib.Core.Bool.{Bool, true, false, not}
-use mathlib.Core.Logic.{_⊎_, inl, inr}
 use Prim.Native.Nat.{ℕ, zero, suc, _+_, _-_, _*_, _/_, _%_, _^_, _≤_, _<_}
 use native.Mathlib.Nat.{le-trans, le-of-lt, mul-le-mul, mul-le-mul-left, mul-le-mul-right, le-of-mul-le-mul-right, mul-pos, div-add-mod', mod-lt, div-lt-iff-lt-mul, lt-of-le-of-lt, mul-lt-mul-of-pos-right}
 use native.Mathlib.Omega.{arith}
-use lib.Dec.{T, leb, leb→le, nleb→lt}
+use lib.Dec.{T, leb, ltb, leb→le, nleb→lt, ltb→lt, nltb→le}
+use mir.Val.{boolByte}
 use Rattle.root.specs.Laws.Whole.{sq-lt-back}
 use Rattle.root.specs.Contracts.Halves.{IsChord, NearRoot, IsRemainder}
 
@@ -162,28 +162,26 @@ mean-close m (suc h) s N l = go (leb m ((h + 1) * (h + 1))) (leb→le m ((h + 1)
         let D : m ≡ (h + 1) * (h + 1) + d = omega (arith, k tt) in
         cancel (2 * ((h + 1) * h) + d) (omega arith) (subst (λ (x : ℕ). (2 * ((h + 1) * h) + d) * (2 * ((h + 1) * h) + d) ≤ 4 * ((h + 1) * (h + 1) * x)) (sym D) (from-below h d (omega (arith, N .least)) (omega (arith, N .below))))
 
--- one less where its square is above m: the whole root of m
-abbrev pub Lowered : ℕ → ℕ → ℕ → Type 0
-Lowered m mean r = ((m < mean * mean) × (r ≡ mean - 1)) ⊎ ((mean * mean ≤ m) × (r ≡ mean))
+-- whether r is above the whole root of m, 1 or 0
+abbrev pub above : ℕ → ℕ → ℕ
+above m r = boolByte (ltb m (r * r))
 
-pub lowered : (m g r : ℕ) → NearRoot m g → Lowered m ((g + m / g) / 2) r → IsRemainder m r (m - r * r)
-lowered m g r N w = go w
+-- where r is, one less is not
+pub above-once : (m g r : ℕ) → NearRoot m g → 2 * r ≤ g + m / g → m < r * r → (1 ≤ r) × (above m (r - 1) < above m r)
+above-once m g zero N l h = absurd (omega arith)
+above-once m g (suc s) N l h =
+    let e : suc s - 1 ≡ s = omega arith in
+    let k : 2 * (s + 1) ≤ g + m / g = omega (arith, l) in
+    (omega arith, subst (λ (x : ℕ). above m x < above m (suc s)) (sym e) (go (ltb m (s * s)) (ltb m (suc s * suc s)) (λ t. mean-close m g s N k) (ltb→lt m (s * s)) (nltb→le m (suc s * suc s))))
   where
-    whole : (r : ℕ) → r * r ≤ m → m < (r + 1) * (r + 1) → IsRemainder m r (m - r * r)
-    whole r l h = record { is = omega arith; little = omega arith }
+    go : (b c : Bool) → (T b → s * s ≤ m) → (T b → m < s * s) → (T (not c) → suc s * suc s ≤ m) → boolByte b < boolByte c
+    go true c f g k = absurd (omega (arith, f tt, g tt))
+    go false true f g k = omega arith
+    go false false f g k = absurd (omega (arith, k tt))
 
-    some : (k : ℕ) → m < k * k → 0 < k
-    some zero h = absurd (omega arith)
-    some (suc k) h = omega arith
-
-    go : Lowered m ((g + m / g) / 2) r → IsRemainder m r (m - r * r)
-    go (inl v) =
-        let l = some ((g + m / g) / 2) (v .0) in
-        let e : (g + m / g) / 2 ≡ r + 1 = omega (arith, v .1) in
-        whole r (mean-close m g r N (omega arith)) (subst (λ (k : ℕ). m < k * k) e (v .0))
-    go (inr v) =
-        whole r (subst (λ (k : ℕ). k * k ≤ m) (sym (v .1)) (v .0))
-        (subst (λ (k : ℕ). m < (k + 1) * (k + 1)) (sym (v .1)) (mean-above m g (omega (arith, N .least))))
+-- r is the whole root of m
+pub found : (m r : ℕ) → r * r ≤ m → m < (r + 1) * (r + 1) → IsRemainder m r (m - r * r)
+found m r l h = record { is = omega arith; little = omega arith }
 
 -- ---- what the code works out fits
 pub quotient-lt : (m g : ℕ) → m < 2 ^ 54 → NearRoot m g → m / g < 2 ^ 28
