@@ -113,13 +113,14 @@ mean-above m g G = go (m / g) ((g + m / g) / 2) (omega (arith, div-add-mod' m g,
         let s : (g + (h + 1)) * (g + (h + 1)) ≤ 2 * (r + 1) * (2 * (r + 1)) = mul-le-mul (omega arith) (omega arith) in
         omega arith
 
--- (g * g + m - 2 * g) ^ 2 is at most 4 * g * g * m where g, which is h + 1, is near the root: its square is d above m
+-- What follows has g = h + 1. More than the square of what g * g may miss m by:
 enough : (h : ℕ) → 2 ^ 26 ≤ h + 1 → 2 ^ 80 + 2 ^ 72 ≤ 4 * ((h + 1) * (h + 1) * (2 * h + 1))
 enough h H = omega (arith, mul-le-mul (mul-le-mul H H) more)
   where
     more : 2 ^ 26 + 2 ^ 25 ≤ 2 * h + 1
     more = omega arith
 
+-- (g * g + m - 2 * g) ^ 2 is at most 4 * g * g * m: where g * g is d above m ..
 from-above : (h m d b : ℕ) → 2 ^ 26 ≤ h + 1 → h + 1 < 2 ^ 28 → d ≤ 2 ^ 38 → (h + 1) * (h + 1) ≡ m + d → b + d ≡ 2 * ((h + 1) * h) → b * b ≤ 4 * ((h + 1) * (h + 1) * m)
 from-above h m d b H G D e f =
     omega (
@@ -132,7 +133,7 @@ from-above h m d b H G D e f =
       ap (λ (x : ℕ). x * d) f,
     )
 
--- or d below m
+-- .. and where it is d below m
 from-below : (h d : ℕ) → 2 ^ 26 ≤ h + 1 → d ≤ 2 ^ 40 + 2 ^ 30 → (2 * ((h + 1) * h) + d) * (2 * ((h + 1) * h) + d) ≤ 4 * ((h + 1) * (h + 1) * ((h + 1) * (h + 1) + d))
 from-below h d H D = omega (arith, enough h H, mul-le-mul D D)
 
