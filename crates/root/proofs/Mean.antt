@@ -7,7 +7,7 @@ use native.Mathlib.Nat.{le-trans, le-of-lt, mul-le-mul, mul-le-mul-left, mul-le-
 use native.Mathlib.Omega.{arith}
 use lib.Dec.{T, leb, ltb, leb→le, nleb→lt, ltb→lt, nltb→le}
 use mir.Val.{boolByte}
-use Rattle.root.specs.Laws.Whole.{sq-lt-back}
+use Rattle.root.specs.Laws.Whole.{IsRoot, sq-lt-back}
 use Rattle.root.specs.Contracts.Halves.{IsChord, NearRoot, IsRemainder}
 
 -- ---- the guess: low + d, d the part of the rise that u is of 2 ^ 47, less two at most
@@ -163,26 +163,23 @@ mean-close m (suc h) s N l = go (leb m ((h + 1) * (h + 1))) (leb→le m ((h + 1)
         let D : m ≡ (h + 1) * (h + 1) + d = omega (arith, k tt) in
         cancel (2 * ((h + 1) * h) + d) (omega arith) (subst (λ (x : ℕ). (2 * ((h + 1) * h) + d) * (2 * ((h + 1) * h) + d) ≤ 4 * ((h + 1) * (h + 1) * x)) (sym D) (from-below h d (omega (arith, N .least)) (omega (arith, N .below))))
 
--- whether r is above the whole root of m, 1 or 0
-abbrev pub above : ℕ → ℕ → ℕ
-above m r = boolByte (ltb m (r * r))
-
--- where r is, one less is not
-pub above-once : (m g r : ℕ) → NearRoot m g → 2 * r ≤ g + m / g → m < r * r → (1 ≤ r) × (above m (r - 1) < above m r)
-above-once m g zero N l h = absurd (omega arith)
-above-once m g (suc s) N l h =
-    let e : suc s - 1 ≡ s = omega arith in
-    let k : 2 * (s + 1) ≤ g + m / g = omega (arith, l) in
-    (omega arith, subst (λ (x : ℕ). above m x < above m (suc s)) (sym e) (go (ltb m (s * s)) (ltb m (suc s * suc s)) (λ t. mean-close m g s N k) (ltb→lt m (s * s)) (nltb→le m (suc s * suc s))))
+-- one less where its square is above m: the whole root of m
+pub lowered : (m g mean : ℕ) → NearRoot m g → mean ≡ (g + m / g) / 2 → (boolByte (ltb m (mean * mean)) ≤ mean) × IsRoot m (mean - boolByte (ltb m (mean * mean)))
+lowered m g mean N e = go (ltb m (mean * mean)) mean e (ltb→lt m (mean * mean)) (nltb→le m (mean * mean))
   where
-    go : (b c : Bool) → (T b → s * s ≤ m) → (T b → m < s * s) → (T (not c) → suc s * suc s ≤ m) → boolByte b < boolByte c
-    go true c f g k = absurd (omega (arith, f tt, g tt))
-    go false true f g k = omega arith
-    go false false f g k = absurd (omega (arith, k tt))
+    go : (b : Bool) (r : ℕ) → r ≡ (g + m / g) / 2 → (T b → m < r * r) → (T (not b) → r * r ≤ m) → (boolByte b ≤ r) × IsRoot m (r - boolByte b)
+    go true zero e f k = absurd (omega (arith, f tt))
+    go true (suc s) e f k =
+        let d : suc s - 1 ≡ s = omega arith in
+        let l : 2 * (s + 1) ≤ g + m / g = omega (arith, e) in
+        (omega arith, subst (IsRoot m) (sym d) (record { least = mean-close m g s N l; most = omega (arith, f tt) }))
+    go false r e f k =
+        let d : r - 0 ≡ r = omega arith in
+        let h : m < (r + 1) * (r + 1) = subst (λ (x : ℕ). m < (x + 1) * (x + 1)) (sym e) (mean-above m g (omega (arith, N .least))) in
+        (omega arith, subst (IsRoot m) (sym d) (record { least = k tt; most = h }))
 
--- r is the whole root of m
-pub found : (m r : ℕ) → r * r ≤ m → m < (r + 1) * (r + 1) → IsRemainder m r (m - r * r)
-found m r l h = record { is = omega arith; little = omega arith }
+pub remains : (m r : ℕ) → IsRoot m r → IsRemainder m r (m - r * r)
+remains m r R = let l = R .least in let h = R .most in record { is = omega arith; little = omega arith }
 
 -- ---- what the code works out fits
 pub quotient-lt : (m g : ℕ) → m < 2 ^ 54 → NearRoot m g → m / g < 2 ^ 28
