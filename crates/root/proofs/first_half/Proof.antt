@@ -7,7 +7,7 @@ use borrow.Author.Needs.{needs}
 use lib.Dec.{ltb}
 use mir.Val.{boolByte}
 use Rattle.root.specs.Laws.Whole.{IsRoot}
-use Rattle.root.proofs.Mean.{lowered, remains, quotient-lt, square-lt}
+use Rattle.root.proofs.Mean.{lowered, remains, guess-lt, quotient-lt, square-lt}
 use Rattle.root.proofs.first_half.Statement.{statement}
 use Rattle.root.proofs.first_half.Tie as tie
 
@@ -31,14 +31,17 @@ module _ (c : tie.After-guess) where
   quotient : m / g < 2 ^ 28
   quotient = quotient-lt m g (c .before .pre .1) (c .guess .ensures)
 
+  divisor : g < 2 ^ 27
+  divisor = guess-lt m g (c .before .pre .1) (c .guess .ensures)
+
   whole : (boolByte (ltb m (mean * mean)) ≤ mean) × IsRoot m (mean - boolByte (ltb m (mean * mean)))
   whole = lowered m g mean (c .guess .ensures) refl
 
 add-mean : tie.Need-add-mean
-add-mean c = omega (arith, quotient c, c .guess .ensures .most)
+add-mean c = omega (arith, quotient c, divisor c)
 
 mul-over : tie.Need-mul-over
-mul-over c = omega (arith, square-lt (mean c) (omega (arith, quotient c, c .guess .ensures .most)))
+mul-over c = omega (arith, square-lt (mean c) (omega (arith, quotient c, divisor c)))
 
 cast-over : tie.Need-cast-over
 cast-over c = search needs

@@ -4,21 +4,19 @@ use mathlib.Core.Logic.{_⊎_}
 use Prim.Native.Nat.{ℕ, _+_, _*_, _^_, _≤_, _<_}
 
 -- ---- a guess
--- low and low + rise are not below the roots of i * 2 ^ 47 and (i + 1) * 2 ^ 47, and not far above them
+-- low and low + rise are the whole roots of i * 2 ^ 48 and of (i + 1) * 2 ^ 48
 abbrev pub IsChord : ℕ → ℕ → ℕ → Type 0
 IsChord i low rise =
-    (i * 2 ^ 47 ≤ low * low)
-    × (low * low ≤ i * 2 ^ 47 + 2 ^ 38)
-    × ((i + 1) * 2 ^ 47 ≤ (low + rise) * (low + rise))
-    × ((low + rise) * (low + rise) ≤ (i + 1) * 2 ^ 47 + 2 ^ 38)
-    × (rise * rise ≤ 2 ^ 40)
+    (low * low ≤ i * 2 ^ 48)
+    × (i * 2 ^ 48 < (low + 1) * (low + 1))
+    × ((low + rise) * (low + rise) ≤ (i + 1) * 2 ^ 48)
+    × ((i + 1) * 2 ^ 48 < (low + rise + 1) * (low + rise + 1))
 
--- the square of g is so near m that the mean of g and m / g is less than one above the root of m
+-- g is not above the root of m, and so near it that the mean of g and m / g is less than one above it
 pub record NearRoot (m g : ℕ) : Type 0 where
   pub least : 2 ^ 26 ≤ g
-  pub most : g < 2 ^ 28
-  pub above : g * g ≤ m + 2 ^ 38
-  pub below : m ≤ g * g + (2 ^ 40 + 2 ^ 30)
+  pub above : g * g ≤ m
+  pub below : m ≤ g * g + (2 ^ 40 + 2 ^ 31)
 
 -- ---- a half of the digits
 -- n is a square and what is left, too little for the next square: `root` is the whole root of n
