@@ -67,7 +67,7 @@ pub fn exp_ordinate(y: f64) -> f64
     exp(y / MERCATOR_RADIUS)
 }
 
-// The same of two ordinates, side by side.
+// The exponentials of two ordinates over the radius, side by side.
 pub fn exp_ordinate_both(y: f64, z: f64) -> Both
     ensures { λ r. ⌜ (r .first ≡ expOrdinateOf y) × (r .second ≡ expOrdinateOf z) ⌝ }
 {

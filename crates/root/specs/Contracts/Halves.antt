@@ -26,4 +26,4 @@ pub record IsRemainder (n root rem : ℕ) : Type 0 where
 
 -- 27 digits were worked out of an exact root of n, which ends there, and 54 of any other
 abbrev pub Ends : ℕ → ℕ → ℕ → Type 0
-Ends n root digits = ((digits ≡ 27) × (root * root ≡ n)) ⊎ ((digits ≡ 54) × (root * root ≡ n → ⊥))
+Ends n root worked = ((worked ≡ 27) × (root * root ≡ n)) ⊎ ((worked ≡ 54) × (root * root ≡ n → ⊥))
