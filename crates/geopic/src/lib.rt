@@ -182,7 +182,8 @@ fn place_registered(
     ensures { λ a. ⌜ a
         ≡ answerOf (now (s .entry))
         (buffersBy (now (work .entry)) (now (positions .entry)) (now (features .entry)) (now (warnings .entry))) ⌝ }
-    ensures { λ a. ⌜ buffersBy (now (work .exit)) (now (positions .exit)) (now (features .exit)) (now (warnings .exit))
+    ensures { λ a. ⌜ buffersBy (now (work .exit)) (now (positions .exit))
+        (now (features .exit)) (now (warnings .exit))
         ≡ buffersAfter (now (s .entry))
         (buffersBy (now (work .entry)) (now (positions .entry)) (now (features .entry)) (now (warnings .entry))) ⌝ }
 {
@@ -209,7 +210,8 @@ pub extern "C" fn geopic_place(
     ensures { λ r. ⌜ r
         ≡ answerOf (now (s .entry))
         (buffersBy (now (work .entry)) (now (positions .entry)) (now (features .entry)) (now (warnings .entry))) ⌝ }
-    ensures { λ r. ⌜ buffersBy (now (work .exit)) (now (positions .exit)) (now (features .exit)) (now (warnings .exit))
+    ensures { λ r. ⌜ buffersBy (now (work .exit)) (now (positions .exit))
+        (now (features .exit)) (now (warnings .exit))
         ≡ buffersAfter (now (s .entry))
         (buffersBy (now (work .entry)) (now (positions .entry)) (now (features .entry)) (now (warnings .entry))) ⌝ }
 {

@@ -69,7 +69,8 @@ fn best_at(keys: &[u32], spots: &[f64], m: usize) -> Best
 fn put_best(keys: &mut [u32], spots: &mut [f64], m: usize, b: Best)
     requires { ⌜ (4 * m + 4 ≤ length (now keys)) × (2 * m + 2 ≤ length (now spots))
         × (b .key .order < 4294967296) ⌝ }
-    ensures { λ r. ⌜ SlotSet (now (keys .entry)) (now (keys .exit)) (now (spots .entry)) (now (spots .exit)) m b ⌝ }
+    ensures { λ r. ⌜ SlotSet (now (keys .entry)) (now (keys .exit))
+        (now (spots .entry)) (now (spots .exit)) m b ⌝ }
 {
     let key = b.key;
     keys[4 * m] = key.top as u32;

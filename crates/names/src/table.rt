@@ -36,7 +36,8 @@ pub struct Found {
 // come after.
 fn order_bytes(s: &[u8], p: usize, q: usize, n: usize) -> u8
     requires { ⌜ (p + n ≤ room (now s)) × (q + n ≤ room (now s)) ⌝ }
-    ensures { λ r. ⌜ r ≡ orderOf (bytesAt (payload (now (s .entry))) p n) (bytesAt (payload (now (s .entry))) q n) ⌝ }
+    ensures { λ r. ⌜ r
+        ≡ orderOf (bytesAt (payload (now (s .entry))) p n) (bytesAt (payload (now (s .entry))) q n) ⌝ }
 {
     let mut i = 0usize;
     while i < n {

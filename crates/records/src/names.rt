@@ -30,7 +30,8 @@ pub fn common_prefix(s: &[u8], p: usize, n: usize, q: usize, m: usize) -> usize
 // Whether the n bytes at p come before the m bytes at q.
 pub fn name_before(s: &[u8], p: usize, n: usize, q: usize, m: usize) -> bool
     requires { ⌜ (p + n ≤ room (now s)) × (q + m ≤ room (now s)) ⌝ }
-    ensures { λ r. ⌜ r ≡ before (bytesAt (payload (now (s .entry))) p n) (bytesAt (payload (now (s .entry))) q m) ⌝ }
+    ensures { λ r. ⌜ r
+        ≡ before (bytesAt (payload (now (s .entry))) p n) (bytesAt (payload (now (s .entry))) q m) ⌝ }
 {
     let i = common_prefix(s, p, n, q, m);
     if i >= n {

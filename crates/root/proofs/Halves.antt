@@ -1,5 +1,5 @@
 -- The two halves of the digits, and where they end. Assumes nothing.
-use mathlib.Core.Path.{_≡_, refl, sym, ap, _∙_, subst}
+use mathlib.Core.Path.{_≡_, refl, ap, _∙_, subst}
 use mathlib.Core.Bool.{Bool, true, false, not}
 use mathlib.Core.Logic.{inl, inr}
 use Prim.Native.Nat.{ℕ, zero, suc, _+_, _-_, _*_, _/_, _%_, _^_, _≤_, _<_}
@@ -20,30 +20,35 @@ root-ge v h = sq-le-root (2 ^ 26) (whole-of v) h
 pub root-lt : {n r e : ℕ} → IsRemainder n r e → n < 2 ^ 54 → r < 2 ^ 27
 root-lt {n} {r} {e} v h = sq-lt-back r (2 ^ 27) (lt-of-le-of-lt (whole-of v .least) h)
 
--- ---- the second half
+-- ---- a correction by one
+pub bit-le : (b : Bool) → boolByte b ≤ 1
+bit-le true = omega arith
+bit-le false = omega arith
+
 -- top, or one less where `have` is below `need`
-settled : (n top have need : ℕ) → n + need ≡ top * top + have → have ≤ 2 * top → need < have + 2 * top → (boolByte (ltb have need) ≤ top) × IsRoot n (top - boolByte (ltb have need))
-settled n top have need s h k = go (ltb have need) top (ltb→lt have need) (nltb→le have need) s h k
+pub one-less : (n top have need : ℕ) → (have < need → IsRoot n (top - 1)) → (need ≤ have → IsRoot n top) → IsRoot n (top - boolByte (ltb have need))
+one-less n top have need f g = go (ltb have need) (ltb→lt have need) (nltb→le have need)
   where
-    go : (b : Bool) (top : ℕ) → (T b → have < need) → (T (not b) → need ≤ have) → n + need ≡ top * top + have → have ≤ 2 * top → need < have + 2 * top → (boolByte b ≤ top) × IsRoot n (top - boolByte b)
-    go true zero f g s h k = absurd (omega (arith, f tt))
-    go true (suc r) f g s h k =
-        let l = f tt in
-        let e : suc r - 1 ≡ r = omega arith in
-        (omega arith, subst (IsRoot n) (sym e) (record { least = omega arith; most = omega arith }))
-    go false top f g s h k =
-        let l = g tt in
-        let e : top - 0 ≡ top = omega arith in
-        (omega arith, subst (IsRoot n) (sym e) (record { least = omega arith; most = omega arith }))
+    go : (b : Bool) → (T b → have < need) → (T (not b) → need ≤ have) → IsRoot n (top - boolByte b)
+    go true l h = f (l tt)
+    go false l h = let e : top ≡ top - 0 = omega arith in subst (IsRoot n) e (g (h tt))
+
+-- ---- the second half
+settled : (n top have need : ℕ) → n + need ≡ top * top + have → have ≤ 2 * top → need < have + 2 * top → IsRoot n (top - boolByte (ltb have need))
+settled n top have need s h k = one-less n top have need (λ l. below top s h k l) (λ l. record { least = omega arith; most = omega arith })
+  where
+    below : (top : ℕ) → n + need ≡ top * top + have → have ≤ 2 * top → need < have + 2 * top → have < need → IsRoot n (top - 1)
+    below zero s h k l = absurd (omega arith)
+    below (suc r) s h k l = let e : r ≡ suc r - 1 = omega arith in subst (IsRoot n) e (record { least = omega arith; most = omega arith })
 
 module _ {a rem : ℕ} (h : (2 ^ 26 ≤ a) × (a < 2 ^ 27) × (rem ≤ 2 * a)) where
   abbrev t : ℕ
   t = rem * 2 ^ 26
 
-  abbrev q : ℕ
+  abbrev pub q : ℕ
   q = t / a
 
-  abbrev have : ℕ
+  abbrev pub have : ℕ
   have = t % a * 2 ^ 28
 
   pub root-pos : 0 < a
@@ -63,7 +68,7 @@ module _ {a rem : ℕ} (h : (2 ^ 26 ≤ a) × (a < 2 ^ 27) × (rem ≤ 2 * a)) w
       go : (e : ℕ) → e < a → e * 2 ^ 28 < 2 * (a * 2 ^ 27)
       go e l = omega arith
 
-  pub second : (boolByte (ltb have (q * q)) ≤ a * 2 ^ 27 + q) × IsRoot ((a * a + rem) * 2 ^ 54) (a * 2 ^ 27 + q - boolByte (ltb have (q * q)))
+  pub second : IsRoot ((a * a + rem) * 2 ^ 54) (a * 2 ^ 27 + q - boolByte (ltb have (q * q)))
   second =
       settled ((a * a + rem) * 2 ^ 54) (a * 2 ^ 27 + q) have (q * q) (balance q (t % a) (div-add-mod' t a)) (enough q have have-lt) (short q have need-le)
     where

@@ -3,12 +3,13 @@
 use mathlib.Core.Path.{_≡_, sym, ap, _∙_, subst}
 use mathlib.Core.Bool.{Bool, true, false, not}
 use Prim.Native.Nat.{ℕ, zero, suc, _+_, _-_, _*_, _/_, _%_, _^_, _≤_, _<_}
-use native.Mathlib.Nat.{le-trans, le-of-lt, mul-le-mul, mul-le-mul-left, mul-le-mul-right, le-of-mul-le-mul-right, mul-pos, div-add-mod', mod-lt, div-lt-iff-lt-mul, lt-of-le-of-lt, lt-of-not-le, mul-lt-mul-of-pos-right}
+use native.Mathlib.Nat.{le-trans, le-of-lt, mul-le-mul, mul-le-mul-left, mul-le-mul-right, le-of-mul-le-mul-right, mul-pos, div-add-mod', mod-lt, div-lt-iff-lt-mul, lt-of-le-of-lt, lt-of-not-le}
 use native.Mathlib.Omega.{arith}
-use lib.Dec.{T, leb, ltb, leb→le, nleb→lt, ltb→lt, nltb→le}
+use lib.Dec.{T, leb, ltb, leb→le, nleb→lt}
 use mir.Val.{boolByte}
 use Rattle.root.specs.Laws.Whole.{IsRoot, sq-lt-back}
 use Rattle.root.specs.Contracts.Halves.{IsChord, NearRoot, IsRemainder}
+use Rattle.root.proofs.Halves.{one-less}
 
 -- ---- squares of sums
 -- (g + h) ^ 2 is not below 4 * g * h
@@ -164,19 +165,18 @@ mean-close m (suc h) s N l =
     le-of-mul-le-mul-right {k = (h + 1) * (h + 1)} (omega arith) (mul-pos (omega arith) (omega arith))
 
 -- one less where its square is above m: the whole root of m
-pub lowered : (m g mean : ℕ) → NearRoot m g → mean ≡ (g + m / g) / 2 → (boolByte (ltb m (mean * mean)) ≤ mean) × IsRoot m (mean - boolByte (ltb m (mean * mean)))
-lowered m g mean N e = go (ltb m (mean * mean)) mean e (ltb→lt m (mean * mean)) (nltb→le m (mean * mean))
+pub lowered : (m g mean : ℕ) → NearRoot m g → mean ≡ (g + m / g) / 2 → IsRoot m (mean - boolByte (ltb m (mean * mean)))
+lowered m g mean N e = one-less m mean m (mean * mean) (λ l. below mean e l) (λ l. record { least = l; most = most })
   where
-    go : (b : Bool) (r : ℕ) → r ≡ (g + m / g) / 2 → (T b → m < r * r) → (T (not b) → r * r ≤ m) → (boolByte b ≤ r) × IsRoot m (r - boolByte b)
-    go true zero e f k = absurd (omega (arith, f tt))
-    go true (suc s) e f k =
-        let d : suc s - 1 ≡ s = omega arith in
-        let l : 2 * (s + 1) ≤ g + m / g = omega (arith, e) in
-        (omega arith, subst (IsRoot m) (sym d) (record { least = mean-close m g s N l; most = omega (arith, f tt) }))
-    go false r e f k =
-        let d : r - 0 ≡ r = omega arith in
-        let h : m < (r + 1) * (r + 1) = subst (λ (x : ℕ). m < (x + 1) * (x + 1)) (sym e) (mean-above m g (omega (arith, N .least))) in
-        (omega arith, subst (IsRoot m) (sym d) (record { least = k tt; most = h }))
+    most : m < (mean + 1) * (mean + 1)
+    most = subst (λ (x : ℕ). m < (x + 1) * (x + 1)) (sym e) (mean-above m g (omega (arith, N .least)))
+
+    below : (r : ℕ) → r ≡ (g + m / g) / 2 → m < r * r → IsRoot m (r - 1)
+    below zero e l = absurd (omega arith)
+    below (suc s) e l =
+        let d : s ≡ suc s - 1 = omega arith in
+        let k : 2 * (s + 1) ≤ g + m / g = omega (arith, e) in
+        subst (IsRoot m) d (record { least = mean-close m g s N k; most = omega arith })
 
 pub remains : (m r : ℕ) → IsRoot m r → IsRemainder m r (m - r * r)
 remains m r R = let l = R .least in let h = R .most in record { is = omega arith; little = omega arith }
@@ -188,5 +188,5 @@ guess-lt m g h N = sq-lt-back g (2 ^ 27) (omega (arith, N .above))
 pub quotient-lt : (m g : ℕ) → m < 2 ^ 54 → NearRoot m g → m / g < 2 ^ 28
 quotient-lt m g h N = div-lt-iff-lt-mul {k = g} {x = m} {y = 2 ^ 28} (omega (arith, N .least)) .1 (omega (arith, N .least))
 
-pub square-lt : (r : ℕ) → r < 2 ^ 28 → r * r < 2 ^ 56
-square-lt r h = lt-of-le-of-lt (mul-le-mul-left r (le-of-lt h)) (mul-lt-mul-of-pos-right h (omega arith))
+pub square-lt : (r : ℕ) → r < 2 ^ 28 → r * r < 2 ^ 64
+square-lt r h = lt-of-le-of-lt (mul-le-mul-left r (le-of-lt h)) (omega arith)

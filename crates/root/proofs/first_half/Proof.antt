@@ -1,12 +1,14 @@
 -- `root::first_half` meets its contract: the mean of the guess and the quotient is the whole root or one more. Assumes
 -- nothing.
 use mathlib.Core.Path.{refl}
-use Prim.Native.Nat.{ℕ, _+_, _-_, _*_, _/_, _^_, _≤_, _<_}
+use Prim.Native.Nat.{ℕ, _+_, _-_, _*_, _/_, _^_, _<_}
+use native.Mathlib.Nat.{le-trans, lt-of-le-of-lt, sub-le}
 use native.Mathlib.Omega.{arith}
 use borrow.Author.Needs.{needs}
 use lib.Dec.{ltb}
 use mir.Val.{boolByte}
 use Rattle.root.specs.Laws.Whole.{IsRoot}
+use Rattle.root.proofs.Halves.{bit-le}
 use Rattle.root.proofs.Mean.{lowered, remains, guess-lt, quotient-lt, square-lt}
 use Rattle.root.proofs.first_half.Statement.{statement}
 use Rattle.root.proofs.first_half.Tie as tie
@@ -34,29 +36,32 @@ module _ (c : tie.After-guess) where
   divisor : g < 2 ^ 27
   divisor = guess-lt m g (c .before .pre .1) (c .guess .ensures)
 
-  whole : (boolByte (ltb m (mean * mean)) ≤ mean) × IsRoot m (mean - boolByte (ltb m (mean * mean)))
+  mean-lt : mean < 2 ^ 28
+  mean-lt = omega (arith, quotient, divisor)
+
+  whole : IsRoot m (mean - boolByte (ltb m (mean * mean)))
   whole = lowered m g mean (c .guess .ensures) refl
 
 add-mean : tie.Need-add-mean
 add-mean c = omega (arith, quotient c, divisor c)
 
 mul-over : tie.Need-mul-over
-mul-over c = omega (arith, square-lt (mean c) (omega (arith, quotient c, divisor c)))
+mul-over c = record { fits = square-lt (mean c) (mean-lt c) }
 
 cast-over : tie.Need-cast-over
 cast-over c = search needs
 
 sub-root : tie.Need-sub-root
-sub-root c = whole c .0
+sub-root c = le-trans (bit-le (ltb (m c) (mean c * mean c))) (omega (arith, c .guess .ensures .least))
 
 mul-t7 : tie.Need-mul-t7
-mul-t7 c = omega (arith, whole c .1 .least, c .before .pre .1)
+mul-t7 c = record { fits = square-lt _ (lt-of-le-of-lt (sub-le _ _) (mean-lt c)) }
 
 sub-t6 : tie.Need-sub-t6
-sub-t6 c = whole c .1 .least
+sub-t6 c = whole c .least
 
 returns : tie.Need-returns
-returns c = remains _ _ (whole c .1)
+returns c = remains _ _ (whole c)
 
 pub first-half-spec : {M : Type 1} → statement M
 first-half-spec =
