@@ -14,7 +14,7 @@ extern "C" {
 /* A call takes at most this many bytes of stack, whatever the stream, and no other memory but what it is lent. */
 #define GEOPIC_STACK 65536
 
-/* A refusal: `number` is 1 to 18 and everything else 0. Acceptance: `number` is 0. */
+/* A refusal: `number` is 1 to 19 and everything else 0. Acceptance: `number` is 0. */
 typedef struct {
     uint32_t number;
     uint32_t method;   /* GEOPIC_ANCHOR, GEOPIC_TWO_POINTS or GEOPIC_HELMERT */
@@ -33,6 +33,7 @@ enum {
     GEOPIC_LAYOUT = 3,         /* a record breaks the layout or is cut off, or the end record is missing */
     GEOPIC_LIMIT = 4,          /* a float is not finite, or a measure of the canvas exceeds 1,000,000 */
     GEOPIC_FLATTEN = 5,        /* flatten is zero or negative */
+    GEOPIC_STEP = 19,          /* the step is below 1 or above 1,000 metres */
     GEOPIC_RESCALE = 6,        /* rescale is zero or negative */
     GEOPIC_FRAME = 7,          /* the frame is not Mercator */
     GEOPIC_OUTSIDE = 8,        /* a control point or the anchor lies beyond latitude 85.06 or longitude 180 */
@@ -74,6 +75,10 @@ enum { GEOPIC_POINT = 0, GEOPIC_LINE = 1, GEOPIC_POLYGON = 2 /* of one ring */ }
 enum { GEOPIC_DRAWN = 0, GEOPIC_FILL = 1 /* a separate fill */ };
 enum { GEOPIC_GEOGRAPHIC = 0, GEOPIC_SCREEN = 1 };
 
+/* A straight edge is cut into as many equal parts as steps begin in it, so that no part is longer than the step, but into
+ * 100,000 at most; a full circle or ellipse has as many vertices as steps begin around it, or more by the tolerance of
+ * curves, within 32 and 4,096. The step is option 7 of the stream, from 1 to 1,000 metres, 100 where it is absent. */
+
 /* Work must hold P + F + 1 points, two doubles each, for every line, path and ring of the stream: P its points,
  * flattened, and closed where it is marked closed or is a ring; F those of its fill outline, flattened and closed, 0
  * without one, used or not. They are counted before straight edges are densified, and also where they are too few to
@@ -81,7 +86,7 @@ enum { GEOPIC_GEOGRAPHIC = 0, GEOPIC_SCREEN = 1 };
  *
  * Lengths count doubles and numbers, not positions or lines. A length of 0 may come with any pointer that is not null.
  *
- *            1 to 14       15 to 18     accepted
+ *            1 to 14, 19   15 to 18     accepted
  * work       untouched     all zero     all zero
  * the rest   untouched     all zero     the used part written, the tail untouched */
 geopic_answer geopic_place(const uint8_t *stream, size_t stream_length, double *work, size_t work_length,

@@ -71,7 +71,7 @@ def split(lines):
 # The rows of the table, in its order: everything that can occur.
 ROWS = (
     ["accepted"]
-    + [f"refused {n}" for n in range(19)]
+    + [f"refused {n}" for n in range(20)]
     + [f"warning {n}" for n in range(1, 7)]
     + ["point", "line", "polygon"]
     + ["role 0", "role 1 (fill)", "placement 0", "placement 1 (screen)"]
@@ -86,6 +86,7 @@ ROWS = (
     # A piece and a sharp box are always granted what they want.
     + [f"short-{p}" for p in "segment ellipse rounded-box split".split()]
     + ["unwritten", "unused-outline"]
+    + ["step-below-100", "step-above-100"]
 )
 
 

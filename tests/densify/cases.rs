@@ -111,15 +111,24 @@ fn tolerance(r: &mut Random, reach: f64) -> f64 {
     }
 }
 
-/// A scale under which so many inches have some parts of 100 m. One is beyond
+/// Within the bounds of option 7, both among them.
+fn step(r: &mut Random) -> f64 {
+    match r.below(4) {
+        0 => 100.0,
+        1 => r.pick(&[1.0, 1000.0, 2.5, 5.0, 500.0]),
+        _ => of_any_size(r, 0, 3),
+    }
+}
+
+/// A scale under which so many inches have some parts of a step. One is beyond
 /// every registration's: lengths are infinite then.
-fn scale(r: &mut Random, inches: f64, most: i32) -> f64 {
+fn scale(r: &mut Random, step: f64, inches: f64, most: i32) -> f64 {
     let parts = of_any_size(r, -2, most);
     match r.below(16) {
         0 => r.pick(&[0.0, 1e-300, 1.0, 1e9, 1e307]),
         1..=3 => r.pick(&[25.0, 100.0, 400.0, 1000.0]),
         _ if inches == 0.0 => 1.0,
-        _ => (parts * 100.0 / inches).min(1e9),
+        _ => (parts * step / inches).min(1e9),
     }
 }
 
@@ -137,8 +146,9 @@ fn ellipse(r: &mut Random, reach: f64) -> Vec<f64> {
     let (rx, ry) = (measure(r, reach), measure(r, reach));
     let ry = if r.chance(2) { rx } else { ry };
     let [x, y] = point(r, reach);
-    let scale = scale(r, 2.0 * PI * rx.max(ry).abs(), 4);
-    vec![scale, tolerance(r, reach), x, y, rx, ry]
+    let step = step(r);
+    let scale = scale(r, step, 2.0 * PI * rx.max(ry).abs(), 4);
+    vec![step, scale, tolerance(r, reach), x, y, rx, ry]
 }
 
 fn rounded(r: &mut Random, reach: f64) -> Vec<f64> {
@@ -152,8 +162,9 @@ fn rounded(r: &mut Random, reach: f64) -> Vec<f64> {
         _ => half * r.between(0.0, 1.0),
     };
     let [x, y] = point(r, reach);
-    let scale = scale(r, 2.0 * PI * rad.min(half).abs(), 4);
-    vec![scale, tolerance(r, reach), x, y, w, h, rad]
+    let step = step(r);
+    let scale = scale(r, step, 2.0 * PI * rad.min(half).abs(), 4);
+    vec![step, scale, tolerance(r, reach), x, y, w, h, rad]
 }
 
 fn angle(r: &mut Random, limit: f64, others: &[f64]) -> f64 {
@@ -169,25 +180,26 @@ fn line(r: &mut Random, reach: f64) -> Vec<f64> {
     let [x, y] = point(r, reach);
     // at times for a single segment at its cap
     let most = if r.chance(400) { 5 } else { 2 };
-    let scale = scale(r, reach, most);
+    let step = step(r);
+    let scale = scale(r, step, reach, most);
     let lon = angle(r, 180.0, &[180.0, -180.0, -0.0]);
     let lat = angle(r, 85.0, &[85.06, -85.06, -0.0]);
     let bearing = angle(r, 400.0, &[0.0, -0.0, 90.0, 1e9]);
-    let mut numbers = vec![lon, lat, x, y, scale, bearing];
+    let mut numbers = vec![step, lon, lat, x, y, scale, bearing];
     numbers.extend(points.as_flattened());
     numbers
 }
 
 /// The canvas points of a path or line.
 pub fn pairs(case: &Case) -> &[Point] {
-    let from = if case.kind == LINE { 6 } else { 1 };
+    let from = if case.kind == LINE { 7 } else { 1 };
     case.numbers[from..].as_chunks().0
 }
 
 /// The radius at a box's corners.
 pub fn corner_radius(case: &Case) -> f64 {
-    let [_, _, _, _, w, h, rad] = case.numbers[..] else {
-        panic!("a box has seven numbers");
+    let [_, _, _, _, _, w, h, rad] = case.numbers[..] else {
+        panic!("a box has eight numbers");
     };
     rad.max(0.0).min(w / 2.0).min(h / 2.0)
 }
@@ -198,17 +210,17 @@ pub fn wants(case: &Case, pieces: usize) -> Vec<(usize, usize)> {
     match case.kind {
         0 | 1 => Vec::new(),
         2 | 3 => vec![(1, 1); pieces],
-        ELLIPSE => vec![(host::arc_vertices(n[0], n[4].max(n[5]), n[1]), 8)],
+        ELLIPSE => vec![(host::arc_vertices(n[0], n[1], n[5].max(n[6]), n[2]), 8)],
         BOX => {
             let r = corner_radius(case);
             if r <= 0.0 {
                 return vec![(4, 4)];
             }
-            let around = host::arc_vertices(n[0], r, n[1]);
+            let around = host::arc_vertices(n[0], n[1], r, n[2]);
             vec![(around.div_ceil(4).max(2) * 4, 8)]
         }
         _ => {
-            let want = |w: &[Point]| (host::segment_want(n[4], w[0], w[1]), 1);
+            let want = |w: &[Point]| (host::segment_want(n[0], n[5], w[0], w[1]), 1);
             pairs(case).windows(2).map(want).collect()
         }
     }

@@ -271,7 +271,7 @@ impl Tally {
 /// A line whose scale is beyond a registration's has positions that are no
 /// number, for the sake of its draws.
 fn beyond(case: &Case) -> bool {
-    case.kind == LINE && case.numbers[4] > 1e9
+    case.kind == LINE && case.numbers[5] > 1e9
 }
 
 fn same(case: &Case, ours: u64, theirs: u64) -> bool {
@@ -303,7 +303,7 @@ fn call(case: &Case, laid: Option<&Laid>, half: bool, work: &mut [f64]) -> Drawi
         (ELLIPSE, _) => host::ellipse(first(n), case.left, work),
         (BOX, _) => host::box_ring(first(n), case.left, work),
         (LINE, _) => {
-            let mut points = n[6..].to_vec();
+            let mut points = n[7..].to_vec();
             points.extend(half.then_some(1.0));
             host::line(first(n), &points, case.left, work)
         }

@@ -6,9 +6,6 @@ mod abi;
 pub use abi::Path;
 use abi::Registration;
 
-/// The source's MAX_STEP_M.
-const STEP: f64 = 100.0;
-
 #[repr(C)]
 pub struct Drawing {
     pub ok: bool,
@@ -90,20 +87,20 @@ pub fn path(s: &[u8], p: Path, tol: f64, left: usize, work: &mut [f64]) -> Drawi
     }
 }
 
-pub fn ellipse(numbers: [f64; 6], left: usize, work: &mut [f64]) -> Drawing {
-    let [scale, tol, x, y, rx, ry] = numbers;
+pub fn ellipse(numbers: [f64; 7], left: usize, work: &mut [f64]) -> Drawing {
+    let [step, scale, tol, x, y, rx, ry] = numbers;
     let (to, room) = (work.as_mut_ptr(), work.len());
-    unsafe { densify_ellipse(STEP, scale, tol, x, y, rx, ry, left, to, room) }
+    unsafe { densify_ellipse(step, scale, tol, x, y, rx, ry, left, to, room) }
 }
 
-pub fn box_ring(numbers: [f64; 7], left: usize, work: &mut [f64]) -> Drawing {
-    let [scale, tol, x, y, w, h, rad] = numbers;
+pub fn box_ring(numbers: [f64; 8], left: usize, work: &mut [f64]) -> Drawing {
+    let [step, scale, tol, x, y, w, h, rad] = numbers;
     let (to, room) = (work.as_mut_ptr(), work.len());
-    unsafe { densify_box(STEP, scale, tol, x, y, w, h, rad, left, to, room) }
+    unsafe { densify_box(step, scale, tol, x, y, w, h, rad, left, to, room) }
 }
 
-pub fn line(numbers: [f64; 6], points: &[f64], left: usize, out: &mut [f64]) -> Drawing {
-    let [lon, lat, x, y, scale, bearing] = numbers;
+pub fn line(numbers: [f64; 7], points: &[f64], left: usize, out: &mut [f64]) -> Drawing {
+    let [step, lon, lat, x, y, scale, bearing] = numbers;
     let reg = Registration {
         lon,
         lat,
@@ -115,15 +112,15 @@ pub fn line(numbers: [f64; 6], points: &[f64], left: usize, out: &mut [f64]) -> 
         controls: 0,
     };
     let (from, n) = (points.as_ptr(), points.len());
-    unsafe { densify_line(reg, STEP, from, n, left, out.as_mut_ptr(), out.len()) }
+    unsafe { densify_line(reg, step, from, n, left, out.as_mut_ptr(), out.len()) }
 }
 
-pub fn segment_want(scale: f64, a: [f64; 2], b: [f64; 2]) -> usize {
-    unsafe { densify_segment_want(STEP, scale, a[0], a[1], b[0], b[1]) }
+pub fn segment_want(step: f64, scale: f64, a: [f64; 2], b: [f64; 2]) -> usize {
+    unsafe { densify_segment_want(step, scale, a[0], a[1], b[0], b[1]) }
 }
 
-pub fn arc_vertices(scale: f64, radius: f64, tol: f64) -> usize {
-    unsafe { densify_arc_vertices(STEP, scale, radius, tol) }
+pub fn arc_vertices(step: f64, scale: f64, radius: f64, tol: f64) -> usize {
+    unsafe { densify_arc_vertices(step, scale, radius, tol) }
 }
 
 pub fn draw(left: usize, hit: bool, want: usize, floor: usize) -> Grant {

@@ -15,7 +15,8 @@ fn seeded(seed: u64) -> Random {
 
 pub fn case(seed: u64) -> Case {
     let mut r = seeded(seed);
-    let doc = scene(&mut r);
+    let step = step(&mut seeded(seed ^ STEPS));
+    let doc = scene(&mut r, step);
     let name = format!("seed-{seed}");
     match r.below(20) {
         0..=11 => Case::doc(name, &doc),
@@ -25,6 +26,22 @@ pub fn case(seed: u64) -> Case {
         }
         _ => Case::place(name, damage::damaged(&mut r, &doc)),
     }
+}
+
+/// The step has a sequence of its own: a scene without one is what it was.
+const STEPS: u64 = 0x7a1d_93c5_02be_4f68;
+
+/// In one scene of three, metres.
+fn step(r: &mut Random) -> Option<f64> {
+    let most = r.pick(&[10.0, 100.0, 1000.0]);
+    let step = match r.below(12) {
+        0 => 1.0,
+        1 => 1000.0,
+        2 => r.pick(&[1.0 - f64::EPSILON / 2.0, 1000.0 + 1e-13, 0.0, -0.0, -5.0, f64::NAN]),
+        3 | 4 => r.pick(&[2.5, 5.0, 99.5, 100.0, 500.0]),
+        _ => r.between(most / 10.0, most),
+    };
+    r.chance(3).then_some(step)
 }
 
 fn small_sizes(r: &mut Random, c: &mut Case) {
@@ -170,11 +187,14 @@ fn longitude(r: &mut Random) -> f64 {
     }
 }
 
-fn scene(r: &mut Random) -> Doc {
+fn scene(r: &mut Random, step: Option<f64>) -> Doc {
     let mut doc = Doc::new();
+    doc.step = step;
     // Lengths such that a usual scene has some hundred positions.
     let reach = r.pick(&[0.5, 2.0, 2.0, 10.0, 10.0, 100.0, 3000.0]);
     let scale = r.between(5.0, 600.0) / reach * r.pick(&[0.01, 1.0, 1.0, 2.0, 8.0]);
+    let shorter = step.filter(|v| (1.0..=1000.0).contains(v)).map_or(1.0, |v| v / 100.0);
+    let scale = scale * shorter;
     if !r.chance(3) {
         doc.vars.insert("geo_frame".into(), if r.chance(80) { 0.0 } else { 1.0 });
     } else if !r.chance(60) {

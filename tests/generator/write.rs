@@ -36,6 +36,7 @@ pub struct Doc {
     pub bearing: Option<f64>,
     pub flatten: Option<f64>,
     pub view_scale: Option<f64>,
+    pub step: Option<f64>,
     pub features: Vec<(String, f64, f64)>,
     pub vars: BTreeMap<String, f64>,
     pub places: Vec<Place>,
@@ -83,6 +84,7 @@ impl Doc {
             bearing: None,
             flatten: None,
             view_scale: None,
+            step: None,
             features: Vec::new(),
             vars: BTreeMap::new(),
             places: Vec::new(),
@@ -143,7 +145,7 @@ impl Doc {
         if let Some(anchor) = self.anchor {
             out.push(Bytes::new(2).byte(2).pair(anchor).0);
         }
-        let floats = [self.scale, self.bearing, self.flatten, self.view_scale];
+        let floats = [self.scale, self.bearing, self.flatten, self.view_scale, self.step];
         for (option, value) in (3..).zip(floats) {
             if let Some(v) = value {
                 out.push(Bytes::new(2).byte(option).float(v).0);

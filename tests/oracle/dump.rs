@@ -37,10 +37,10 @@ pub fn scene(parsed: &Parsed, out: &mut String) {
     let scale = optional(options.scale, bits);
     let bearing = optional(options.bearing, bits);
     let view_scale = optional(options.view_scale, bits);
-    let flatten = bits(options.flatten);
+    let (flatten, step) = (bits(options.flatten), bits(parsed.step));
     put(
         out,
-        format!("O {frame} {anchor} {scale} {bearing} {flatten} {view_scale}"),
+        format!("O {frame} {anchor} {scale} {bearing} {flatten} {view_scale} {step}"),
     );
     for (i, f) in options.features.iter().enumerate() {
         put(out, format!("N {i} {} {}", f.name, pair([f.lon, f.lat])));

@@ -114,6 +114,9 @@ REPORTS = {
         ),
         # The allowance to start from is a parameter of the tests.
         (1, "left: MAX_VERTICES,", "left: record::allowance(),"),
+        # The sheet's step takes the constant's place.
+        (1, "len_m / MAX_STEP_M", "len_m / record::step()"),
+        (1, "reg.metres(r) / MAX_STEP_M", "reg.metres(r) / record::step()"),
         # Every draw, and who makes it.
         (
             1,

@@ -63,7 +63,7 @@ impl Answer {
 /// Refusals 7 to 14 as errors; 15 to 18 stand in the answer.
 pub fn answer(parsed: &Parsed, sizes: Sizes) -> Result<Answer, u32> {
     let variables = parsed.scene.vars.keys().cloned().collect();
-    record::begin(sizes.allowance, variables);
+    record::begin(sizes.allowance, parsed.step, variables);
     let result = georeference_scene(&parsed.scene, &parsed.options);
     let record = record::finish();
     let scene = result.map_err(|e| number(&e))?;

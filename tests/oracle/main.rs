@@ -15,8 +15,8 @@
 //
 // Options: --work N, --positions N, --features N, --warnings N, --allowance N
 // and --limit N set sizes for `place`. --scene prints the parsed scene before
-// the answer where 1 to 6 do not refuse, --registration the registration (G)
-// where 7 to 14 do not; after each P, --bits prints the position's bits (Q);
+// the answer where 1 to 6 and 19 do not refuse, --registration the registration
+// (G) where 7 to 14 do not; after each P, --bits prints the position's bits (Q);
 // after B, --draws prints every draw (D: want, floor, grant, left). --tally
 // ends an answer with what occurred in it (T).
 
@@ -263,6 +263,8 @@ fn tally(parsed: &Parsed, answer: &Answer, out: &mut String) {
         count("flag-fill".into(), usize::from(item.fill.is_some()));
         count("flag-screen".into(), usize::from(item.class.is_some()));
     }
+    count("step-below-100".into(), usize::from(parsed.step < 100.0));
+    count("step-above-100".into(), usize::from(parsed.step > 100.0));
     for d in answer.draws() {
         let name = match d.producer {
             Producer::Segment => "segment",

@@ -4,10 +4,10 @@
 // many numbers follow, and these as the bits of f64:
 //     0 to 3  a path: tolerance and points; 1 and 3 are closed, 2 and 3 are
 //             curves: the start, then three points for each cubic
-//     4       an ellipse: scale, tolerance, centre, rx, ry
-//     5       a box: scale, tolerance, centre, w, h, rad
-//     6       a line: anchor's longitude and latitude, origin, scale, bearing
-//             and points, which go to positions
+//     4       an ellipse: step, scale, tolerance, centre, rx, ry
+//     5       a box: step, scale, tolerance, centre, w, h, rad
+//     6       a line: step, anchor's longitude and latitude, origin, scale,
+//             bearing and points, which go to positions
 // Its answer: how many points, how many draws, what is left, 1 where a request
 // was cut; then the points, and want, floor, grant and left of every draw.
 
@@ -35,7 +35,9 @@ pub fn all(input: &[u8]) -> Vec<u8> {
 
 fn one(kind: u64, left: usize, numbers: &[f64]) -> Vec<u64> {
     let mut budget = Budget { left, hit: false };
-    begin(left, Vec::new());
+    // a path's points have no step
+    let step = if kind < 4 { f64::NAN } else { numbers[0] };
+    begin(left, step, Vec::new());
     let points = points(kind, numbers, &mut budget);
     let draws = finish().draws;
     let head = [points.len(), draws.len(), budget.left, budget.hit as usize];
@@ -52,15 +54,15 @@ fn points(kind: u64, numbers: &[f64], budget: &mut Budget) -> Vec<Point> {
             let path = path(kind % 2 == 1, kind >= 2, pairs(points));
             path_points(&path, *tolerance, budget)
         }
-        (4, &[scale, tolerance, x, y, rx, ry]) => {
+        (4, &[_, scale, tolerance, x, y, rx, ry]) => {
             let reg = registration([0.0, 0.0, 0.0, 0.0, scale, 0.0]);
             ellipse_ring([x, y], rx, ry, tolerance, &reg, budget)
         }
-        (5, &[scale, tolerance, x, y, w, h, rad]) => {
+        (5, &[_, scale, tolerance, x, y, w, h, rad]) => {
             let reg = registration([0.0, 0.0, 0.0, 0.0, scale, 0.0]);
             box_ring([x, y], w, h, rad, tolerance, &reg, budget)
         }
-        (6, [lon, lat, x, y, scale, bearing, points @ ..]) => {
+        (6, [_, lon, lat, x, y, scale, bearing, points @ ..]) => {
             let reg = registration([*lon, *lat, *x, *y, *scale, *bearing]);
             let dense = densify_polyline(pairs(points), &reg, budget);
             // as convert.rs's `geo` has it

@@ -52,6 +52,8 @@ pub struct Record {
     pub draws: Vec<Draw>,
     /// The allowance to start from, then what `finish` finds left.
     pub left: usize,
+    /// The longest step between two positions, in metres.
+    step: f64,
     pub spent: bool,
     /// Pieces that were not flat and met fewer than 2 left.
     pub unsplit: usize,
@@ -77,10 +79,11 @@ fn with<T>(f: impl FnOnce(&mut Record) -> T) -> T {
     RECORD.with(|r| f(&mut r.borrow_mut()))
 }
 
-pub fn begin(allowance: usize, variables: Vec<String>) {
+pub fn begin(allowance: usize, step: f64, variables: Vec<String>) {
     with(|r| {
         *r = Record {
             left: allowance,
+            step,
             variables,
             ..Record::default()
         }
@@ -93,6 +96,10 @@ pub fn finish() -> Record {
 
 pub fn allowance() -> usize {
     with(|r| r.left)
+}
+
+pub fn step() -> f64 {
+    with(|r| r.step)
 }
 
 /// Refusal 7, where the source has just chosen the frame.

@@ -1,5 +1,5 @@
-// The stream's bytes to the source's scene and options: refusals 1 to 6, each
-// decided over the whole stream before the next.
+// The stream's bytes to the source's scene and options, and the step: refusals
+// 1 to 6 and 19, each decided over the whole stream before the next.
 
 use crate::geodesy::{Frame, LonLat};
 use crate::scene::{Canvas, Fill, Item, Margin, Path, Place, Scene, Span};
@@ -10,10 +10,13 @@ const BLOCK: usize = 512;
 const PAYLOAD: usize = 508;
 const MAX_BLOCKS: usize = 65_536;
 const MAX_CANVAS: f64 = 1_000_000.0;
+/// Metres, where option 7 is absent.
+const STEP: f64 = 100.0;
 
 pub struct Parsed {
     pub scene: Scene,
     pub options: GeoOptions,
+    pub step: f64,
 }
 
 pub fn parse(bytes: &[u8]) -> Result<Parsed, u32> {
@@ -46,6 +49,9 @@ pub fn parse(bytes: &[u8]) -> Result<Parsed, u32> {
     }
     if parsed.options.flatten <= 0.0 {
         return Err(5);
+    }
+    if parsed.step < 1.0 || parsed.step > 1000.0 {
+        return Err(19);
     }
     if parsed.scene.rescale <= 0.0 {
         return Err(6);
@@ -151,6 +157,7 @@ impl Reader<'_> {
         let mut parsed = Parsed {
             scene: empty_scene(self.float()?),
             options: GeoOptions::default(),
+            step: STEP,
         };
         let mut last_tag = 1;
         let mut last_option = 0;
@@ -167,7 +174,7 @@ impl Reader<'_> {
                 return None;
             }
             match tag {
-                2 => last_option = self.option(last_option, &mut parsed.options)?,
+                2 => last_option = self.option(last_option, &mut parsed)?,
                 3 => parsed.options.features.push(self.feature()?),
                 4 => self.variable(&mut parsed.scene.vars)?,
                 5 => parsed.scene.places.push(self.place()?),
@@ -188,8 +195,9 @@ impl Reader<'_> {
             .then_some(parsed)
     }
 
-    fn option(&mut self, last: u8, options: &mut GeoOptions) -> Option<u8> {
+    fn option(&mut self, last: u8, parsed: &mut Parsed) -> Option<u8> {
         let option = self.byte().filter(|o| *o > last)?;
+        let options = &mut parsed.options;
         match option {
             1 => {
                 options.frame = Some(match self.choice(1)? {
@@ -207,6 +215,7 @@ impl Reader<'_> {
             4 => options.bearing = Some(self.float()?),
             5 => options.flatten = self.float()?,
             6 => options.view_scale = Some(self.float()?),
+            7 => parsed.step = self.float()?,
             _ => return None,
         }
         Some(option)

@@ -1,4 +1,4 @@
-// Refusals 1 to 6 and the questions to a scene, asked of the static library and
+// Refusals 1 to 6 and 19, and the questions to a scene, asked of the static library and
 // compared with the oracle's answers, for every case of a file that `generate`
 // wrote. Arguments: the cases, and what `oracle batch --scene` says of them. A
 // stream that is longer than its case lends room for (E 0) is not asked.
@@ -15,6 +15,9 @@ use host::Stream;
 const KINDS: [&str; 11] = [
     "box", "circle", "ellipse", "arc", "line", "arrow", "spline", "text", "dot", "brace", "block",
 ];
+
+/// Refusals that the stream alone decides, and 0 for none.
+const NUMBERS: [u32; 8] = [0, 1, 2, 3, 4, 5, 19, 6];
 
 fn bits(v: f64) -> String {
     format!("{:016x}", v.to_bits())
@@ -65,9 +68,10 @@ fn scene(s: &Stream) -> Vec<String> {
         "-".into()
     };
     let [scale, bearing, view_scale] = [s.scale(), s.bearing(), s.view_scale()].map(|v| value(&v));
-    let (anchor, flatten) = (spot(&s.anchor()), bits(s.flatten()));
+    let anchor = spot(&s.anchor());
+    let (flatten, step) = (bits(s.flatten()), bits(s.step()));
     out.push(format!(
-        "O {frame} {anchor} {scale} {bearing} {flatten} {view_scale}"
+        "O {frame} {anchor} {scale} {bearing} {flatten} {view_scale} {step}"
     ));
     let mut names = Vec::new();
     for (i, f) in s.features().enumerate() {
@@ -149,7 +153,7 @@ impl Tally {
         let Some(theirs) = answers::refusal(answer) else {
             return;
         };
-        let theirs = if theirs <= 6 { theirs } else { 0 };
+        let theirs = if NUMBERS.contains(&theirs) { theirs } else { 0 };
         let stream = Stream::new(stream);
         let ours = stream.refusal();
         *self.refused.entry(theirs).or_default() += 1;
@@ -194,7 +198,7 @@ impl Tally {
             ('K', "paths"),
             ('L', "labels"),
         ];
-        let mut met = (0..=6).all(|n| self.refused.contains_key(&n)) && self.unresolved > 0;
+        let mut met = NUMBERS.iter().all(|n| self.refused.contains_key(n)) && self.unresolved > 0;
         for (letter, what) in kinds {
             let count = self.lines.get(&letter).copied().unwrap_or_default();
             println!("{count:9} {what}");
@@ -204,7 +208,7 @@ impl Tally {
         let total: u32 = self.refused.values().sum();
         println!("{total} streams, {} differ", self.different);
         if !met {
-            println!("a number from 0 to 6, or a kind of line, did not occur");
+            println!("a number, or a kind of line, did not occur");
         }
         met && self.different == 0
     }

@@ -88,6 +88,7 @@ unsafe extern "C" {
     fn scene_refusal(s: *const u8, n: usize) -> u32;
     fn scene_rescale(s: *const u8, n: usize) -> f64;
     fn scene_flatten(s: *const u8, n: usize) -> f64;
+    fn scene_step(s: *const u8, n: usize) -> f64;
     fn scene_frame(s: *const u8, n: usize) -> FrameChoice;
     fn scene_anchor(s: *const u8, n: usize) -> Spot;
     fn scene_scale(s: *const u8, n: usize) -> Value;
@@ -139,6 +140,10 @@ impl<'a> Stream<'a> {
 
     pub fn flatten(&self) -> f64 {
         ask!(self, scene_flatten)
+    }
+
+    pub fn step(&self) -> f64 {
+        ask!(self, scene_step)
     }
 
     pub fn frame(&self) -> FrameChoice {

@@ -1,30 +1,37 @@
 -- The three demands, as theorems about every stream s and whatever slices are lent with it (t), and what the changes of document 02 promise. The contract of `geopic_place` says that its answer is `answerOf s t` and that the slices then hold `buffersAfter s t`; both are read off one list of events, `traceOf`.
-use Prim.Native.Nat.{ℕ, suc, _*_, _^_}
-use mathlib.Core.Path.{_≡_}
+use Prim.Native.Nat.{ℕ, suc, _*_, _^_, _≤_}
+use mathlib.Core.Path.{_≡_, refl}
 use mathlib.Core.Bool.{false, cond}
 use mathlib.Core.List.{List}
 use lib.IntN.{ℤ}
 use lib.Dec.{T}
-use lib.Ieee.{fin, binary64, fits, round}
+use lib.Ieee.{Float, fin, binary64, fits, round, lt}
 use lib.ListN.{length, drop}
 use Rattle.root.specs.Root.{scaled, sticky, rootOf}
 use Rattle.root.specs.Digits.{digitsOf, workedOut}
 use Rattle.root.specs.Laws.SingleDigits.{single-digits}
 use Rattle.stream.specs.Conditions.{firstOf, NoneHolds}
 use Rattle.stream.specs.Payload.{payload}
-use Rattle.scene.specs.Scene.{Scene, sceneOf}
+use Rattle.stream.specs.declared.Float64.the-variants.{Finite}
+use Rattle.records.specs.Walk.{entries}
+use Rattle.records.specs.Search.{recordsOf}
+use Rattle.records.specs.Values.{floatOr, hundred, one, thousand, stepIn}
+use Rattle.scene.specs.Scene.{valueOf, Scene, sceneOf}
 use Rattle.values.specs.declared.Point.{Point}
 use Rattle.projection.specs.Projection.{geoOf, projectPoint}
 use Rattle.register.specs.Register.{f0, registrationOf}
 use Rattle.budget.specs.Draws.{Draw, leftAfter, Claim}
 use Rattle.budget.specs.Laws.Draws.{claim}
+use Rattle.densify.specs.Densify.{segmentParts, arcVerticesOf, quarterOf}
 use Rattle.densify.specs.Draws.{drawsOf, Granted, fellShort}
+use Rattle.densify.specs.Laws.Counts.{parts-within, arc-within}
+use Rattle.densify.specs.Laws.Sizes.{quarter-within}
 use Rattle.strokes.specs.Strokes.{drawsIn}
 use Rattle.strokes.specs.Features.{AllWellFormed, positionsIn, featuresIn, warningsIn, featuresAt, warningsAt, anyOfKind}
 use Rattle.geopic.specs.Geopic.{fresh, ctxOf, traceOf, Buffers, early, conditions, answerOf, clear, buffersAfter}
 use Rattle.geopic.specs.Laws.Conditions.{number-is, number-none, none-number}
 use Rattle.geopic.specs.Laws.Calls.{untouched, cleared}
-use Rattle.geopic.specs.Laws.Scenes.{formed-read, scene-geo, scene-features, scene-warnings, scene-counts, scene-tails, scene-claim, scene-grants, scene-left, scene-spent, scene-six}
+use Rattle.geopic.specs.Laws.Scenes.{formed-read, scene-geo, scene-features, scene-warnings, scene-counts, scene-tails, scene-step, scene-claim, scene-grants, scene-left, scene-spent, scene-six}
 
 -- 3, its first sentence. The claim holds of any list of draws from any allowance.
 pub demand-3-any : (allowance : ℕ) (ds : List Draw) → Claim allowance ds
@@ -34,7 +41,7 @@ module _ (s : List ℕ) (t : Buffers) where
   abbrev sc : Scene
   sc = sceneOf (payload s)
 
-  -- 1. The number is that of the first of 01's eighteen conditions that holds, in the order of checking ..
+  -- 1. The number is that of the first of 01's eighteen conditions and 02's nineteenth that holds, in the order of checking ..
   pub demand-1 : answerOf s t .number ≡ firstOf (conditions s t)
   demand-1 = number-is s t
 
@@ -104,3 +111,21 @@ pub change-iii : (m : ℕ) (e : ℤ) → T (fits binary64 (fin false (suc m) e))
     (round binary64 false (sticky (workedOut (scaled (suc m) e) .0) (scaled (suc m) e)) (2 ^ 1076) ≡ rootOf (fin false (suc m) e))
     × (workedOut (scaled (suc m) e) .1 ≡ digitsOf (fin false (suc m) e))
 change-iii m e f = single-digits m e f
+
+-- 02, iv. A stream is drawn with the step of option 7, 100 where it is absent ..
+pub change-iv : (s : List ℕ) → ctxOf (sceneOf (payload s)) .step ≡ valueOf (floatOr (recordsOf 2 7 (entries (payload s) 0)) (Finite hundred))
+unfolding sceneOf stepIn
+change-iv s = refl
+
+-- .. which is finite, not below 1 and not above 1,000 in one that is accepted ..
+pub change-iv-bounds : (s : List ℕ) (t : Buffers) → answerOf s t .number ≡ 0 →
+    (stepIn (payload s) ≡ Finite (sceneOf (payload s) .step)) × (lt (sceneOf (payload s) .step) one ≡ false) × (lt thousand (sceneOf (payload s) .step) ≡ false)
+change-iv-bounds s t h = scene-step s t h
+
+-- .. and under any step the old caps and floors hold: 1 to 100,000 parts of a segment, 32 to 4,096 vertices of a full curve, two or more of a quarter
+pub change-iv-caps : (step scale r tol metres : Float) →
+    (1 ≤ segmentParts step metres) × (segmentParts step metres ≤ 100000) × (32 ≤ arcVerticesOf step scale r tol) × (arcVerticesOf step scale r tol ≤ 4096) × (2 ≤ quarterOf step scale r tol)
+change-iv-caps step scale r tol metres =
+    let parts = parts-within step metres in
+    let arc = arc-within step scale r tol in
+    (parts .least, parts .most, arc .least, arc .most, quarter-within step scale r tol .least)

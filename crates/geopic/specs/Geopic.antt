@@ -11,7 +11,7 @@ use Rattle.records.specs.Conditions.{ofStream}
 use Rattle.scene.specs.Scene.{Scene, sceneOf}
 use Rattle.projection.specs.declared.Registration.{Registration}
 use Rattle.projection.specs.Projection.{projectionOf}
-use Rattle.register.specs.Register.{f0, f100, registrationOf, ofRegistration, registerWarnings}
+use Rattle.register.specs.Register.{f0, registrationOf, ofRegistration, registerWarnings}
 use Rattle.budget.specs.declared.Budget.{Budget}
 use Rattle.strokes.specs.declared.state.Ctx.{Ctx}
 use Rattle.convert.specs.Convert.{onScreen, convertOf}
@@ -20,15 +20,12 @@ use Rattle.strokes.specs.Space.{Output, applyAll, ofSpace}
 use Rattle.geopic.specs.declared.Answer.{Answer}
 
 -- ---- what a scene draws
--- MAX_STEP_M and MAX_VERTICES of the source's densify.rs
-abbrev pub maxStep : Float
-maxStep = f100
-
+-- MAX_VERTICES of the source's densify.rs
 abbrev pub fresh : Budget
 fresh = record { left = 2000000; hit = false }
 
 abbrev pub ctxOf : Scene → Ctx
-ctxOf sc = record { projection = projectionOf (registrationOf sc); step = maxStep; flatten = sc .flatten }
+ctxOf sc = record { projection = projectionOf (registrationOf sc); step = sc .step; flatten = sc .flatten }
 
 -- the registration's warnings, then everything that its items draw
 unfoldable pub traceOf : Scene → Trace
@@ -62,8 +59,9 @@ unused t =
 unfoldable pub outputOf : Scene → Buffers → Output
 outputOf sc t = applyAll (traceOf sc .events) (unused t)
 
--- ---- document 01's eighteen conditions, in the order of checking
--- those that are checked before the lent slices are looked at: 1 to 6 of the stream, 7 to 14 of the registration
+-- ---- document 01's eighteen conditions and 02's nineteenth, in the order of checking
+-- those that are checked before the lent slices are looked at: 1 to 5, 19 and 6 of the stream, 7 to 14 of the
+-- registration
 unfoldable pub early : List ℕ → List Condition
 early s = ofStream s ++ ofRegistration (sceneOf (payload s))
 

@@ -21,9 +21,6 @@ use register::write_warnings;
 use strokes::Ctx;
 use strokes::State;
 
-// The longest step between two positions, in metres.
-const MAX_STEP_M: f64 = 100.0;
-
 // The vertices that one scene may draw.
 const MAX_VERTICES: usize = 2000000;
 
@@ -138,9 +135,10 @@ fn write_output(
         warnings: w.used,
         budget: fresh,
     };
+    let step = scene::step(s);
     let cx = Ctx {
         projection: projection_of(r),
-        step: MAX_STEP_M,
+        step,
         flatten: scene::flatten(s),
     };
     convert(s, v.places_at, cx, work, positions, features, warnings, st)

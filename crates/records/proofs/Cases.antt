@@ -110,19 +110,19 @@ module _ (l : List ℕ) where
     unfolding optionFits
     choice-low h = rw (lt-leb 1 o h) refl
 
-    pub choice-high : 6 < o → false ≡ optionFits l o
+    pub choice-high : 7 < o → false ≡ optionFits l o
     unfolding optionFits
-    choice-high h = rw (lt-leb o 6 h, and-false) refl
+    choice-high h = rw (lt-leb o 7 h, and-false) refl
 
     pub choice-short : length l < 2 + optionWidth o → false ≡ optionFits l o
     unfolding optionFits
     choice-short h = simp (lt-leb (2 + optionWidth o) (length l) h, and-false)
 
-    choice-fits : 1 ≤ o → o ≤ 6 → 2 + optionWidth o ≤ length l → (ltb 1 o || leb (getD l 2 0) 1) ≡ optionFits l o
+    choice-fits : 1 ≤ o → o ≤ 7 → 2 + optionWidth o ≤ length l → (ltb 1 o || leb (getD l 2 0) 1) ≡ optionFits l o
     unfolding optionFits
-    choice-fits a b c = simp (le-leb 1 o a, le-leb o 6 b, le-leb (2 + optionWidth o) (length l) c)
+    choice-fits a b c = simp (le-leb 1 o a, le-leb o 7 b, le-leb (2 + optionWidth o) (length l) c)
 
-    pub choice-other : 1 < o → o ≤ 6 → 2 + optionWidth o ≤ length l → true ≡ optionFits l o
+    pub choice-other : 1 < o → o ≤ 7 → 2 + optionWidth o ≤ length l → true ≡ optionFits l o
     choice-other a b c = rw (← choice-fits (omega arith) b c, lt-ltb 1 o a) refl
 
     pub choice-frame : {x : ℕ} → 1 ≤ o → o ≤ 1 → 2 + optionWidth o ≤ length l → x ≡ getD l 2 0 → leb x 1 ≡ optionFits l o

@@ -14,28 +14,32 @@ use Rattle.stream.specs.Laws.Conditions.{first-none, first-ahead, first-behind,
 use Rattle.stream.specs.declared.Blocks.{Blocks}
 use Rattle.stream.specs.Payload.{payload}
 use Rattle.stream.specs.declared.Blocks.the-variants.{Valid, Size, Check}
-use Rattle.stream.specs.declared.Float64.{Float64}
 use Rattle.records.specs.Layout.{laidOut}
 use Rattle.records.specs.Limits.{limited}
-use Rattle.records.specs.Values.{flattenIn, rescaleIn, notAbove}
+use Rattle.records.specs.Values.{flattenIn, stepIn, rescaleIn, notAbove, outsideBounds}
 use Rattle.records.specs.Conditions.{ofValues, ofRecords, ofStream}
 use Rattle.records.specs.Contracts.Refusals.{valuesRefusal, refusalOf}
 use Rattle.records.specs.Laws.Tests.{and-left, and-right}
 
--- ---- 5 and 6
-module _ (l : List ℕ) {x : Float64} (f : x ≡ flattenIn l) where
-  pub flat : notAbove x ≡ true → 5 ≡ valuesRefusal l
+-- ---- 5, 19 and 6
+module _ (l : List ℕ) where
+  pub by-flatten : notAbove (flattenIn l) ≡ true → 5 ≡ valuesRefusal l
   unfolding ofValues firstOf
-  flat h = rw (ap notAbove (sym f) ∙ h) refl
+  by-flatten f = rw f refl
 
-  module _ (h : notAbove x ≡ false) {y : Float64} (r : y ≡ rescaleIn l) where
-    pub shrunk : notAbove y ≡ true → 6 ≡ valuesRefusal l
+  module _ (f : notAbove (flattenIn l) ≡ false) where
+    pub by-step : outsideBounds (stepIn l) ≡ true → 19 ≡ valuesRefusal l
     unfolding ofValues firstOf
-    shrunk k = rw (ap notAbove (sym f) ∙ h, ap notAbove (sym r) ∙ k) refl
+    by-step e = rw (f, e) refl
 
-    pub neither : notAbove y ≡ false → 0 ≡ valuesRefusal l
-    unfolding ofValues firstOf
-    neither k = rw (ap notAbove (sym f) ∙ h, ap notAbove (sym r) ∙ k) refl
+    module _ (e : outsideBounds (stepIn l) ≡ false) where
+      pub by-rescale : notAbove (rescaleIn l) ≡ true → 6 ≡ valuesRefusal l
+      unfolding ofValues firstOf
+      by-rescale r = rw (f, e, r) refl
+
+      pub by-none : notAbove (rescaleIn l) ≡ false → 0 ≡ valuesRefusal l
+      unfolding ofValues firstOf
+      by-none r = rw (f, e, r) refl
 
 -- ---- what the blocks' answer says
 sized-holds : (s : List ℕ) → firstOf (ofBlocks s) ≡ 0 → not (sized s) ≡ false

@@ -63,12 +63,12 @@ endOf l = pick (allZero l) End Bad
 unfoldable pub rescaleOf : List ℕ → Step
 rescaleOf l = pick (leb 9 (length l)) (Got Rescale 9) Bad
 
--- 2: an option, 1 to 6. 1 is frame, a byte of 0 or 1; 2 is anchor, two floats; the others are one float.
+-- 2: an option, 1 to 7. 1 is frame, a byte of 0 or 1; 2 is anchor, two floats; the others are one float.
 unfoldable pub optionWidth : ℕ → ℕ
 optionWidth o = cond (eqb o 1) 1 (cond (eqb o 2) 16 8)
 
 unfoldable pub optionFits : List ℕ → ℕ → Bool
-optionFits l o = leb 1 o && (leb o 6 && (leb (2 + optionWidth o) (length l) && (ltb 1 o || leb (getD l 2 0) 1)))
+optionFits l o = leb 1 o && (leb o 7 && (leb (2 + optionWidth o) (length l) && (ltb 1 o || leb (getD l 2 0) 1)))
 
 unfoldable pub optionOf : List ℕ → Step
 optionOf l = pick (leb 2 (length l) && optionFits l (getD l 1 0)) (Got (Option (getD l 1 0)) (2 + optionWidth (getD l 1 0))) Bad

@@ -1,4 +1,4 @@
-// The numbers of document 01's layout.
+// The numbers of document 01's layout, and of what document 02 adds to it.
 
 // The first byte of a record.
 pub const TAG_END: u8 = 0;
@@ -31,6 +31,8 @@ pub const OPTION_BEARING: u8 = 4;
 pub const OPTION_FLATTEN: u8 = 5;
 
 pub const OPTION_VIEW_SCALE: u8 = 6;
+
+pub const OPTION_STEP: u8 = 7;
 
 // What an item's points or path are for.
 pub const ROLE_DRAWN: u8 = 0;
@@ -77,6 +79,14 @@ pub const MAX_MEASURE: f64 = 1000000.0;
 // The tolerance of curves where the option is absent.
 pub const FLATTEN: f64 = 0.001;
 
+// The longest step between two positions, in metres, where the option is absent.
+pub const MAX_STEP_M: f64 = 100.0;
+
+// What the option may be.
+pub const LEAST_STEP: f64 = 1.0;
+
+pub const GREATEST_STEP: f64 = 1000.0;
+
 // A refusal, by the condition that the stream does not meet.
 pub const REFUSED_SIZE: u32 = 1;
 
@@ -87,6 +97,8 @@ pub const REFUSED_LAYOUT: u32 = 3;
 pub const REFUSED_LIMIT: u32 = 4;
 
 pub const REFUSED_FLATTEN: u32 = 5;
+
+pub const REFUSED_STEP: u32 = 19;
 
 pub const REFUSED_RESCALE: u32 = 6;
 

@@ -14,7 +14,7 @@ use crate::numbers::KIND_BLOCK;
 use crate::numbers::MAX_NAME;
 use crate::numbers::OPTION_ANCHOR;
 use crate::numbers::OPTION_FRAME;
-use crate::numbers::OPTION_VIEW_SCALE;
+use crate::numbers::OPTION_STEP;
 use crate::numbers::ROLE_FILL;
 use crate::numbers::TAG_END;
 use crate::numbers::TAG_FEATURE;
@@ -265,7 +265,7 @@ fn option_fits(part: &[u8], off: usize, option: u8) -> bool
     if option < OPTION_FRAME {
         return false;
     }
-    if option > OPTION_VIEW_SCALE {
+    if option > OPTION_STEP {
         return false;
     }
     if remaining(part, off) < 2 + option_width(option) {

@@ -1,20 +1,27 @@
-// Refusals 1 to 6.
+// Refusals 1 to 6 and 19.
 ghost use mathlib.Core.Path.{_≡_};
 ghost use Prim.Native.Nat.{_≤_};
 ghost use lib.ListN.{length};
 ghost use Rattle.stream.specs.Payload.{payload};
-ghost use Rattle.records.specs.Values.{flattenIn, notAbove};
+ghost use Rattle.stream.specs.declared.Float64.the-variants.{Finite};
+ghost use Rattle.records.specs.Values.{floatOr, flattenIn, stepIn, notAbove, outsideBounds};
+ghost use Rattle.records.specs.Contracts.Hits.{recordsAt};
 ghost use Rattle.records.specs.Contracts.Refusals.{valuesRefusal, refusalOf};
 use crate::floats::limits;
 use crate::numbers::FLATTEN;
+use crate::numbers::GREATEST_STEP;
+use crate::numbers::LEAST_STEP;
+use crate::numbers::MAX_STEP_M;
 use crate::numbers::NOT_REFUSED;
 use crate::numbers::OPTION_FLATTEN;
+use crate::numbers::OPTION_STEP;
 use crate::numbers::REFUSED_CHECK;
 use crate::numbers::REFUSED_FLATTEN;
 use crate::numbers::REFUSED_LAYOUT;
 use crate::numbers::REFUSED_LIMIT;
 use crate::numbers::REFUSED_RESCALE;
 use crate::numbers::REFUSED_SIZE;
+use crate::numbers::REFUSED_STEP;
 use crate::numbers::TAG_OPTION;
 use crate::order::layout;
 use crate::search::find;
@@ -33,24 +40,52 @@ fn is_not_above(x: Float64) -> bool
     }
 }
 
-// The tolerance of curves.
-fn flatten(s: &[u8]) -> Float64
-    ensures { λ r. ⌜ r ≡ flattenIn (payload (now (s .entry))) ⌝ }
+// Whether a step is below 1 or above 1,000.
+fn is_outside_bounds(x: Float64) -> bool
+    ensures { λ r. ⌜ r ≡ outsideBounds x ⌝ }
 {
-    let h = find(s, 0, TAG_OPTION, OPTION_FLATTEN);
+    match x {
+        Float64::NotFinite => false,
+        Float64::Finite(v) => v < LEAST_STEP || GREATEST_STEP < v,
+    }
+}
+
+// An option's float, or what stands for an absent one.
+fn float_or(s: &[u8], option: u8, absent: f64) -> Float64
+    requires { ⌜ 3 ≤ option ⌝ }
+    ensures { λ r. ⌜ r ≡ floatOr (recordsAt (payload (now (s .entry))) 0 2 option) (Finite absent) ⌝ }
+{
+    let h = find(s, 0, TAG_OPTION, option);
     if !h.some {
-        return Float64::Finite(FLATTEN);
+        return Float64::Finite(absent);
     }
     float(s, 0, h.at + 2)
 }
 
-// Conditions 5 and 6, of a stream that has a block.
+// The tolerance of curves, FLATTEN where the option is absent.
+pub fn flatten(s: &[u8]) -> Float64
+    ensures { λ r. ⌜ r ≡ flattenIn (payload (now (s .entry))) ⌝ }
+{
+    float_or(s, OPTION_FLATTEN, FLATTEN)
+}
+
+// The longest step between two positions in metres, MAX_STEP_M where the option is absent.
+pub fn sheet_step(s: &[u8]) -> Float64
+    ensures { λ r. ⌜ r ≡ stepIn (payload (now (s .entry))) ⌝ }
+{
+    float_or(s, OPTION_STEP, MAX_STEP_M)
+}
+
+// Conditions 5, 19 and 6, of a stream that has a block.
 fn values_refusal(s: &[u8]) -> u32
     requires { ⌜ 512 ≤ length (now s) ⌝ }
     ensures { λ r. ⌜ r ≡ valuesRefusal (payload (now (s .entry))) ⌝ }
 {
     if is_not_above(flatten(s)) {
         return REFUSED_FLATTEN;
+    }
+    if is_outside_bounds(sheet_step(s)) {
+        return REFUSED_STEP;
     }
     if is_not_above(float(s, 0, 1)) {
         return REFUSED_RESCALE;

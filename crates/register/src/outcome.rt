@@ -175,8 +175,8 @@ fn fit_controls(flat: &[f64], n: usize) -> Outcome
     check_scale(r)
 }
 
-// The registration of a stream that conditions 1 to 6 let pass. Where it is accepted, `kept` has the numbers of the
-// names that are control points.
+// The registration of a stream that the conditions before 7 let pass. Where it is accepted, `kept` has the numbers of
+// the names that are control points.
 pub fn register(s: &[u8], v: Survey, kept: &mut [u32]) -> Outcome
     requires { ⌜ Registrable (now s) v × (length (now kept) ≡ 64) ⌝ }
     ensures { λ o. ⌜ o ≡ outcomeOf (sceneOf (payload (now (s .entry)))) ⌝ }

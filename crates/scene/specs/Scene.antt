@@ -14,7 +14,7 @@ use Rattle.stream.specs.declared.Float64.the-variants.{Finite, NotFinite}
 use Rattle.records.specs.Records.{valuesWidth, bytesAt}
 use Rattle.records.specs.Walk.{Entry, entries}
 use Rattle.records.specs.Search.{recordsOf}
-use Rattle.records.specs.Values.{flattenIn}
+use Rattle.records.specs.Values.{flattenIn, stepIn}
 
 -- what the first of some records holds, if there is one: an option stands at most once, and so does an item's role of
 -- points
@@ -168,6 +168,7 @@ pub record Scene : Type 0 where
   pub bearing : Maybe Float
   pub flatten : Float
   pub viewScale : Maybe Float
+  pub step : Float
   pub features : List NamedFeature
   pub variables : List NamedValue
   pub places : List NamedPlace
@@ -185,6 +186,7 @@ sceneOf l =
       bearing = first (λ b. floatValueAt b 2) (recordsOf 2 4 es);
       flatten = valueOf (flattenIn l);
       viewScale = first (λ b. floatValueAt b 2) (recordsOf 2 6 es);
+      step = valueOf (stepIn l);
       features = map featureAt (recordsOf 3 0 es);
       variables = map variableAt (recordsOf 4 0 es);
       places = map placeAt (recordsOf 5 0 es);

@@ -4,7 +4,7 @@ ghost use mathlib.Core.Bool.{true, false};
 ghost use Prim.Native.Nat.{_+_, _*_, _≤_};
 ghost use Rattle.stream.specs.Payload.{payload};
 ghost use Rattle.stream.specs.Contracts.Payload.{room};
-ghost use Rattle.scene.specs.Scene.{bit, floatValueAt, pointAt};
+ghost use Rattle.scene.specs.Scene.{bit, valueOf, floatValueAt, pointAt};
 ghost use Rattle.values.specs.Maybe.{given};
 ghost use Rattle.scene.specs.Contracts.Answers.{maybeFloat, maybePoint};
 use stream::Float64;
@@ -25,15 +25,22 @@ pub struct OptionalPoint {
     pub y: f64,
 }
 
-// The float at p: 0 stands for one that is not finite, which condition 4 refuses.
+// A float's value: 0 stands for one that is not finite, which condition 4 refuses.
+pub fn value_of(x: Float64) -> f64
+    ensures { λ r. ⌜ r ≡ valueOf x ⌝ }
+{
+    match x {
+        Float64::Finite(v) => v,
+        Float64::NotFinite => 0.0,
+    }
+}
+
+// The value of the float at p.
 pub fn float_at(s: &[u8], p: usize) -> f64
     requires { ⌜ p + 8 ≤ room (now s) ⌝ }
     ensures { λ r. ⌜ r ≡ floatValueAt (payload (now (s .entry))) p ⌝ }
 {
-    match stream::float_of(stream::u64_at(s, 0, p)) {
-        Float64::Finite(v) => v,
-        Float64::NotFinite => 0.0,
-    }
+    value_of(stream::float_of(stream::u64_at(s, 0, p)))
 }
 
 // The float at p, or none.

@@ -24,6 +24,7 @@ pub use options::flatten;
 pub use options::frame;
 pub use options::rescale;
 pub use options::scale;
+pub use options::step;
 pub use options::view_scale;
 pub use readers::Feature;
 pub use readers::FeatureName;

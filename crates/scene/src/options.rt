@@ -10,10 +10,9 @@ use crate::fields::OptionalPoint;
 use crate::fields::float_at;
 use crate::fields::float_if;
 use crate::fields::point_if;
-use records::FLATTEN;
+use crate::fields::value_of;
 use records::OPTION_ANCHOR;
 use records::OPTION_BEARING;
-use records::OPTION_FLATTEN;
 use records::OPTION_FRAME;
 use records::OPTION_SCALE;
 use records::OPTION_VIEW_SCALE;
@@ -62,15 +61,18 @@ pub fn view_scale(s: &[u8]) -> OptionalFloat
     float_option(s, OPTION_VIEW_SCALE)
 }
 
-// The tolerance of curves, FLATTEN where the option is absent.
+// The tolerance of curves, in inches.
 pub fn flatten(s: &[u8]) -> f64
     ensures { λ r. ⌜ r ≡ sceneOf (payload (now (s .entry))) .flatten ⌝ }
 {
-    let v = float_option(s, OPTION_FLATTEN);
-    if v.some {
-        return v.value;
-    }
-    FLATTEN
+    value_of(records::flatten(s))
+}
+
+// The longest step between two positions, in metres.
+pub fn step(s: &[u8]) -> f64
+    ensures { λ r. ⌜ r ≡ sceneOf (payload (now (s .entry))) .step ⌝ }
+{
+    value_of(records::sheet_step(s))
 }
 
 pub fn frame(s: &[u8]) -> FrameOption

@@ -9,7 +9,7 @@ use projection::to_lonlat;
 use register::Outcome;
 use values::WarningCursor;
 
-// Refusals 1 to 14, or 0 and the registration.
+// Refusals 1 to 14 and 19, or 0 and the registration.
 #[no_mangle]
 pub extern "C" fn register_stream(s: &[u8]) -> Outcome
     ensures { λ r. ⌜ r ≡ answerOf (now (s .entry)) ⌝ }

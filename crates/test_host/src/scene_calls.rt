@@ -66,6 +66,13 @@ pub extern "C" fn scene_flatten(s: &[u8]) -> f64
 }
 
 #[no_mangle]
+pub extern "C" fn scene_step(s: &[u8]) -> f64
+    ensures { λ r. ⌜ r ≡ sceneOf (payload (now (s .entry))) .step ⌝ }
+{
+    scene::step(s)
+}
+
+#[no_mangle]
 pub extern "C" fn scene_view_scale(s: &[u8]) -> OptionalFloat
     ensures { λ r. ⌜ maybeFloat r ≡ sceneOf (payload (now (s .entry))) .viewScale ⌝ }
 {

@@ -89,8 +89,12 @@ pub fn layout(set: &mut Set) {
     let option = |o: u8| Bytes::new(2).byte(o).float(1.0);
     set.records("option-0", one(option(0)));
     set.records("option-7", one(option(7)));
+    set.records("option-8", one(option(8)));
+    set.records("option-255", one(option(255)));
     set.records("option-repeated", one(Bytes([option(3).0, option(3).0].concat())));
     set.records("option-falls", one(Bytes([option(4).0, option(3).0].concat())));
+    set.records("option-7-repeated", one(Bytes([option(7).0, option(7).0].concat())));
+    set.records("option-7-before-6", one(Bytes([option(7).0, option(6).0].concat())));
     set.records("frame-byte-2", one(Bytes::new(2).byte(1).byte(2)));
     let item = |kind, flags, presence| {
         Bytes::new(6).byte(kind).byte(flags).name("").number(0).number(0).byte(presence)
@@ -248,6 +252,7 @@ fn fields() -> Vec<(&'static str, bool, Setter)> {
         ("bearing", false, |d, v| d.bearing = Some(v)),
         ("flatten", false, |d, v| d.flatten = Some(v)),
         ("view-scale", false, |d, v| d.view_scale = Some(v)),
+        ("step", false, |d, v| d.step = Some(v)),
         ("feature-longitude", false, |d, v| d.features.push(("none".into(), v, 0.0))),
         ("feature-latitude", false, |d, v| d.features.push(("none".into(), 0.0, v))),
         ("variable", false, |d, v| _ = d.vars.insert("other".into(), v)),

@@ -271,9 +271,10 @@ pub fn scales(set: &mut Set) {
 /// Every two refusals that can hold at once: the first decides.
 pub fn two_refusals(set: &mut Set) {
     type Break = fn(&mut Doc);
-    let breaks: [(u32, Break); 11] = [
+    let breaks: [(u32, Break); 12] = [
         (4, |d| d.items.push(dot(f64::NAN, 0.0))),
         (5, |d| d.flatten = Some(0.0)),
+        (19, |d| d.step = Some(0.5)),
         (6, |d| d.rescale = 0.0),
         (7, |d| d.frame = Some(0)),
         (8, |d| *d = d.clone().control("o", [9.0, 9.0], 0.0, 86.0)),

@@ -6,6 +6,7 @@ mod earth;
 mod names;
 mod shapes;
 mod sizes;
+mod steps;
 
 use crate::case::Case;
 use crate::write::*;
@@ -70,12 +71,21 @@ pub fn all() -> Vec<Case> {
     sizes::wide_and_spent(&mut set);
     sizes::full_slices(&mut set);
     sizes::borders(&mut set);
+    steps::bounds(&mut set);
+    steps::segments(&mut set);
+    steps::rings(&mut set);
+    steps::every_kind(&mut set);
     set.checked()
 }
 
 /// The next f64 above in magnitude.
 fn above(v: f64) -> f64 {
     f64::from_bits(v.to_bits() + 1)
+}
+
+/// The next f64 below in magnitude.
+fn below(v: f64) -> f64 {
+    f64::from_bits(v.to_bits() - 1)
 }
 
 fn sharp(x: f64, y: f64, w: f64, h: f64) -> Item {

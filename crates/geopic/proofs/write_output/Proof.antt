@@ -17,7 +17,7 @@ use Rattle.geopic.proofs.write_output.Tie as tie
 abbrev lent : tie.Start → Buffers
 lent a = record { work = a .args .work .now; positions = a .args .positions .now; features = a .args .features .now; warnings = a .args .warnings .now }
 
--- none of 1 to 6
+-- none of 1 to 6 and 19
 read : (s : List ℕ) → firstOf (early s) ≡ 0 → refusalOf s ≡ 0
 read s h = early-none s h .0
 
@@ -32,6 +32,9 @@ write-warnings-requires c κs =
     let a = c .before .before .before .before .before .before .before in
     (a .pre .registrable, a .pre .controls)
 
+step-requires : tie.Need-step-requires
+step-requires c κs = search needs
+
 projection-of-requires : tie.Need-projection-of-requires
 projection-of-requires c κs = search needs
 
@@ -40,9 +43,9 @@ flatten-requires c κs = search needs
 
 convert-requires : tie.Need-convert-requires
 convert-requires c κs =
-    let a = c .before .before .before .before .before .before .before .before .before .before .before .before .before .before .before .before .before .before in
+    let a = c .before .before .before .before .before .before .before .before .before .before .before .before .before .before .before .before .before .before .before in
     let s = a .args .s .now in
-    (omega (arith, a .pre .registrable), begun s (lent a) (c .before .before .before .before .before .before .before .before .before .before .write-warnings .ensures) (short (c .before .before .before .before .before .before)) .fits, a .pre .registrable .surveyed .places-at)
+    (omega (arith, a .pre .registrable), begun s (lent a) (c .before .before .before .before .before .before .before .before .before .before .before .write-warnings .ensures) (short (c .before .before .before .before .before .before .before)) .fits, a .pre .registrable .surveyed .places-at)
 
 same-length : tie.Need-same-length
 same-length c = search needs
@@ -58,14 +61,15 @@ same-length-4 c = search needs
 
 returns : tie.Need-returns
 returns c =
-    let a = c .before .before .before .before .before .before .before .before .before .before .before .before .before .before .before .before .before .before .before .before .before .before .before .before .before .before .before in
-    drawn (a .args .s .now) (lent a) (c .before .before .before .before .before .before .before .before .before .before .before .before .before .before .before .before .before .before .before .write-warnings .ensures) (short (c .before .before .before .before .before .before .before .before .before .before .before .before .before .before .before)) (a .pre .is) (c .before .before .before .before .before .before .before .before .before .before .before .before .before .before .projection-of .ensures) (c .before .before .before .before .before .before .before .before .before .before .before .before .before .flatten .ensures) (c .before .before .before .before .before .before .before .before .convert .ensures)
+    let a = c .before .before .before .before .before .before .before .before .before .before .before .before .before .before .before .before .before .before .before .before .before .before .before .before .before .before .before .before in
+    drawn (a .args .s .now) (lent a) (c .before .before .before .before .before .before .before .before .before .before .before .before .before .before .before .before .before .before .before .before .write-warnings .ensures) (short (c .before .before .before .before .before .before .before .before .before .before .before .before .before .before .before .before)) (a .pre .is) (c .before .before .before .before .before .before .before .before .before .before .before .before .before .before .projection-of .ensures) (c .before .before .before .before .before .before .before .before .before .before .before .before .before .before .before .step .ensures) (c .before .before .before .before .before .before .before .before .before .before .before .before .before .flatten .ensures) (c .before .before .before .before .before .before .before .before .convert .ensures)
 
 pub write-output-spec : {M : Type 1} → statement M
 write-output-spec =
     tie.close
     (tie.spec
     write-warnings-requires
+    step-requires
     projection-of-requires
     flatten-requires
     convert-requires

@@ -35,7 +35,7 @@ use Rattle.convert.specs.Convert.{onScreen, convertOf}
 use Rattle.strokes.specs.Strokes.{warned, Trace}
 use Rattle.strokes.specs.Space.{Output, outOfRoom, withWarning}
 use Rattle.strokes.specs.Contracts.Space.{outputBy, Fits, Applied}
-use Rattle.geopic.specs.Geopic.{maxStep, fresh, ctxOf, traceOf, Buffers, unused, outputOf, early, conditions, numberOf, refusal, acceptance, answerOf, clear, sliceBy, buffersAfter}
+use Rattle.geopic.specs.Geopic.{fresh, ctxOf, traceOf, Buffers, unused, outputOf, early, conditions, numberOf, refusal, acceptance, answerOf, clear, sliceBy, buffersAfter}
 use Rattle.strokes.specs.Laws.Applying.{applied-no-events, applied-stuck, applied-then}
 use Rattle.strokes.specs.Laws.Events.{warned-fits, warned-lacks}
 use Rattle.geopic.specs.declared.Opened.{Opened}
@@ -123,10 +123,10 @@ module _ (s : List ℕ) where
         (subst (λ (r : Pushed). Applied (telling (registerWarnings sc) fresh) (unused t) (toldBy (unused t) r) fresh) (sym told)
         (all-told (registerWarnings sc) fresh (unused t) refl (record { positions = omega arith; features = omega arith; warnings = omega arith; left = omega arith })))
 
-    pub drawn : {r : Registration} {p : Projection} {tol : Float} {u : Output} {b : Budget} → r ≡ registrationOf sc → p ≡ projectionOf r → tol ≡ sc .flatten
-        → Applied (convertOf onScreen (record { projection = p; step = maxStep; flatten = tol }) (itemsAt (payload s) 0) fresh) begin u b → Applied (traceOf sc) (unused t) u b
+    pub drawn : {r : Registration} {p : Projection} {step tol : Float} {u : Output} {b : Budget} → r ≡ registrationOf sc → p ≡ projectionOf r → step ≡ sc .step → tol ≡ sc .flatten
+        → Applied (convertOf onScreen (record { projection = p; step = step; flatten = tol }) (itemsAt (payload s) 0) fresh) begin u b → Applied (traceOf sc) (unused t) u b
     unfolding traceOf
-    drawn e f g d = applied-then (convertOf onScreen (ctxOf sc) (sc .items)) begun (rw (f, e, g, ← scene-lists (payload s) .3) at d)
+    drawn e f g h d = applied-then (convertOf onScreen (ctxOf sc) (sc .items)) begun (rw (f, e, g, h, ← scene-lists (payload s) .3) at d)
 
 -- ---- what registration says
 module _ (sc : Scene) {o : Outcome} (e : o ≡ outcomeOf sc) where

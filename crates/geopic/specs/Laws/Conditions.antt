@@ -1,4 +1,4 @@
--- What the number of an answer says of the eighteen conditions, and how it comes from the numbers of the crates below. Assumes nothing.
+-- What the number of an answer says of the conditions, and how it comes from the numbers of the crates below. Assumes nothing.
 use Prim.Native.Nat.{ℕ, _+_, _*_}
 use mathlib.Core.Path.{_≡_, refl, sym, _∙_}
 use mathlib.Core.Bool.{Bool, true, false, _||_, false≢true}
@@ -79,7 +79,7 @@ module _ (s : List ℕ) where
   unfolding early
   early-numbered = numbered-append (ofStream s) (ofRegistration sc) (stream-numbered s) (registration-numbered sc)
 
-  -- 1 to 6, then 7 to 14
+  -- those of the stream, then those of the registration
   pub early-stream : (refusalOf s ≡ 0 → ⊥) → firstOf (early s) ≡ refusalOf s
   unfolding early
   early-stream h = first-ahead (ofStream s) (ofRegistration sc) (stream-numbered s) h

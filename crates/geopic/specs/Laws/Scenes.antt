@@ -1,16 +1,21 @@
 -- What an accepted stream's events are, and what the host then holds. Assumes nothing.
 use Prim.Native.Nat.{ℕ, zero, suc, _*_, _/_}
 use mathlib.Core.Path.{_≡_, refl, sym, ap, _∙_}
-use mathlib.Core.Bool.{Bool, true, false, not, _&&_, cond}
+use mathlib.Core.Bool.{Bool, true, false, not, _&&_, _||_, cond, false≢true}
 use mathlib.Core.List.{List, [], _∷_, _++_, map}
 use native.Mathlib.Omega.{arith}
 use lib.ListN.{length, drop}
 use lib.Dec.{eqb}
-use lib.Ieee.{Float}
+use lib.Ieee.{Float, lt}
 use borrow.Author.Tests.{eq-eqb}
 use Rattle.stream.specs.Conditions.{firstOf}
 use Rattle.stream.specs.Payload.{payload}
-use Rattle.scene.specs.Scene.{NamedFeature, NamedValue, Scene, sceneOf}
+use Rattle.stream.specs.declared.Float64.{Float64}
+use Rattle.stream.specs.declared.Float64.the-variants.{Finite, NotFinite}
+use Rattle.records.specs.Limits.{isFinite}
+use Rattle.records.specs.Values.{one, thousand, stepIn, outsideBounds}
+use Rattle.records.specs.Laws.Refusals.{is-step, is-finite-step}
+use Rattle.scene.specs.Scene.{valueOf, NamedFeature, NamedValue, Scene, sceneOf}
 use Rattle.values.specs.declared.Point.{Point}
 use Rattle.values.specs.Maybe.{Maybe, none, some, isSome}
 use Rattle.projection.specs.Projection.{geoOf, projectPoint}
@@ -29,7 +34,7 @@ use Rattle.strokes.specs.Features.{AllWellFormed, positionsIn, featuresIn, warn
 use Rattle.convert.specs.Laws.Draws.{trace-left, trace-hit, convert-replays, any-append, spent-warned}
 use Rattle.convert.specs.Laws.Features.{convert-well-formed}
 use Rattle.strokes.specs.Laws.Reading.{ReadBack, reads-back}
-use Rattle.geopic.specs.Geopic.{maxStep, fresh, ctxOf, traceOf, Buffers, unused, outputOf, early, numberOf, acceptance, answerOf, clear, buffersAfter, sliceBy}
+use Rattle.geopic.specs.Geopic.{fresh, ctxOf, traceOf, Buffers, unused, outputOf, early, numberOf, acceptance, answerOf, clear, buffersAfter, sliceBy}
 use Rattle.geopic.specs.Laws.Conditions.{number-is, none-early, early-none, by-space}
 
 -- the registration's warnings draw nothing and give no feature
@@ -119,6 +124,20 @@ register-no-six sc =
     (append-no-six (register.warningsIn (events sc)) (halfWarnings sc ++ last) (events-no-six sc)
     (append-no-six (halfWarnings sc) last (half-no-six sc) (ignored-no-six (length (controlsOf sc)) sc)))
 
+-- ---- a step that condition 19 lets pass
+within-bounds : (x : Float64) → isFinite x ≡ true → outsideBounds x ≡ false → (x ≡ Finite (valueOf x)) × (lt (valueOf x) one ≡ false) × (lt thousand (valueOf x) ≡ false)
+unfolding isFinite outsideBounds valueOf
+within-bounds NotFinite f h = absurd (false≢true f)
+within-bounds (Finite v) f h = (refl, or-left (lt v one) (lt thousand v) h, or-right (lt v one) (lt thousand v) h)
+  where
+    or-left : (a b : Bool) → (a || b) ≡ false → a ≡ false
+    or-left true b h = h
+    or-left false b h = refl
+
+    or-right : (a b : Bool) → (a || b) ≡ false → b ≡ false
+    or-right true b h = absurd (false≢true (sym h))
+    or-right false b h = h
+
 module _ (s : List ℕ) where
   abbrev sc : Scene
   sc = sceneOf (payload s)
@@ -167,7 +186,11 @@ module _ (s : List ℕ) where
         let read = early-none s is-early .0 in
         let registered = early-none s is-early .1 in
         rw (warnings-features (registerWarnings sc))
-        (convert-well-formed onScreen (registrationOf sc) maxStep (sc .flatten) (sc .items) fresh (accepted-sound s read registered) (accepted-tame s read .points .items))
+        (convert-well-formed onScreen (registrationOf sc) (sc .step) (sc .flatten) (sc .items) fresh (accepted-sound s read registered) (accepted-tame s read .points .items))
+
+    pub scene-step : (stepIn (payload s) ≡ Finite (sc .step)) × (lt (sc .step) one ≡ false) × (lt thousand (sc .step) ≡ false)
+    unfolding sceneOf
+    scene-step = let read = early-none s is-early .0 in within-bounds (stepIn (payload s)) (is-finite-step s read) (is-step s read)
 
     -- ---- the answer
     answer-is : answerOf s t ≡ acceptance (registrationOf sc) (outputOf sc t) (traceOf sc .after)

@@ -1,4 +1,4 @@
--- The number by which conditions 1 to 6 refuse a stream, 0 where they let it pass.
+-- The number by which conditions 1 to 6 and 19 refuse a stream, 0 where they let it pass.
 use Prim.Native.Nat.{ℕ}
 use mathlib.Core.List.{List}
 use Rattle.stream.specs.Conditions.{firstOf}

@@ -92,7 +92,7 @@ module _ (r c f n : ℕ) where
 pub record ChoiceAt (l : List ℕ) (o : ℕ) : Type 0 where
   pub is : o ≡ getD l 1 0
   pub low : 1 ≤ o
-  pub high : o ≤ 6
+  pub high : o ≤ 7
   -- a frame is one of two
   pub frame : o ≡ 1 → getD l 2 0 ≤ 1
 
@@ -167,7 +167,7 @@ module _ (l : List ℕ) where
       (λ h.
       let h₁ = and-right (leb 2 (length l)) _ h in
       let h₂ = and-right (leb 1 o) _ h₁ in
-      let h₃ = and-right (leb o 6) _ h₂ in
+      let h₃ = and-right (leb o 7) _ h₂ in
       record {
         tag = t;
         size = refl;
@@ -176,7 +176,7 @@ module _ (l : List ℕ) where
         fields = record {
           is = refl;
           low = leb-true 1 o (and-left _ _ h₁);
-          high = leb-true o 6 (and-left _ _ h₂);
+          high = leb-true o 7 (and-left _ _ h₂);
           frame = λ e.
               ⊎-elim
               (λ (more : ltb 1 o ≡ true). absurd (omega (arith, ltb-true 1 o more)))

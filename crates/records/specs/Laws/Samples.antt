@@ -1,15 +1,19 @@
--- The definitions on known bytes: a record of each tag, the same cut off by a byte, and for each rule a record that
--- breaks it.
+-- The definitions on known bytes: a record of each tag, the same cut off by a byte, for each rule a record that breaks
+-- it, and steps around their bounds.
 use mathlib.Core.Path.{_≡_, refl}
+use mathlib.Core.Bool.{true, false}
 use mathlib.Core.List.{List, [], _∷_, _++_, map}
 use Prim.Native.Nat.{ℕ, _-_}
 use lib.ListN.{length, take, replicate}
+use lib.Ieee.{binary64, lt, ofBits}
 use Rattle.stream.specs.Numbers.{u16At}
+use Rattle.stream.specs.declared.Float64.the-variants.{Finite, NotFinite}
 use Rattle.records.specs.declared.records.Record.the-variants.{Rescale, Option, Feature, Variable, Place, Item, Points, Path}
 use Rattle.records.specs.declared.records.Step.{Step}
 use Rattle.records.specs.declared.records.Step.the-variants.{Got, End, Bad}
 use Rattle.records.specs.Records.{asciiGraphic, allTo, named, labelled, namedThen, counted, allZero, optionWidth, optionFits, valuesWidth, itemBegins, itemFits, itemWith}
 use Rattle.records.specs.Records.{endOf, rescaleOf, optionOf, featureOf, variableOf, placeOf, itemOf, pointsOf, pathWith, cubicsOf, polylineOf, pathOf, byTag, recordOf}
+use Rattle.records.specs.Values.{one, thousand, outsideBounds}
 
 abbrev zeros : ℕ → List ℕ
 zeros n = replicate n 0
@@ -18,11 +22,12 @@ zeros n = replicate n 0
 whole : List (List ℕ × Step)
 whole =
     (1 ∷ zeros 8, Got Rescale 9)
-    -- a frame, an anchor, a scale, a view's scale
+    -- a frame, an anchor, a scale, a view's scale, a step
     ∷ (2 ∷ 1 ∷ 1 ∷ [], Got (Option 1) 3)
     ∷ (2 ∷ 2 ∷ zeros 16, Got (Option 2) 18)
     ∷ (2 ∷ 3 ∷ zeros 8, Got (Option 3) 10)
     ∷ (2 ∷ 6 ∷ zeros 8, Got (Option 6) 10)
+    ∷ (2 ∷ 7 ∷ zeros 8, Got (Option 7) 10)
     -- the shortest name and the longest
     ∷ (3 ∷ 1 ∷ 33 ∷ zeros 16, Got (Feature 1) 19)
     ∷ (4 ∷ 31 ∷ replicate 31 126 ++ zeros 8, Got (Variable 31) 41)
@@ -51,9 +56,9 @@ broken =
     []
     ∷ (9 ∷ zeros 99)
     ∷ (0 ∷ zeros 5 ++ 1 ∷ [])
-    -- options 0 and 7, frame 2
+    -- options 0 and 8, frame 2
     ∷ (2 ∷ 0 ∷ zeros 16)
-    ∷ (2 ∷ 7 ∷ zeros 16)
+    ∷ (2 ∷ 8 ∷ zeros 16)
     ∷ (2 ∷ 1 ∷ 2 ∷ [])
     -- a name's bytes 32 and 127, its lengths 0 and 32
     ∷ (3 ∷ 1 ∷ 32 ∷ zeros 16)
@@ -86,3 +91,15 @@ unfolding
     whole cut ends broken bad table u16At asciiGraphic allTo named labelled namedThen counted allZero optionWidth optionFits valuesWidth itemBegins itemFits itemWith
     endOf rescaleOf optionOf featureOf variableOf placeOf itemOf pointsOf pathWith cubicsOf polylineOf pathOf byTag recordOf
 samples-agree = refl
+
+-- condition 19: 1 and 1,000, their neighbours beyond, zeros, what is not finite
+bounds-agree :
+    (outsideBounds (Finite one) ≡ false)
+    × (outsideBounds (Finite (ofBits binary64 0x3fefffffffffffff)) ≡ true)
+    × (outsideBounds (Finite thousand) ≡ false)
+    × (outsideBounds (Finite (ofBits binary64 0x408f400000000001)) ≡ true)
+    × (outsideBounds (Finite (ofBits binary64 0)) ≡ true)
+    × (outsideBounds (Finite (ofBits binary64 0x8000000000000000)) ≡ true)
+    × (outsideBounds NotFinite ≡ false)
+unfolding outsideBounds ofBits lt
+bounds-agree = (refl, refl, refl, refl, refl, refl, refl)

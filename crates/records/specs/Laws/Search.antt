@@ -206,3 +206,10 @@ module _ {l : List ℕ} {t k at next : ℕ} (h : RecordAt l t k at next) where
 -- an option's bytes lie within the list
 pub choice-within : {l : List ℕ} {k at next : ℕ} → RecordAt l 2 k at next → at + 2 + optionWidth k ≤ length l
 choice-within h = omega (arith, standing-fits h, standing-tells h .ends)
+
+-- those of one that is a float
+pub float-within : {l : List ℕ} {k at next : ℕ} → 3 ≤ k → RecordAt l 2 k at next → at + 10 ≤ length l
+unfolding optionWidth
+float-within {l} {k} {at} g h =
+    let w : optionWidth k ≡ 8 = rw (ne-eqb k 1 (λ e. omega arith), ne-eqb k 2 (λ e. omega arith)) in
+    omega (arith, choice-within h, w)

@@ -1,4 +1,4 @@
--- The draws of two scenes by the definitions: they are those that the Rust with the stand-ins makes. The second is drawn from five small allowances.
+-- The draws of three scenes by the definitions: they are those that the Rust with the stand-ins makes. The second has a step of its own, the third is drawn from five small allowances.
 use mathlib.Core.Path.{_≡_, refl}
 use mathlib.Core.Bool.{false, cond}
 use mathlib.Core.List.{List, [], _∷_}
@@ -9,7 +9,7 @@ use Rattle.convert.specs.Convert as convert
 use Rattle.strokes.specs.Strokes as strokes
 use Rattle.geopic.specs.Geopic as geopic
 use Rattle.reference.specs.Laws.Everything.{everything}
-use Rattle.reference.specs.Laws.Scenes.{every-producer, running-out, all, from-2000000, from-60, from-40, from-20, from-5, from-0}
+use Rattle.reference.specs.Laws.Scenes.{every-producer, in-steps, running-out, all, from-2000000, in-steps-from-2000000, from-60, from-40, from-20, from-5, from-0}
 
 -- each draw as `all` writes it
 abbrev told : List densify.GrantedDraw → List ℕ
@@ -29,6 +29,10 @@ drawn-from left records =
 pub draws-2000000 : drawn every-producer ≡ all from-2000000
 unfolding everything
 draws-2000000 = refl
+
+pub draws-in-steps : drawn in-steps ≡ all in-steps-from-2000000
+unfolding everything
+draws-in-steps = refl
 
 pub draws-60 : drawn-from 60 running-out ≡ all from-60
 unfolding everything

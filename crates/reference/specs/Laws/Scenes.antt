@@ -1,10 +1,10 @@
--- Two scenes by their bytes, and the draws that the Rust makes of each: tests/place/draws compares these lists with the oracle's.
+-- Three scenes by their bytes, and the draws that the Rust makes of each: tests/place/draws compares these lists with the oracle's.
 use mathlib.Core.List.{List, [], _∷_, _++_}
 use Prim.Native.Nat.{ℕ, zero, suc}
 use lib.ListN.{length, replicate}
 use Rattle.register.specs.Register as register
 
--- ---- floats: -0, 0, 0.25, 0.5, 1, 2 and 3
+-- ---- floats: -0, 0, 0.25, 0.5, 1, 2, 3 and 8
 abbrev pub minus0 : List ℕ
 minus0 = replicate 7 0 ++ 128 ∷ []
 
@@ -25,6 +25,9 @@ f2 = replicate 6 0 ++ 0 ∷ 64 ∷ []
 
 abbrev pub f3 : List ℕ
 f3 = replicate 6 0 ++ 8 ∷ 64 ∷ []
+
+abbrev pub f8 : List ℕ
+f8 = replicate 6 0 ++ 32 ∷ 64 ∷ []
 
 -- ---- records
 abbrev pub variable : List ℕ → List ℕ → List ℕ
@@ -50,10 +53,10 @@ arch v = f0 ++ v ++ v ++ v ++ v ++ f0
 abbrev pub back : List ℕ
 back = f0 ++ f2 ++ f2 ++ f2 ++ f0 ++ f0
 
--- rescale 1, flatten 0.25 and an anchor at the origin; the frame is Mercator
-abbrev by-variables : List ℕ
-by-variables =
-    1 ∷ f1 ++ 2 ∷ 5 ∷ quarter ++ variable register.geoFrame f1 ++ variable register.geoLat f0 ++ variable register.geoLon f0
+-- rescale 1, flatten 0.25, another option if there is one, and an anchor at the origin; the frame is Mercator
+abbrev by-variables : List ℕ → List ℕ
+by-variables option =
+    1 ∷ f1 ++ 2 ∷ 5 ∷ quarter ++ option ++ variable register.geoFrame f1 ++ variable register.geoLat f0 ++ variable register.geoLon f0
 
 abbrev by-options : List ℕ
 by-options = 1 ∷ f1 ++ 2 ∷ 1 ∷ 1 ∷ 2 ∷ 2 ∷ f0 ++ f0 ++ 2 ∷ 5 ∷ quarter
@@ -77,7 +80,7 @@ all (unsplit n ∷ rs) = each n (1 ∷ 1 ∷ 1 ∷ 1 ∷ []) (all rs)
 -- ---- the first scene uses every producer, and nothing falls short
 abbrev pub every-producer : List ℕ
 every-producer =
-    by-variables
+    by-variables []
     -- a sharp box and a rounded one
     ++ item 0 0 7 ++ f0 ++ f0 ++ f2 ++ f2
     ++ item 0 0 23 ++ f0 ++ f0 ++ f2 ++ f2 ++ half
@@ -109,7 +112,31 @@ from-2000000 =
     ∷ run 2 2 1 2
     ∷ []
 
--- ---- the second has separate fills and shapes that are not written; it is drawn from small allowances, which run out
+-- ---- under a step of 8 m: a rounded box and a line
+abbrev pub in-steps : List ℕ
+in-steps =
+    by-variables (2 ∷ 7 ∷ f8)
+    ++ item 0 0 23 ++ f0 ++ f0 ++ f2 ++ f2 ++ half
+    ++ item 4 0 0 ++ points 0 2 (f0 ++ f0 ++ f3 ++ f0)
+    ++ 0 ∷ []
+
+abbrev pub in-steps-from-2000000 : List Run
+in-steps-from-2000000 =
+    -- the box: a quarter of ten, then a side, four times
+    run 1 40 8 40
+    ∷ run 10 1 1 1
+    ∷ run 1 13 1 13
+    ∷ run 10 1 1 1
+    ∷ run 1 13 1 13
+    ∷ run 10 1 1 1
+    ∷ run 1 13 1 13
+    ∷ run 10 1 1 1
+    ∷ run 1 13 1 13
+    -- the line
+    ∷ run 1 38 1 38
+    ∷ []
+
+-- ---- the third has separate fills and shapes that are not written; it is drawn from small allowances, which run out
 abbrev pub running-out : List ℕ
 running-out =
     by-options

@@ -1,4 +1,4 @@
--- A stream that conditions 1 to 6 let pass can be registered.
+-- A stream that the conditions before 7 let pass can be registered.
 use mathlib.Core.Path.{_≡_}
 use mathlib.Core.List.{List}
 use Prim.Native.Nat.{ℕ}

@@ -1,4 +1,4 @@
--- The registration of a stream that refusals 1 to 14 let pass is sound. Assumes nothing.
+-- The registration of a stream that no early condition refuses is sound. Assumes nothing.
 use mathlib.Core.Path.{_≡_, refl}
 use mathlib.Core.Bool.{Bool, true, false, not, _&&_, cond, true≢false}
 use mathlib.Core.List.{List, [], _∷_, _++_, map}

@@ -1,4 +1,4 @@
--- What the comparison asks: refusals 1 to 14 in one number, and the warnings where there is none.
+-- What the comparison asks: refusals 1 to 14 and 19 in one number, and the warnings where there is none.
 use mathlib.Core.List.{List}
 use mathlib.Core.Bool.{true}
 use Prim.Native.Nat.{ℕ}

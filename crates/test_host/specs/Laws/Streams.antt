@@ -1,9 +1,9 @@
--- Refusals 1 to 6 computed on streams of one block, and of two with a record of points across the blocks' border.
+-- Refusals 1 to 6 and 19 computed on streams of one block, and of two with a record of points across the blocks' border.
 use mathlib.Core.Path.{_≡_, refl}
 use mathlib.Core.List.{List, [], _∷_, _++_}
 use Prim.Native.Nat.{ℕ, _+_, _-_, _/_, _%_, _^_}
 use lib.ListN.{length, take, drop, replicate}
-use lib.Ieee.{neg, le, ofBits}
+use lib.Ieee.{neg, lt, le, ofBits}
 use Rattle.stream.specs.Numbers.{u16At, u32At, u64At, floatOf, floatAt}
 use Rattle.stream.specs.Conditions.{firstOf}
 use Rattle.stream.specs.Blocks.{sized, wordSum, checked, allChecked, ofBlocks}
@@ -14,7 +14,7 @@ use Rattle.records.specs.Walk.{entries, ends}
 use Rattle.records.specs.Layout.{before, stepOf, inOrder, laidOutFrom, laidOut}
 use Rattle.records.specs.Limits.{isFinite, onCanvas, optionFloats, limitedAt, allLimited, limited}
 use Rattle.records.specs.Search.{endsSearch, searchStepOf, recordsOf}
-use Rattle.records.specs.Values.{flattenIn, rescaleIn, notAbove}
+use Rattle.records.specs.Values.{flattenIn, stepIn, rescaleIn, notAbove, outsideBounds}
 use Rattle.records.specs.Conditions.{ofValues, ofRecords, ofStream}
 use Rattle.records.specs.Contracts.Refusals.{refusalOf}
 
@@ -51,6 +51,9 @@ rescale f = 1 ∷ f
 abbrev flatten : List ℕ → List ℕ
 flatten f = 2 ∷ 5 ∷ f
 
+abbrev step : List ℕ → List ℕ
+step f = 2 ∷ 7 ∷ f
+
 -- a line with nothing but its kind
 abbrev line : List ℕ
 line = 6 ∷ 4 ∷ replicate 11 0
@@ -68,7 +71,10 @@ known :
     × (refusalOf (block 0 (short (rescale f0 ++ 7 ∷ replicate 3 0))) ≡ 3)
     -- the float that lies last behind the border, and 4 comes before 5 and 6
     × (refusalOf (sheet (rescale f0 ++ flatten m1 ++ line ++ points far)) ≡ 4)
-    × (refusalOf (block 0 (short (rescale f0 ++ flatten m1))) ≡ 5)
+    -- a step of 1 is taken; 19 comes after 5 and before 6
+    × (refusalOf (block 0 (short (rescale f1 ++ step f1))) ≡ 0)
+    × (refusalOf (block 0 (short (rescale f0 ++ flatten m1 ++ step far))) ≡ 5)
+    × (refusalOf (block 0 (short (rescale f0 ++ step far))) ≡ 19)
     × (refusalOf (block 0 (short (rescale f0))) ≡ 6)
-unfolding firstOf ofBlocks ofValues ofRecords ofStream sized allChecked checked wordSum payload payloads laidOut laidOutFrom inOrder stepOf before limited allLimited limitedAt optionFloats isFinite onCanvas flattenIn rescaleIn recordsOf searchStepOf endsSearch notAbove entries ends recordOf byTag endOf rescaleOf optionOf featureOf variableOf placeOf itemOf pointsOf pathOf pathWith cubicsOf polylineOf itemWith itemFits itemBegins valuesWidth optionFits optionWidth namedThen counted labelled named asciiGraphic allTo allZero floatAt floatOf u16At u32At u64At ofBits neg le
-known = (refl, refl, refl, refl, refl, refl, refl)
+unfolding firstOf ofBlocks ofValues ofRecords ofStream sized allChecked checked wordSum payload payloads laidOut laidOutFrom inOrder stepOf before limited allLimited limitedAt optionFloats isFinite onCanvas flattenIn stepIn rescaleIn recordsOf searchStepOf endsSearch notAbove outsideBounds entries ends recordOf byTag endOf rescaleOf optionOf featureOf variableOf placeOf itemOf pointsOf pathOf pathWith cubicsOf polylineOf itemWith itemFits itemBegins valuesWidth optionFits optionWidth namedThen counted labelled named asciiGraphic allTo allZero floatAt floatOf u16At u32At u64At ofBits neg lt le
+known = (refl, refl, refl, refl, refl, refl, refl, refl, refl)
