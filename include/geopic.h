@@ -75,9 +75,10 @@ enum { GEOPIC_POINT = 0, GEOPIC_LINE = 1, GEOPIC_POLYGON = 2 /* of one ring */ }
 enum { GEOPIC_DRAWN = 0, GEOPIC_FILL = 1 /* a separate fill */ };
 enum { GEOPIC_GEOGRAPHIC = 0, GEOPIC_SCREEN = 1 };
 
-/* A straight edge is cut into as many equal parts as steps begin in it, so that no part is longer than the step, but into
- * 100,000 at most; a full circle or ellipse has as many vertices as steps begin around it, or more by the tolerance of
- * curves, within 32 and 4,096. The step is option 7 of the stream, from 1 to 1,000 metres, 100 where it is absent. */
+/* The step is the stream's option 7, 1 to 1,000 metres, 100 where it is absent. A straight edge is cut into equal parts
+ * no longer than the step, but into 100,000 at most. A full curve (a circle, an ellipse by its longer radius, the
+ * corners of a rounded box together) has so many vertices that they are no further apart around it, or more by the
+ * tolerance of curves, but 32 at least and 4,096 at most. */
 
 /* Work must hold P + F + 1 points, two doubles each, for every line, path and ring of the stream: P its points,
  * flattened, and closed where it is marked closed or is a ring; F those of its fill outline, flattened and closed, 0

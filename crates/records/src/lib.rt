@@ -48,3 +48,4 @@ pub use refusals::refusal;
 pub use refusals::sheet_step;
 pub use search::Hit;
 pub use search::find;
+pub use search::option_at;

@@ -3,7 +3,8 @@ ghost use mathlib.Core.Path.{_≡_};
 ghost use Prim.Native.Nat.{_≤_};
 ghost use lib.ListN.{length};
 ghost use Rattle.stream.specs.Payload.{payload};
-ghost use Rattle.stream.specs.declared.Float64.the-variants.{Finite};
+ghost use lib.Ieee.{binary64, ofBits};
+ghost use Rattle.stream.specs.Numbers.{floatOf};
 ghost use Rattle.records.specs.Values.{floatOr, flattenIn, stepIn, notAbove, outsideBounds};
 ghost use Rattle.records.specs.Contracts.Hits.{recordsAt};
 ghost use Rattle.records.specs.Contracts.Refusals.{valuesRefusal, refusalOf};
@@ -22,13 +23,14 @@ use crate::numbers::REFUSED_LIMIT;
 use crate::numbers::REFUSED_RESCALE;
 use crate::numbers::REFUSED_SIZE;
 use crate::numbers::REFUSED_STEP;
-use crate::numbers::TAG_OPTION;
 use crate::order::layout;
-use crate::search::find;
+use crate::search::option_at;
 use stream::Blocks;
 use stream::Float64;
 use stream::check_blocks;
 use stream::float;
+use stream::float_of;
+use stream::u64_at;
 
 // Whether a float is zero or negative.
 fn is_not_above(x: Float64) -> bool
@@ -50,30 +52,32 @@ fn is_outside_bounds(x: Float64) -> bool
     }
 }
 
-// An option's float, or what stands for an absent one.
-fn float_or(s: &[u8], option: u8, absent: f64) -> Float64
+// The pattern of an option's float, or what stands for an absent one. A number comes back in a register, an enum in
+// memory.
+fn bits_or(s: &[u8], option: u8, absent: u64) -> u64
     requires { ⌜ 3 ≤ option ⌝ }
-    ensures { λ r. ⌜ r ≡ floatOr (recordsAt (payload (now (s .entry))) 0 2 option) (Finite absent) ⌝ }
+    ensures { λ r. ⌜ floatOf (ofBits binary64 r)
+        ≡ floatOr (recordsAt (payload (now (s .entry))) 0 2 option) (floatOf (ofBits binary64 absent)) ⌝ }
 {
-    let h = find(s, 0, TAG_OPTION, option);
-    if !h.some {
-        return Float64::Finite(absent);
+    let p = option_at(s, option);
+    if p == 0 {
+        return absent;
     }
-    float(s, 0, h.at + 2)
+    u64_at(s, 0, p)
 }
 
 // The tolerance of curves, FLATTEN where the option is absent.
 pub fn flatten(s: &[u8]) -> Float64
     ensures { λ r. ⌜ r ≡ flattenIn (payload (now (s .entry))) ⌝ }
 {
-    float_or(s, OPTION_FLATTEN, FLATTEN)
+    float_of(bits_or(s, OPTION_FLATTEN, f64::to_bits(FLATTEN)))
 }
 
 // The longest step between two positions in metres, MAX_STEP_M where the option is absent.
 pub fn sheet_step(s: &[u8]) -> Float64
     ensures { λ r. ⌜ r ≡ stepIn (payload (now (s .entry))) ⌝ }
 {
-    float_or(s, OPTION_STEP, MAX_STEP_M)
+    float_of(bits_or(s, OPTION_STEP, f64::to_bits(MAX_STEP_M)))
 }
 
 // Conditions 5, 19 and 6, of a stream that has a block.

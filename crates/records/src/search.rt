@@ -1,6 +1,7 @@
 // The next record that a question asks for.
 ghost use mathlib.Core.Path.{_≡_};
 ghost use mathlib.Core.Bool.{true, false, _||_};
+ghost use mathlib.Core.List.{[]};
 ghost use Prim.Native.Nat.{_≤_};
 ghost use lib.Dec.{eqb};
 ghost use lib.ListN.{getD, drop};
@@ -8,7 +9,7 @@ ghost use Rattle.stream.specs.Payload.{payload};
 ghost use Rattle.records.specs.Records.{recordOf};
 ghost use Rattle.records.specs.Walk.{tagOf};
 ghost use Rattle.records.specs.Search.{keyOf, endsSearch, searchStepOf};
-ghost use Rattle.records.specs.Contracts.Hits.{recordsAt, RecordAt, hitsOf, SkipsTo};
+ghost use Rattle.records.specs.Contracts.Hits.{recordsAt, RecordAt, hitsOf, SkipsTo, OptionValue};
 use crate::numbers::NO_KEY;
 use crate::numbers::TAG_END;
 use crate::numbers::TAG_FEATURE;
@@ -202,4 +203,29 @@ pub fn find(s: &[u8], p: usize, tag: u8, key: u8) -> Hit
             },
         }
     }
+}
+
+// Where the records behind rescale begin, if that is the first record.
+fn behind_rescale(s: &[u8]) -> usize
+    ensures { λ p. ⌜ SkipsTo (payload (now (s .entry))) 1 0 p ⌝ }
+{
+    if tag_at(s, 0) != TAG_RESCALE {
+        return 0;
+    }
+    if stream::remaining(s, 0) < 9 {
+        return 0;
+    }
+    9
+}
+
+// Where an option's value stands in the payload, 0 if there is no such option.
+pub fn option_at(s: &[u8], option: u8) -> usize
+    ensures { λ p. ⌜ (p ≡ 0 → recordsAt (payload (now (s .entry))) 0 2 option ≡ []) ⌝ }
+    ensures { λ p. ⌜ ((p ≡ 0 → ⊥) → OptionValue (payload (now (s .entry))) option p) ⌝ }
+{
+    let h = find(s, behind_rescale(s), TAG_OPTION, option);
+    if !h.some {
+        return 0;
+    }
+    h.at + 2
 }

@@ -16,8 +16,7 @@ use records::OPTION_BEARING;
 use records::OPTION_FRAME;
 use records::OPTION_SCALE;
 use records::OPTION_VIEW_SCALE;
-use records::TAG_OPTION;
-use records::find;
+use records::option_at;
 use stream::byte;
 
 // The frame that the options name. Where `some` is false, `frame` is free.
@@ -33,14 +32,14 @@ fn float_option(s: &[u8], option: u8) -> OptionalFloat
     requires { ⌜ 3 ≤ option ⌝ }
     ensures { λ r. ⌜ maybeFloat r ≡ first (λ b. floatValueAt b 2) (recordsAt (payload (now (s .entry))) 0 2 option) ⌝ }
 {
-    let h = find(s, 0, TAG_OPTION, option);
-    if !h.some {
+    let p = option_at(s, option);
+    if p == 0 {
         return OptionalFloat {
             some: false,
             value: 0.0,
         };
     }
-    float_if(s, true, h.at + 2)
+    float_if(s, true, p)
 }
 
 pub fn scale(s: &[u8]) -> OptionalFloat
@@ -78,8 +77,8 @@ pub fn step(s: &[u8]) -> f64
 pub fn frame(s: &[u8]) -> FrameOption
     ensures { λ r. ⌜ frameBy r ≡ sceneOf (payload (now (s .entry))) .frame ⌝ }
 {
-    let h = find(s, 0, TAG_OPTION, OPTION_FRAME);
-    if !h.some {
+    let p = option_at(s, OPTION_FRAME);
+    if p == 0 {
         return FrameOption {
             some: false,
             frame: 0,
@@ -87,22 +86,22 @@ pub fn frame(s: &[u8]) -> FrameOption
     }
     FrameOption {
         some: true,
-        frame: byte(s, 0, h.at + 2),
+        frame: byte(s, 0, p),
     }
 }
 
 pub fn anchor(s: &[u8]) -> OptionalPoint
     ensures { λ r. ⌜ maybePoint r ≡ sceneOf (payload (now (s .entry))) .anchor ⌝ }
 {
-    let h = find(s, 0, TAG_OPTION, OPTION_ANCHOR);
-    if !h.some {
+    let p = option_at(s, OPTION_ANCHOR);
+    if p == 0 {
         return OptionalPoint {
             some: false,
             x: 0.0,
             y: 0.0,
         };
     }
-    point_if(s, true, h.at + 2)
+    point_if(s, true, p)
 }
 
 // The first record's float, 0 in a stream without a block.

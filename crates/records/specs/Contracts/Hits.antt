@@ -36,3 +36,11 @@ hitsOf l t k h = cond (h .some) (drop (h .at) l ∷ recordsAt l (h .next) t k) [
 -- records of greater tags, up to items, stand from q on, if from p on
 abbrev pub SkipsTo : List ℕ → ℕ → ℕ → ℕ → Type 0
 SkipsTo l tag p q = (t k : ℕ) → tag < t → t ≤ 6 → recordsAt l p t k ≡ recordsAt l q t k
+
+-- the value of option k stands at p: behind the tag and the option of its first record
+pub record OptionValue (l : List ℕ) (k p : ℕ) : Type 0 where
+  pub at : ℕ
+  pub next : ℕ
+  pub behind : p ≡ at + 2
+  pub all : recordsAt l 0 2 k ≡ drop at l ∷ recordsAt l next 2 k
+  pub stands : RecordAt l 2 k at next

@@ -1,13 +1,13 @@
 -- What an answer of `find` says: of the records that a question asks for, each read by f, and of where the one that was
 -- found lies.
-use mathlib.Core.Path.{_≡_, refl, sym, subst, _∙_}
+use mathlib.Core.Path.{_≡_, refl, sym, ap, subst, _∙_}
 use mathlib.Core.Logic.{⊎-elim}
 use mathlib.Core.Bool.{true, false, not}
 use mathlib.Core.List.{List, [], _∷_, map}
 use Prim.Native.Nat.{ℕ, _+_, _-_, _*_, _≤_, _<_}
 use native.Mathlib.Nat.{eq-zero-or-pos}
 use native.Mathlib.Omega.{arith}
-use lib.ListN.{drop, getD}
+use lib.ListN.{length, drop, getD}
 use lib.Dec.{T}
 use lib.Seq.{getD-drop}
 use borrow.Author.Tests.{eq-eqb, not-true, not-false}
@@ -19,7 +19,7 @@ use Rattle.stream.specs.Laws.Payload.{payload-length}
 use Rattle.records.specs.declared.search.Hit.{Hit}
 use Rattle.records.specs.Records.{optionWidth}
 use Rattle.records.specs.Search.{keyOf, searchStepOf}
-use Rattle.records.specs.Contracts.Hits.{recordsAt, RecordAt, hitsOf, SkipsTo}
+use Rattle.records.specs.Contracts.Hits.{recordsAt, RecordAt, hitsOf, SkipsTo, OptionValue}
 use Rattle.records.specs.Walk.{tagOf}
 use Rattle.records.specs.Laws.Search.{search-got, passed-over, standing-less, standing-fits, choice-within, NameFound, PointsFound, PathFound}
 use Rattle.scene.specs.Scene.{first}
@@ -100,8 +100,16 @@ module _ {s : List ℕ} {p t k : ℕ} {h : Hit} (o : One s p t k h) where
       polyline-ends z g = rw (g, ← u16-drop (h .at) (payload s) 4) (omega (arith, f .points (λ y. z (omega (arith, form-is)))))
 
 -- ---- an option
-pub option-fits : {s : List ℕ} {p k : ℕ} {h : Hit} → One s p 2 k h → h .at + 2 + optionWidth k ≤ room s
-option-fits {s} o = omega (arith, choice-within (o .stands), payload-length s)
+pub option-none : {A : Type 0} (l : List ℕ) (k : ℕ) (f : List ℕ → A) → recordsAt l 0 2 k ≡ [] → none ≡ first f (recordsAt l 0 2 k)
+option-none l k f e = rw e refl
+
+module _ {l : List ℕ} {k p : ℕ} (o : OptionValue l k p) where
+  pub option-fits : p + optionWidth k ≤ length l
+  option-fits = omega (arith, choice-within (o .stands), o .behind)
+
+  -- what g reads at a position of the payload
+  pub option-first : {A : Type 0} (g : List ℕ → ℕ → A) → g (drop (o .at) l) 2 ≡ g l (o .at + 2) → some (g l p) ≡ first (λ b. g b 2) (recordsAt l 0 2 k)
+  option-first g e = rw (o .all, o .behind) (ap some (sym e))
 
 -- ---- a record that begins with a name, of n bytes, and has so many besides
 pub record Named (s : List ℕ) (p t : ℕ) (h : Hit) (more n : ℕ) : Type 0 where

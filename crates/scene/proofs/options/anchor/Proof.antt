@@ -1,38 +1,33 @@
 use borrow.Author.Needs.{needs}
 use mathlib.Core.Path.{_∙_}
-use Prim.Native.Nat.{_+_, _≤_}
 use native.Mathlib.Omega.{arith}
-use Rattle.stream.specs.Contracts.Payload.{room}
+use Rattle.stream.specs.Payload.{payload}
+use Rattle.stream.specs.Laws.Payload.{payload-length}
 use Rattle.records.specs.Records.{optionWidth}
-use Rattle.scene.specs.Scene.{sceneOf}
+use Rattle.records.specs.Contracts.Hits.{OptionValue}
+use Rattle.scene.specs.Scene.{pointAt, sceneOf}
 use Rattle.scene.specs.Laws.Shift.{point-drop}
-use Rattle.scene.specs.Laws.Found.{One, one-found, none-first, one-first, option-fits}
+use Rattle.scene.specs.Laws.Found.{option-none, option-fits, option-first}
 use Rattle.scene.proofs.options.anchor.Statement.{statement}
 use Rattle.scene.proofs.options.anchor.Tie as tie
 
-one : (w : tie.Else1) → One (w .before .before .before .before .args .s .now) 0 2 2 (w .before .before .find .result)
-one w = one-found _ 0 _ _ _ (w .before .before .find .ensures) (w .if1 .left)
+value : (w : tie.Else1) → OptionValue (payload (w .before .before .before .args .s .now)) 2 (w .before .option-at .result)
+value w = w .before .option-at .ensures .1 (omega arith)
 
-within : (w : tie.After-struct-known2) → w .before .before .before .find .result .at + 18 ≤ room (w .before .before .before .before .before .args .s .now)
-unfolding optionWidth
-within w = omega (arith, option-fits (one (w .before)))
-
-find-requires : tie.Need-find-requires
-find-requires c κs = search needs
+option-at-requires : tie.Need-option-at-requires
+option-at-requires c κs = search needs
 
 returns : tie.Need-returns
 unfolding sceneOf
-returns c = none-first _ 0 _ _ _ (c .before .before .find .ensures) _ (c .if1 .taken)
-
-add-point-if : tie.Need-add-point-if
-add-point-if c = omega (arith, within c)
+returns c = option-none _ _ _ (c .before .option-at .ensures .0 (omega arith))
 
 point-if-requires : tie.Need-point-if-requires
-point-if-requires c κs = omega (arith, within c)
+unfolding optionWidth
+point-if-requires c κs = omega (arith, option-fits (value c), payload-length (c .before .before .before .args .s .now))
 
 returns-2 : tie.Need-returns-2
 unfolding sceneOf
-returns-2 c = c .point-if .ensures ∙ one-first (one (c .before .before)) _ (point-drop (c .before .before .before .before .find .result .at) _ 2)
+returns-2 c = let o = value (c .before) in c .point-if .ensures ∙ option-first o pointAt (point-drop (o .at) _ 2)
 
 pub anchor-spec : {M : Type 1} → statement M
-anchor-spec = tie.close (tie.spec find-requires returns add-point-if point-if-requires returns-2)
+anchor-spec = tie.close (tie.spec option-at-requires returns point-if-requires returns-2)
