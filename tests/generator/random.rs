@@ -193,8 +193,8 @@ fn scene(r: &mut Random, step: Option<f64>) -> Doc {
     // Lengths such that a usual scene has some hundred positions.
     let reach = r.pick(&[0.5, 2.0, 2.0, 10.0, 10.0, 100.0, 3000.0]);
     let scale = r.between(5.0, 600.0) / reach * r.pick(&[0.01, 1.0, 1.0, 2.0, 8.0]);
-    let shorter = step.filter(|v| (1.0..=1000.0).contains(v)).map_or(1.0, |v| v / 100.0);
-    let scale = scale * shorter;
+    let ratio = step.filter(|v| (1.0..=1000.0).contains(v)).map_or(1.0, |v| v / 100.0);
+    let scale = scale * ratio;
     if !r.chance(3) {
         doc.vars.insert("geo_frame".into(), if r.chance(80) { 0.0 } else { 1.0 });
     } else if !r.chance(60) {

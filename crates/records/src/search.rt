@@ -153,7 +153,8 @@ fn is_search_over(t: u8, x: u8) -> bool
 // The first record of a tag and key from p on, as far as such a record can stand. Up to where the search ends, no
 // record has a greater tag.
 pub fn find(s: &[u8], p: usize, tag: u8, key: u8) -> Hit
-    ensures { λ r. ⌜ recordsAt (payload (now (s .entry))) p tag key ≡ hitsOf (payload (now (s .entry))) tag key r ⌝ }
+    ensures { λ r. ⌜ recordsAt (payload (now (s .entry))) p tag key
+        ≡ hitsOf (payload (now (s .entry))) tag key r ⌝ }
     ensures { λ r. ⌜ (r .some ≡ true → RecordAt (payload (now (s .entry))) tag key (r .at) (r .next)) ⌝ }
     ensures { λ r. ⌜ p ≤ r .at ⌝ }
     ensures { λ r. ⌜ SkipsTo (payload (now (s .entry))) tag p (r .at) ⌝ }

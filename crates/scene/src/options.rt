@@ -30,7 +30,8 @@ pub struct FrameOption {
 // An option that is one float.
 fn float_option(s: &[u8], option: u8) -> OptionalFloat
     requires { ⌜ 3 ≤ option ⌝ }
-    ensures { λ r. ⌜ maybeFloat r ≡ first (λ b. floatValueAt b 2) (recordsAt (payload (now (s .entry))) 0 2 option) ⌝ }
+    ensures { λ r. ⌜ maybeFloat r
+        ≡ first (λ b. floatValueAt b 2) (recordsAt (payload (now (s .entry))) 0 2 option) ⌝ }
 {
     let p = option_at(s, option);
     if p == 0 {

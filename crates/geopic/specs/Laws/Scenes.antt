@@ -128,15 +128,11 @@ register-no-six sc =
 within-bounds : (x : Float64) → isFinite x ≡ true → outsideBounds x ≡ false → (x ≡ Finite (valueOf x)) × (lt (valueOf x) one ≡ false) × (lt thousand (valueOf x) ≡ false)
 unfolding isFinite outsideBounds valueOf
 within-bounds NotFinite f h = absurd (false≢true f)
-within-bounds (Finite v) f h = (refl, or-left (lt v one) (lt thousand v) h, or-right (lt v one) (lt thousand v) h)
+within-bounds (Finite v) f h = let n = neither (lt v one) (lt thousand v) h in (refl, n .0, n .1)
   where
-    or-left : (a b : Bool) → (a || b) ≡ false → a ≡ false
-    or-left true b h = h
-    or-left false b h = refl
-
-    or-right : (a b : Bool) → (a || b) ≡ false → b ≡ false
-    or-right true b h = absurd (false≢true (sym h))
-    or-right false b h = h
+    neither : (a b : Bool) → (a || b) ≡ false → (a ≡ false) × (b ≡ false)
+    neither true b h = absurd (false≢true (sym h))
+    neither false b h = (refl, h)
 
 module _ (s : List ℕ) where
   abbrev sc : Scene
