@@ -78,7 +78,7 @@ enum { GEOPIC_GEOGRAPHIC = 0, GEOPIC_SCREEN = 1 };
 /* The step is the stream's option 7, 1 to 1,000 metres, 100 where it is absent. A straight edge is cut into equal parts
  * no longer than the step, but into 100,000 at most. A full curve (a circle, an ellipse by its longer radius, the
  * corners of a rounded box together) has so many vertices that they are no further apart around it, or more by the
- * tolerance of curves, but 32 at least and 4,096 at most. */
+ * tolerance of curves, but 32 at least and 4,096 at most. Where the vertex allowance is spent there are fewer. */
 
 /* Work must hold P + F + 1 points, two doubles each, for every line, path and ring of the stream: P its points,
  * flattened, and closed where it is marked closed or is a ring; F those of its fill outline, flattened and closed, 0
