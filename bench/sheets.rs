@@ -21,6 +21,9 @@ struct Answer {
     left: usize,
 }
 
+/// The tier of every call.
+const LARGER: u32 = 1;
+
 /// The host's call by one of its names.
 macro_rules! call {
     ($name:ident) => {
@@ -29,6 +32,7 @@ macro_rules! call {
             fn $name(
                 stream: *const u8,
                 stream_length: usize,
+                tier: u32,
                 work: *mut f64,
                 work_length: usize,
                 positions: *mut f64,
@@ -75,6 +79,7 @@ macro_rules! timed_call {
                 $call(
                     stream.as_ptr(),
                     stream.len(),
+                    LARGER,
                     lent.work.as_mut_ptr(),
                     lent.work.len(),
                     lent.positions.as_mut_ptr(),

@@ -14,16 +14,21 @@ extern "C" {
 /* A call takes at most this many bytes of stack, whatever the stream, and no other memory but what it is lent. */
 #define GEOPIC_STACK 65536
 
+/* The panel's tier says how many vertices one scene may draw: GEOPIC_TIER_ENTRY 20,000, every other number 2,000,000.
+ * Nothing refuses a tier. A scene that is accepted in the entry tier without GEOPIC_WARNING_ALLOWANCE_SPENT comes out
+ * the same in every tier, but for `left`. */
+enum { GEOPIC_TIER_ENTRY = 0, GEOPIC_TIER_LARGER = 1 };
+
 /* A refusal: `number` is 1 to 19 and everything else 0. Acceptance: `number` is 0. */
 typedef struct {
     uint32_t number;
     uint32_t method;   /* GEOPIC_ANCHOR, GEOPIC_TWO_POINTS or GEOPIC_HELMERT */
     uint32_t controls; /* control points used */
-    uint32_t spent;    /* 1 if the vertex allowance was spent */
+    uint32_t spent;    /* 1 if the vertex allowance was spent, exactly where warning 6 stands; else 0 */
     size_t positions;  /* used: whole positions, two doubles each */
     size_t features;   /* used: whole feature lines, six numbers each */
     size_t warnings;   /* used: whole warnings, two numbers each */
-    size_t left;       /* what is left of the 2,000,000 vertices that a scene may draw */
+    size_t left;       /* what is left of the tier's vertices; 0 is possible where nothing fell short */
 } geopic_answer;
 
 /* Numbers of refusals. The first that applies, in this order, is given. */
@@ -90,9 +95,9 @@ enum { GEOPIC_GEOGRAPHIC = 0, GEOPIC_SCREEN = 1 };
  *            1 to 14, 19   15 to 18     accepted
  * work       untouched     all zero     all zero
  * the rest   untouched     all zero     the used part written, the tail untouched */
-geopic_answer geopic_place(const uint8_t *stream, size_t stream_length, double *work, size_t work_length,
-                           double *positions, size_t positions_length, uint32_t *features, size_t features_length,
-                           uint32_t *warnings, size_t warnings_length);
+geopic_answer geopic_place(const uint8_t *stream, size_t stream_length, uint32_t tier, double *work,
+                           size_t work_length, double *positions, size_t positions_length, uint32_t *features,
+                           size_t features_length, uint32_t *warnings, size_t warnings_length);
 
 #ifdef __cplusplus
 }

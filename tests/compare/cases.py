@@ -10,8 +10,9 @@ BUILD = ROOT / "tests" / "oracle" / "build"
 ORACLE = ROOT / "target" / "oracle" / "oracle"
 GENERATE = ROOT / "target" / "oracle" / "generate"
 
-# Limit, work, positions, feature lines, warnings and allowance of `place`.
-PLACE_SIZES = (32768, 2048, 2048, 512, 512, 2000000)
+# Limit, work, positions, feature lines and warnings of `place`, the tier that it
+# names, and that tier's allowance.
+PLACE_SIZES = (32768, 2048, 2048, 512, 512, 1, "-")
 
 KINDS = "box circle ellipse arc line arrow spline text dot brace block".split()
 
@@ -22,6 +23,9 @@ class Case:
 
     def for_place(self):
         return self.sizes == PLACE_SIZES
+
+    def tier(self):
+        return self.sizes[5]
 
     def text(self):
         sizes = " ".join(map(str, self.sizes))
@@ -40,10 +44,9 @@ def generated(*args):
     at = 0
     while at < len(data):
         end = data.index(b"\n", at)
-        _, name, *numbers = data[at:end].decode().split(" ")
-        *sizes, length = map(int, numbers)
-        at = end + 1 + length
-        yield Case(name, tuple(sizes), data[end + 1 : at])
+        _, name, *numbers, allowance, length = data[at:end].decode().split(" ")
+        at = end + 1 + int(length)
+        yield Case(name, (*map(int, numbers), allowance), data[end + 1 : at])
 
 
 def answered(cases, *options, program=ORACLE):
@@ -68,6 +71,9 @@ def split(lines):
     return lines, {key: int(n) for _, key, n in counted}
 
 
+# Rows that `place` is not asked for: it names tier 1.
+OTHER_TIERS = ["tier 0", "tier above 1", "tier 0, spent mark 1", "tier 0, spent mark 0 and 0 left"]
+
 # The rows of the table, in its order: everything that can occur.
 ROWS = (
     ["accepted"]
@@ -87,6 +93,8 @@ ROWS = (
     + [f"short-{p}" for p in "segment ellipse rounded-box split".split()]
     + ["unwritten", "unused-outline"]
     + ["step-below-100", "step-above-100"]
+    + ["tier 1"]
+    + OTHER_TIERS
 )
 
 
@@ -119,6 +127,18 @@ def rows_of(lines, counted):
         yield from (key for key in counted if key != "granted")
 
 
+def tier_rows(case, lines):
+    """The rows that a case's tier and its answer belong to."""
+    tier = case.tier()
+    yield f"tier {tier}" if tier < 2 else "tier above 1"
+    if tier == 0 and lines[-1].startswith("B "):
+        left, mark = lines[-1].split(" ")[1:]
+        if mark == "1":
+            yield "tier 0, spent mark 1"
+        elif left == "0":
+            yield "tier 0, spent mark 0 and 0 left"
+
+
 class Table:
     """How often each row occurred, in streams: in all, and under the sizes of
     `place`."""
@@ -127,7 +147,7 @@ class Table:
         self.seen = {row: [0, 0] for row in ROWS}
 
     def add(self, case, lines, counted):
-        for row in set(rows_of(lines, counted)):
+        for row in {*rows_of(lines, counted), *tier_rows(case, lines)}:
             self.seen[row][0] += 1
             self.seen[row][1] += case.for_place()
 
@@ -137,7 +157,11 @@ class Table:
             print(f"{row:32}{every:9}{place:9}")
 
     def empty(self):
-        return [row for row, counts in self.seen.items() if 0 in counts]
+        return [
+            row
+            for row, (every, place) in self.seen.items()
+            if not every or not place and row not in OTHER_TIERS
+        ]
 
 
 def first_difference(ours, theirs):

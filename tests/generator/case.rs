@@ -1,4 +1,4 @@
-// A stream with the sizes it is to be answered under.
+// A stream with the sizes and the tier that it is to be answered under.
 
 use crate::write::Doc;
 use std::io::{self, Write};
@@ -12,12 +12,14 @@ pub struct Case {
     pub positions: usize,
     pub features: usize,
     pub warnings: usize,
-    pub allowance: usize,
+    pub tier: u32,
+    /// Where to start from in place of the tier's allowance: the module has no such thing.
+    pub allowance: Option<usize>,
     pub bytes: Vec<u8>,
 }
 
 impl Case {
-    /// Under the sizes of the program `place`.
+    /// Under the sizes of the program `place`, and the larger tier, which it names.
     pub fn place(name: impl Into<String>, bytes: Vec<u8>) -> Case {
         Case {
             name: name.into(),
@@ -26,7 +28,8 @@ impl Case {
             positions: 2_048,
             features: 512,
             warnings: 512,
-            allowance: 2_000_000,
+            tier: 1,
+            allowance: None,
             bytes,
         }
     }
@@ -41,12 +44,12 @@ impl Case {
     }
 
     pub fn write(&self, out: &mut impl Write) -> io::Result<()> {
-        let Case { name, limit, work, positions, features, warnings, allowance, bytes } = self;
+        let Case { name, limit, work, positions, features, warnings, tier, allowance, bytes } =
+            self;
+        let allowance = allowance.map_or("-".to_string(), |n| n.to_string());
         let length = bytes.len();
-        writeln!(
-            out,
-            "case {name} {limit} {work} {positions} {features} {warnings} {allowance} {length}"
-        )?;
+        write!(out, "case {name} {limit} {work} {positions} {features} {warnings}")?;
+        writeln!(out, " {tier} {allowance} {length}")?;
         out.write_all(bytes)
     }
 }

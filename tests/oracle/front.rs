@@ -15,14 +15,15 @@ pub use crate::record::{begin, finish};
 pub use crate::scene::Path;
 
 /// Room in the four slices, in whole points, positions, feature lines and
-/// warnings, and the allowance to start from.
+/// warnings; the tier, and where to start from in place of its allowance.
 #[derive(Clone, Copy)]
 pub struct Sizes {
     pub work: usize,
     pub positions: usize,
     pub features: usize,
     pub warnings: usize,
-    pub allowance: usize,
+    pub tier: u32,
+    pub allowance: Option<usize>,
 }
 
 pub struct Answer {
@@ -60,10 +61,16 @@ impl Answer {
     }
 }
 
+/// The tier's allowance: 0 is the entry tier, any other number the larger.
+fn allowance_of(tier: u32) -> usize {
+    if tier == 0 { 20_000 } else { 2_000_000 }
+}
+
 /// Refusals 7 to 14 as errors; 15 to 18 stand in the answer.
 pub fn answer(parsed: &Parsed, sizes: Sizes) -> Result<Answer, u32> {
     let variables = parsed.scene.vars.keys().cloned().collect();
-    record::begin(sizes.allowance, parsed.step, variables);
+    let allowance = sizes.allowance.unwrap_or(allowance_of(sizes.tier));
+    record::begin(allowance, parsed.step, variables);
     let result = georeference_scene(&parsed.scene, &parsed.options);
     let record = record::finish();
     let scene = result.map_err(|e| number(&e))?;

@@ -5,20 +5,23 @@
 //
 // `place` answers one stream under the sizes of document 01's program. `batch`
 // answers cases one after another; each is a line
-//     case NAME LIMIT WORK POSITIONS FEATURES WARNINGS ALLOWANCE LENGTH
+//     case NAME LIMIT WORK POSITIONS FEATURES WARNINGS TIER ALLOWANCE LENGTH
 // (LIMIT bytes of stream at most, 0 for any; then whole points, positions,
-// feature lines, warnings), followed by LENGTH bytes; each answer stands
-// after a line `> NAME`. `project` takes eight f64 for each point, little-endian
-// (anchor's longitude and latitude, origin, scale, bearing, the canvas point),
-// and answers two: the longitude and latitude that `to_lonlat` gives. `densify`
-// answers for one path, ring or line at a time, as produce.rs says.
+// feature lines, warnings; the tier; `-` for the tier's allowance, or the
+// number to start from in its place), followed by LENGTH bytes; each answer
+// stands after a line `> NAME`. `project` takes eight f64 for each point,
+// little-endian (anchor's longitude and latitude, origin, scale, bearing, the
+// canvas point), and answers two: the longitude and latitude that `to_lonlat`
+// gives. `densify` answers for one path, ring or line at a time, as produce.rs
+// says.
 //
-// Options: --work N, --positions N, --features N, --warnings N, --allowance N
-// and --limit N set sizes for `place`. --scene prints the parsed scene before
-// the answer where 1 to 6 and 19 do not refuse, --registration the registration
-// (G) where 7 to 14 do not; after each P, --bits prints the position's bits (Q);
-// after B, --draws prints every draw (D: want, floor, grant, left). --tally
-// ends an answer with what occurred in it (T).
+// Options: --work N, --positions N, --features N, --warnings N, --tier N,
+// --allowance N and --limit N set sizes for `place`; the tier is 1 otherwise.
+// --scene prints the parsed scene before the answer where 1 to 6 and 19 do not
+// refuse, --registration the registration (G) where 7 to 14 do not; after each
+// P, --bits prints the position's bits (Q); after B, --draws prints every draw
+// (D: want, floor, grant, left). --tally ends an answer with what occurred in
+// it (T).
 
 use geopic_core::front::{self, Answer, Producer, Sizes};
 use geopic_core::stream::{self, Parsed};
@@ -27,6 +30,7 @@ use std::collections::BTreeMap;
 use std::fmt::Write as _;
 use std::io::{self, Read, Write as _};
 use std::process::exit;
+use std::str::FromStr;
 
 mod dump;
 mod produce;
@@ -43,36 +47,7 @@ struct Shown {
 fn main() {
     let mut args = std::env::args().skip(1);
     let mode = args.next().unwrap_or_default();
-    let mut shown = Shown::default();
-    let mut limit = 32_768;
-    let mut sizes = Sizes {
-        work: 2_048,
-        positions: 2_048,
-        features: 512,
-        warnings: 512,
-        allowance: 2_000_000,
-    };
-    while let Some(arg) = args.next() {
-        let mut value = || {
-            args.next()
-                .and_then(|v| v.parse().ok())
-                .unwrap_or_else(|| usage())
-        };
-        match arg.as_str() {
-            "--scene" => shown.scene = true,
-            "--registration" => shown.registration = true,
-            "--bits" => shown.bits = true,
-            "--draws" => shown.draws = true,
-            "--tally" => shown.tally = true,
-            "--work" => sizes.work = value(),
-            "--positions" => sizes.positions = value(),
-            "--features" => sizes.features = value(),
-            "--warnings" => sizes.warnings = value(),
-            "--allowance" => sizes.allowance = value(),
-            "--limit" => limit = value(),
-            _ => usage(),
-        }
-    }
+    let (limit, sizes, shown) = options(args);
     let mut input = Vec::new();
     io::stdin()
         .read_to_end(&mut input)
@@ -90,9 +65,45 @@ fn main() {
     }
 }
 
+fn options(mut args: impl Iterator<Item = String>) -> (usize, Sizes, Shown) {
+    let mut shown = Shown::default();
+    let mut limit = 32_768;
+    let mut sizes = Sizes {
+        work: 2_048,
+        positions: 2_048,
+        features: 512,
+        warnings: 512,
+        tier: 1,
+        allowance: None,
+    };
+    while let Some(arg) = args.next() {
+        let mut value = || args.next().unwrap_or_else(|| usage());
+        match arg.as_str() {
+            "--scene" => shown.scene = true,
+            "--registration" => shown.registration = true,
+            "--bits" => shown.bits = true,
+            "--draws" => shown.draws = true,
+            "--tally" => shown.tally = true,
+            "--work" => sizes.work = number(&value()),
+            "--positions" => sizes.positions = number(&value()),
+            "--features" => sizes.features = number(&value()),
+            "--warnings" => sizes.warnings = number(&value()),
+            "--tier" => sizes.tier = number(&value()),
+            "--allowance" => sizes.allowance = Some(number(&value())),
+            "--limit" => limit = number(&value()),
+            _ => usage(),
+        }
+    }
+    (limit, sizes, shown)
+}
+
 fn usage() -> ! {
     eprintln!("oracle place|batch|project|densify [OPTIONS] < INPUT");
     exit(2);
+}
+
+fn number<T: FromStr>(text: &str) -> T {
+    text.parse().unwrap_or_else(|_| usage())
 }
 
 fn print(text: &str) {
@@ -109,38 +120,28 @@ fn batch(mut input: &[u8], shown: &Shown) {
     while let Some(end) = input.iter().position(|b| *b == b'\n') {
         let line = String::from_utf8_lossy(&input[..end]).into_owned();
         let fields: Vec<&str> = line.split(' ').collect();
-        let numbers: Vec<usize> = fields
-            .iter()
-            .skip(2)
-            .filter_map(|f| f.parse().ok())
-            .collect();
-        let ["case", name, ..] = fields[..] else {
+        let ["case", name, limit, ref sizes @ .., length] = fields[..] else {
             usage()
         };
-        let [
-            limit,
-            work,
-            positions,
-            features,
-            warnings,
-            allowance,
-            length,
-        ] = numbers[..]
-        else {
-            usage()
-        };
-        let sizes = Sizes {
-            work,
-            positions,
-            features,
-            warnings,
-            allowance,
-        };
-        let (bytes, rest) = input[end + 1..].split_at(length);
+        let (bytes, rest) = input[end + 1..].split_at(number(length));
         let mut out = format!("> {name}\n");
-        answer(bytes, limit, sizes, shown, &mut out);
+        answer(bytes, number(limit), sizes_of(sizes), shown, &mut out);
         print(&out);
         input = rest;
+    }
+}
+
+fn sizes_of(fields: &[&str]) -> Sizes {
+    let [work, positions, features, warnings, tier, allowance] = *fields else {
+        usage()
+    };
+    Sizes {
+        work: number(work),
+        positions: number(positions),
+        features: number(features),
+        warnings: number(warnings),
+        tier: number(tier),
+        allowance: (allowance != "-").then(|| number(allowance)),
     }
 }
 

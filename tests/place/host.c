@@ -1,11 +1,12 @@
 /* The host's call from C, on cases as the generator writes them:
- *     case NAME LIMIT WORK POSITIONS FEATURES WARNINGS ALLOWANCE LENGTH
+ *     case NAME LIMIT WORK POSITIONS FEATURES WARNINGS TIER ALLOWANCE LENGTH
  * and LENGTH bytes (tests/oracle/main.rs).
  *
  * host answer < CASES    answers as `oracle batch --bits` does, and stops where a slice holds anything but what
  *                        include/geopic.h says, what was not written included
  * host sizes < CASES     for every accepted case: exactly enough room, and each slice one short, and 0 and 1
- * host filter < CASES    the cases with the module's own allowance
+ * host filter < CASES    the cases with their tier's own allowance
+ * host other < CASES     every case under the other tier: 0 becomes 1, any other number 0
  * host stack < CASES     the most stack that a call took, on a stack of its own filled before; stops where that is more
  *                        than include/geopic.h says
  *
@@ -20,12 +21,13 @@
 #include <string.h>
 #include <ucontext.h>
 
-#define ALLOWANCE 2000000
 #define PATTERN 0xa5
 
 typedef struct {
     char name[256];
-    size_t limit, work, positions, features, warnings, allowance, length;
+    size_t limit, work, positions, features, warnings, length;
+    uint32_t tier;
+    char allowance[24];
     uint8_t *bytes;
 } Case;
 
@@ -48,8 +50,8 @@ static void *taken(size_t n)
 
 static int next(Case *c)
 {
-    if (scanf("case %255s %zu %zu %zu %zu %zu %zu %zu", c->name, &c->limit, &c->work, &c->positions, &c->features,
-              &c->warnings, &c->allowance, &c->length) != 8) {
+    if (scanf("case %255s %zu %zu %zu %zu %zu %" SCNu32 " %23s %zu", c->name, &c->limit, &c->work, &c->positions,
+              &c->features, &c->warnings, &c->tier, c->allowance, &c->length) != 9) {
         return 0;
     }
     if (getchar() != '\n') {
@@ -64,8 +66,8 @@ static int next(Case *c)
 
 static void write_case(const Case *c)
 {
-    printf("case %s %zu %zu %zu %zu %zu %zu %zu\n", c->name, c->limit, c->work, c->positions, c->features, c->warnings,
-           c->allowance, c->length);
+    printf("case %s %zu %zu %zu %zu %zu %" PRIu32 " %s %zu\n", c->name, c->limit, c->work, c->positions, c->features,
+           c->warnings, c->tier, c->allowance, c->length);
     fwrite(c->bytes, 1, c->length, stdout);
 }
 
@@ -86,8 +88,8 @@ static Call lent(const Case *c)
 
 static void place(const Case *c, Call *k)
 {
-    k->answer = geopic_place(c->bytes, c->length, k->work, 2 * c->work, k->positions, 2 * c->positions, k->features,
-                             6 * c->features, k->warnings, 2 * c->warnings);
+    k->answer = geopic_place(c->bytes, c->length, c->tier, k->work, 2 * c->work, k->positions, 2 * c->positions,
+                             k->features, 6 * c->features, k->warnings, 2 * c->warnings);
 }
 
 static Call call(const Case *c)
@@ -308,9 +310,12 @@ int main(int argc, char **argv)
         } else if (!strcmp(mode, "sizes")) {
             sizes(&c);
         } else if (!strcmp(mode, "filter")) {
-            if (c.allowance == ALLOWANCE) {
+            if (!strcmp(c.allowance, "-")) {
                 write_case(&c);
             }
+        } else if (!strcmp(mode, "other")) {
+            c.tier = c.tier == GEOPIC_TIER_ENTRY ? GEOPIC_TIER_LARGER : GEOPIC_TIER_ENTRY;
+            write_case(&c);
         } else if (!strcmp(mode, "stack")) {
             size_t n = stack_taken(&c);
             calls++;
@@ -319,7 +324,7 @@ int main(int argc, char **argv)
                 memcpy(deepest, c.name, sizeof deepest);
             }
         } else {
-            fprintf(stderr, "host answer|sizes|filter|stack < CASES\n");
+            fprintf(stderr, "host answer|sizes|filter|other|stack < CASES\n");
             return 2;
         }
         free(c.bytes);

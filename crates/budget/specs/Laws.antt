@@ -1,3 +1,4 @@
 -- The laws of these definitions that callers use.
+pub mod Allowances
 pub mod Draws
 pub mod Samples

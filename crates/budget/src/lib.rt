@@ -1,7 +1,12 @@
 // The vertex allowance that every producer of vertices draws from, after the source's densify.rs.
 ghost use mathlib.Core.Path.{_≡_};
 ghost use Prim.Native.Nat.{_-_, min, max};
-ghost use Rattle.budget.specs.Budget.{takeOf};
+ghost use Rattle.budget.specs.Budget.{allowanceOf, fresh, takeOf};
+
+// The vertices that one scene may draw: on a panel of the entry tier, and on any other.
+const ENTRY_VERTICES: usize = 20000;
+
+const MAX_VERTICES: usize = 2000000;
 
 // How many vertices are left, and whether a request had to be cut down.
 pub struct Budget {
@@ -34,7 +39,28 @@ fn saturating_sub(a: usize, b: usize) -> usize
     if b < a { a - b } else { 0 }
 }
 
+// The vertices that one scene may draw on a panel of this tier.
+fn allowance(tier: u32) -> usize
+    ensures { λ r. ⌜ r ≡ allowanceOf tier ⌝ }
+{
+    if tier == 0 {
+        ENTRY_VERTICES
+    } else {
+        MAX_VERTICES
+    }
+}
+
 impl Budget {
+    // The whole allowance of a tier.
+    pub fn new(tier: u32) -> Budget
+        ensures { λ r. ⌜ r ≡ fresh (allowanceOf tier) ⌝ }
+    {
+        Budget {
+            left: allowance(tier),
+            hit: false,
+        }
+    }
+
     // Up to `wanted` vertices, never fewer than the smaller of `wanted` and `floor`.
     pub fn take(self, wanted: usize, floor: usize) -> Taken
         ensures { λ r. ⌜ r ≡ takeOf self wanted floor ⌝ }

@@ -2,4 +2,5 @@
 pub mod Items
 pub mod Loops
 pub mod Draws
+pub mod Allowances
 pub mod Features

@@ -4,6 +4,7 @@ pub mod Closing
 pub mod Segments
 pub mod Rounds
 pub mod Replay
+pub mod Allowances
 pub mod Counts
 pub mod Sizes
 pub mod Bounds

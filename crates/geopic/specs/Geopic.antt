@@ -1,4 +1,4 @@
--- The host's call: its answer, and what each of the four lent slices holds after it, for every stream and every length of the slices.
+-- The host's call: its answer, and what each of the four lent slices holds after it, for every stream, every tier and every length of the slices.
 use Prim.Native.Nat.{ℕ, zero, suc, _/_}
 use mathlib.Core.Bool.{Bool, true, false, cond}
 use mathlib.Core.List.{List, [], _∷_, _++_, map}
@@ -13,6 +13,7 @@ use Rattle.projection.specs.declared.Registration.{Registration}
 use Rattle.projection.specs.Projection.{projectionOf}
 use Rattle.register.specs.Register.{f0, registrationOf, ofRegistration, registerWarnings}
 use Rattle.budget.specs.declared.Budget.{Budget}
+use Rattle.budget.specs.Budget.{allowanceOf, fresh}
 use Rattle.strokes.specs.declared.state.Ctx.{Ctx}
 use Rattle.convert.specs.Convert.{onScreen, convertOf}
 use Rattle.strokes.specs.Strokes.{warned, Trace}
@@ -20,17 +21,13 @@ use Rattle.strokes.specs.Space.{Output, applyAll, ofSpace}
 use Rattle.geopic.specs.declared.Answer.{Answer}
 
 -- ---- what a scene draws
--- MAX_VERTICES of the source's densify.rs
-abbrev pub fresh : Budget
-fresh = record { left = 2000000; hit = false }
-
 abbrev pub ctxOf : Scene → Ctx
 ctxOf sc = record { projection = projectionOf (registrationOf sc); step = sc .step; flatten = sc .flatten }
 
--- the registration's warnings, then everything that its items draw
-unfoldable pub traceOf : Scene → Trace
-traceOf sc =
-    let t = convertOf onScreen (ctxOf sc) (sc .items) fresh in
+-- the registration's warnings, then everything that its items draw from so many vertices
+unfoldable pub traceOf : ℕ → Scene → Trace
+traceOf allowance sc =
+    let t = convertOf onScreen (ctxOf sc) (sc .items) (fresh allowance) in
     record { events = map warned (registerWarnings sc) ++ t .events; after = t .after }
 
 -- ---- what is lent, and the sheet that comes of it
@@ -56,8 +53,8 @@ unused t =
       number = 0;
     }
 
-unfoldable pub outputOf : Scene → Buffers → Output
-outputOf sc t = applyAll (traceOf sc .events) (unused t)
+unfoldable pub outputOf : ℕ → Scene → Buffers → Output
+outputOf allowance sc t = applyAll (traceOf allowance sc .events) (unused t)
 
 -- ---- document 01's eighteen conditions and 02's nineteenth, in the order of checking
 -- those that are checked before the lent slices are looked at: 1 to 5, 19 and 6 of the stream, 7 to 14 of the
@@ -66,11 +63,11 @@ unfoldable pub early : List ℕ → List Condition
 early s = ofStream s ++ ofRegistration (sceneOf (payload s))
 
 -- and 15 to 18: the first thing that lacks room
-unfoldable pub conditions : List ℕ → Buffers → List Condition
-conditions s t = early s ++ ofSpace (outputOf (sceneOf (payload s)) t)
+unfoldable pub conditions : List ℕ → ℕ → Buffers → List Condition
+conditions s tier t = early s ++ ofSpace (outputOf (allowanceOf tier) (sceneOf (payload s)) t)
 
-unfoldable pub numberOf : List ℕ → Buffers → ℕ
-numberOf s t = firstOf (conditions s t)
+unfoldable pub numberOf : List ℕ → ℕ → Buffers → ℕ
+numberOf s tier t = firstOf (conditions s tier t)
 
 -- ---- the answer
 -- a refusal's number, and zero for everything else
@@ -95,11 +92,12 @@ abbrev pub pickAnswer : Bool → Answer → Answer → Answer
 pickAnswer true a b = a
 pickAnswer false a b = b
 
-unfoldable pub answerOf : List ℕ → Buffers → Answer
-answerOf s t =
+unfoldable pub answerOf : List ℕ → ℕ → Buffers → Answer
+answerOf s tier t =
     let sc = sceneOf (payload s) in
-    let n = numberOf s t in
-    pickAnswer (eqb n 0) (acceptance (registrationOf sc) (outputOf sc t) (traceOf sc .after)) (refusal n)
+    let allowance = allowanceOf tier in
+    let n = numberOf s tier t in
+    pickAnswer (eqb n 0) (acceptance (registrationOf sc) (outputOf allowance sc t) (traceOf allowance sc .after)) (refusal n)
 
 -- ---- the slices
 unfoldable pub clear : {A : Type 0} → A → ℕ → List A
@@ -115,11 +113,11 @@ unfoldable pub sliceBy : {A : Type 0} → ℕ → ℕ → A → List A → List 
 sliceBy first n z before written = pickList (eqb first 0) (pickList (eqb n 0) written (clear z (length before))) before
 
 -- an accepted call clears work too; the others hold what was written, and their tails are as they were
-unfoldable pub buffersAfter : List ℕ → Buffers → Buffers
-buffersAfter s t =
+unfoldable pub buffersAfter : List ℕ → ℕ → Buffers → Buffers
+buffersAfter s tier t =
     let first = firstOf (early s) in
-    let n = numberOf s t in
-    let u = outputOf (sceneOf (payload s)) t in
+    let n = numberOf s tier t in
+    let u = outputOf (allowanceOf tier) (sceneOf (payload s)) t in
     record {
       work = sliceBy first n f0 (t .work) (clear f0 (length (t .work)));
       positions = sliceBy first n f0 (t .positions) (u .positions);

@@ -3,3 +3,4 @@ pub mod Conditions
 pub mod Scenes
 pub mod Clearing
 pub mod Calls
+pub mod Tiers

@@ -7,6 +7,7 @@ ghost use lib.ListN.{length};
 ghost use Rattle.stream.specs.Payload.{payload};
 ghost use Rattle.scene.specs.Scene.{sceneOf};
 ghost use Rattle.register.specs.Register.{f0};
+ghost use Rattle.budget.specs.Budget.{allowanceOf};
 ghost use Rattle.strokes.specs.Contracts.Space.{outputBy, Applied};
 ghost use Rattle.geopic.specs.Geopic.{traceOf, buffersBy, unused, refusal, acceptance, clear, answerOf, buffersAfter};
 ghost use Rattle.geopic.specs.Contracts.Opened.{Opens, Registers};
@@ -20,9 +21,6 @@ use register::survey_stream;
 use register::write_warnings;
 use strokes::Ctx;
 use strokes::State;
-
-// The vertices that one scene may draw.
-const MAX_VERTICES: usize = 2000000;
 
 // `number` is 0, or the refusal's, with zero for everything else. Counts are whole positions, feature lines and
 // warnings.
@@ -104,6 +102,7 @@ fn open_stream(s: &[u8], kept: &mut [u32]) -> Opened
 // The registration's warnings, then every item.
 fn write_output(
     s: &[u8],
+    tier: u32,
     v: Survey,
     r: Registration,
     kept: &[u32],
@@ -113,17 +112,14 @@ fn write_output(
     warnings: &mut [u32],
 ) -> State
     requires { ⌜ Registers (now s) v r (now kept) ⌝ }
-    ensures { λ st. ⌜ Applied (traceOf (sceneOf (payload (now (s .entry)))))
+    ensures { λ st. ⌜ Applied (traceOf (allowanceOf tier) (sceneOf (payload (now (s .entry)))))
         (unused
         (buffersBy (now (work .entry)) (now (positions .entry)) (now (features .entry)) (now (warnings .entry))))
         (outputBy (length (now (work .exit))) (now (positions .exit)) (now (features .exit)) (now (warnings .exit)) st)
         (st .budget) ⌝ }
 {
     let w = write_warnings(s, v, kept, warnings, r.controls);
-    let fresh = Budget {
-        left: MAX_VERTICES,
-        hit: false,
-    };
+    let budget = Budget::new(tier);
     let mut number = 0u8;
     if !w.ok {
         number = 18;
@@ -133,7 +129,7 @@ fn write_output(
         positions: 0,
         features: 0,
         warnings: w.used,
-        budget: fresh,
+        budget,
     };
     let step = scene::step(s);
     let cx = Ctx {
@@ -168,6 +164,7 @@ fn accept(r: Registration, st: State) -> Answer
 // What a stream that has been opened answers and leaves in the slices.
 fn place_registered(
     s: &[u8],
+    tier: u32,
     v: Survey,
     r: Registration,
     kept: &[u32],
@@ -178,14 +175,14 @@ fn place_registered(
 ) -> Answer
     requires { ⌜ Registers (now s) v r (now kept) ⌝ }
     ensures { λ a. ⌜ a
-        ≡ answerOf (now (s .entry))
+        ≡ answerOf (now (s .entry)) tier
         (buffersBy (now (work .entry)) (now (positions .entry)) (now (features .entry)) (now (warnings .entry))) ⌝ }
     ensures { λ a. ⌜ buffersBy (now (work .exit)) (now (positions .exit))
         (now (features .exit)) (now (warnings .exit))
-        ≡ buffersAfter (now (s .entry))
+        ≡ buffersAfter (now (s .entry)) tier
         (buffersBy (now (work .entry)) (now (positions .entry)) (now (features .entry)) (now (warnings .entry))) ⌝ }
 {
-    let st = write_output(s, v, r, kept, work, positions, features, warnings);
+    let st = write_output(s, tier, v, r, kept, work, positions, features, warnings);
     clear_floats(work);
     if st.number != 0 {
         clear_floats(positions);
@@ -196,21 +193,22 @@ fn place_registered(
     accept(r, st)
 }
 
-// Places the scene of a stream on the Earth.
+// Places the scene of a stream on the Earth, for a panel of this tier.
 #[no_mangle]
 pub extern "C" fn geopic_place(
     s: &[u8],
+    tier: u32,
     work: &mut [f64],
     positions: &mut [f64],
     features: &mut [u32],
     warnings: &mut [u32],
 ) -> Answer
     ensures { λ r. ⌜ r
-        ≡ answerOf (now (s .entry))
+        ≡ answerOf (now (s .entry)) tier
         (buffersBy (now (work .entry)) (now (positions .entry)) (now (features .entry)) (now (warnings .entry))) ⌝ }
     ensures { λ r. ⌜ buffersBy (now (work .exit)) (now (positions .exit))
         (now (features .exit)) (now (warnings .exit))
-        ≡ buffersAfter (now (s .entry))
+        ≡ buffersAfter (now (s .entry)) tier
         (buffersBy (now (work .entry)) (now (positions .entry)) (now (features .entry)) (now (warnings .entry))) ⌝ }
 {
     let mut kept = [0u32; 64];
@@ -218,6 +216,7 @@ pub extern "C" fn geopic_place(
         Opened::Refused(number) => refuse(number),
         Opened::Registered(v, r) => place_registered(
             s,
+            tier,
             v,
             r,
             &kept,

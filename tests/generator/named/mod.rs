@@ -7,13 +7,14 @@ mod names;
 mod shapes;
 mod sizes;
 mod steps;
+mod tiers;
 
 use crate::case::Case;
 use crate::write::*;
 use std::collections::BTreeSet;
 
 pub use names::names;
-pub use sizes::{heavy, large};
+pub use sizes::{eater, heavy, large};
 
 #[derive(Default)]
 struct Set {
@@ -75,6 +76,11 @@ pub fn all() -> Vec<Case> {
     steps::segments(&mut set);
     steps::rings(&mut set);
     steps::every_kind(&mut set);
+    tiers::numbers(&mut set);
+    tiers::around(&mut set);
+    tiers::written(&mut set);
+    tiers::none_left(&mut set);
+    tiers::refused(&mut set);
     set.checked()
 }
 

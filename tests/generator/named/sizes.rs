@@ -81,9 +81,9 @@ pub fn sweeps(set: &mut Set) {
             });
         }
         for n in (0..24).chain([31, 32, 33, 34, 40, 41, 44, 45]) {
-            set.sized(format!("allowance-{n}-{name}"), &then, |c| c.allowance = n);
+            set.sized(format!("allowance-{n}-{name}"), &then, |c| c.allowance = Some(n));
             let twice = then.clone().item(doc.items[0].clone());
-            set.sized(format!("allowance-{n}-{name}-twice"), &twice, |c| c.allowance = n);
+            set.sized(format!("allowance-{n}-{name}-twice"), &twice, |c| c.allowance = Some(n));
         }
         let unresolved = then.feature("none", 0.0, 0.0);
         for n in 0..3 {
@@ -106,7 +106,9 @@ pub fn sweeps(set: &mut Set) {
                     [0.0, 0.0],
                     &cubics,
                 )));
-                set.sized(format!("left-{n}-{name}-closed-{closed}"), &doc, |c| c.allowance = n);
+                set.sized(format!("left-{n}-{name}-closed-{closed}"), &doc, |c| {
+                    c.allowance = Some(n);
+                });
             }
         }
     }
@@ -124,7 +126,7 @@ pub fn sweeps(set: &mut Set) {
         for (b, second) in &producers {
             for n in [0, 1, 2, 3, 4, 5, 7, 8, 9, 12, 20, 30, 31, 33, 36, 37, 70] {
                 let doc = Doc::anchored().item(first.clone()).item(second.clone());
-                set.sized(format!("allowance-{n}-{a}-then-{b}"), &doc, |c| c.allowance = n);
+                set.sized(format!("allowance-{n}-{a}-then-{b}"), &doc, |c| c.allowance = Some(n));
             }
         }
     }
@@ -148,11 +150,11 @@ pub fn wide_and_spent(set: &mut Set) {
             let doc = Doc::anchored().with(|d| d.scale = Some(scale));
             let line = doc.clone().item(wide_line());
             set.sized(format!("wide-line-{scale:e}-allowance-{allowance}"), &line, |c| {
-                c.allowance = allowance;
+                c.allowance = Some(allowance);
             });
             let ring = doc.item(wide_ring());
             set.sized(format!("wide-ring-{scale:e}-allowance-{allowance}"), &ring, |c| {
-                c.allowance = allowance;
+                c.allowance = Some(allowance);
             });
         }
     }
@@ -220,9 +222,9 @@ pub fn borders(set: &mut Set) {
 }
 
 /// Lines that are drawn from the allowance and not written: they use it up
-/// without filling a slice.
-fn eater(parts: f64) -> Item {
-    line(&[[0.0, 0.0], [parts, 0.0]]).flags(CLOSED)
+/// without filling a slice. At the usual scale and step an inch is a part.
+pub fn eater(inches: f64) -> Item {
+    line(&[[0.0, 0.0], [inches, 0.0]]).flags(CLOSED)
 }
 
 /// The whole allowance of 2,000,000, used up in small streams.

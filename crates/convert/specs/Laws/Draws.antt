@@ -37,7 +37,7 @@ module _ {b : Budget} {t : Trace} (r : TraceReplays b t) where
   trace-hit = ap (λ (x : Budget). x .hit) (r .after-is) ∙ replayed-hit b (drawsIn (t .events)) (r .grants)
 
 -- ---- lists of events
-draws-append : (es fs : List Event) → drawsIn (es ++ fs) ≡ drawsIn es ++ drawsIn fs
+pub draws-append : (es fs : List Event) → drawsIn (es ++ fs) ≡ drawsIn es ++ drawsIn fs
 unfolding drawsIn
 draws-append [] fs = refl
 draws-append (drew d ∷ es) fs = ap (_∷_ d) (draws-append es fs)
@@ -53,7 +53,7 @@ warnings-append (need n ∷ es) fs = warnings-append es fs
 warnings-append (feature f ps ∷ es) fs = warnings-append es fs
 warnings-append (warned w ∷ es) fs = ap (_∷_ w) (warnings-append es fs)
 
-drew-draws : (ds : List GrantedDraw) → drawsIn (map drew ds) ≡ ds
+pub drew-draws : (ds : List GrantedDraw) → drawsIn (map drew ds) ≡ ds
 unfolding drawsIn
 drew-draws [] = refl
 drew-draws (d ∷ ds) = ap (_∷_ d) (drew-draws ds)

@@ -30,9 +30,11 @@ place-registered-requires c κs = is-registered (c .before .before .before .befo
 
 returns : tie.Need-returns
 returns c =
-    let s = c .before .before .before .before .before .before .before .before .before .before .before .before .args .s .now in
+    let a = c .before .before .before .before .before .before .before .before .before .before .before .before in
+    let s = a .args .s .now in
+    let tier = a .args .tier in
     let o = is-refused s (c .before .before .before .before .before .open-stream .ensures) (c .before .before .number .given .1) in
-    (early-answer s (lent (c .before .before .before .before .before .before .before .before .before .before .before .before)) (o .0) (o .1) (c .refuse .ensures), early-buffers s (lent (c .before .before .before .before .before .before .before .before .before .before .before .before)) (o .0) (o .1))
+    (early-answer s tier (lent a) (o .0) (o .1) (c .refuse .ensures), early-buffers s tier (lent a) (o .0) (o .1))
 
 same-length : tie.Need-same-length
 same-length c = search needs

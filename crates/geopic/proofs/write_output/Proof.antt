@@ -22,15 +22,18 @@ read : (s : List ℕ) → firstOf (early s) ≡ 0 → refusalOf s ≡ 0
 read s h = early-none s h .0
 
 -- 18 if a warning lacked room
-short : (j : tie.Joined1) → j .if1 .number ≡ cond (j .before .before .before .before .write-warnings .result .ok) 0 18
+short : (j : tie.Joined1) → j .if1 .number ≡ cond (j .before .before .before .before .before .write-warnings .result .ok) 0 18
 short j =
-    let ok = j .before .before .before .before .write-warnings .result .ok in
+    let ok = j .before .before .before .before .before .write-warnings .result .ok in
     ⊎-elim (λ w. rw (not-true ok (w .0 .taken)) (w .1)) (λ w. rw (not-false ok (w .0 .left)) (w .1)) (j .if1 .came)
 
 write-warnings-requires : tie.Need-write-warnings-requires
 write-warnings-requires c κs =
     let a = c .before .before .before .before .before .before .before in
     (a .pre .registrable, a .pre .controls)
+
+new-requires : tie.Need-new-requires
+new-requires c κs = search needs
 
 step-requires : tie.Need-step-requires
 step-requires c κs = search needs
@@ -43,9 +46,9 @@ flatten-requires c κs = search needs
 
 convert-requires : tie.Need-convert-requires
 convert-requires c κs =
-    let a = c .before .before .before .before .before .before .before .before .before .before .before .before .before .before .before .before .before .before .before in
-    let s = a .args .s .now in
-    (omega (arith, a .pre .registrable), begun s (lent a) (c .before .before .before .before .before .before .before .before .before .before .before .write-warnings .ensures) (short (c .before .before .before .before .before .before .before)) .fits, a .pre .registrable .surveyed .places-at)
+    let a = c .before .before .before .before .before .before .before .before .before .before .before .before .before .before .before .before .before .before .before .before in
+    let start = begun (a .args .s .now) (a .args .tier) (lent a) (c .before .before .before .before .before .before .before .before .before .before .before .before .write-warnings .ensures) (short (c .before .before .before .before .before .before .before)) (c .before .before .before .before .before .before .before .before .before .new .ensures) in
+    (omega (arith, a .pre .registrable), start .fits, a .pre .registrable .surveyed .places-at)
 
 same-length : tie.Need-same-length
 same-length c = search needs
@@ -61,14 +64,15 @@ same-length-4 c = search needs
 
 returns : tie.Need-returns
 returns c =
-    let a = c .before .before .before .before .before .before .before .before .before .before .before .before .before .before .before .before .before .before .before .before .before .before .before .before .before .before .before .before in
-    drawn (a .args .s .now) (lent a) (c .before .before .before .before .before .before .before .before .before .before .before .before .before .before .before .before .before .before .before .before .write-warnings .ensures) (short (c .before .before .before .before .before .before .before .before .before .before .before .before .before .before .before .before)) (a .pre .is) (c .before .before .before .before .before .before .before .before .before .before .before .before .before .before .projection-of .ensures) (c .before .before .before .before .before .before .before .before .before .before .before .before .before .before .before .step .ensures) (c .before .before .before .before .before .before .before .before .before .before .before .before .before .flatten .ensures) (c .before .before .before .before .before .before .before .before .convert .ensures)
+    let a = c .before .before .before .before .before .before .before .before .before .before .before .before .before .before .before .before .before .before .before .before .before .before .before .before .before .before .before .before .before in
+    drawn (a .args .s .now) (a .args .tier) (lent a) (c .before .before .before .before .before .before .before .before .before .before .before .before .before .before .before .before .before .before .before .before .before .write-warnings .ensures) (short (c .before .before .before .before .before .before .before .before .before .before .before .before .before .before .before .before)) (c .before .before .before .before .before .before .before .before .before .before .before .before .before .before .before .before .before .before .new .ensures) (a .pre .is) (c .before .before .before .before .before .before .before .before .before .before .before .before .before .before .projection-of .ensures) (c .before .before .before .before .before .before .before .before .before .before .before .before .before .before .before .step .ensures) (c .before .before .before .before .before .before .before .before .before .before .before .before .before .flatten .ensures) (c .before .before .before .before .before .before .before .before .convert .ensures)
 
 pub write-output-spec : {M : Type 1} → statement M
 write-output-spec =
     tie.close
     (tie.spec
     write-warnings-requires
+    new-requires
     step-requires
     projection-of-requires
     flatten-requires

@@ -29,13 +29,15 @@ use Rattle.register.specs.Laws.Kept.{controls-are}
 use Rattle.register.specs.Laws.Registrable.{is-registrable}
 use Rattle.values.specs.Contracts.Warnings.{WarningSlice, pushed, allPushed}
 use Rattle.budget.specs.declared.Budget.{Budget}
+use Rattle.budget.specs.Budget.{allowanceOf, fresh}
+use Rattle.budget.specs.Laws.Allowances.{allowance-most}
 use Rattle.values.specs.Slices.{put}
 use Rattle.geopic.specs.declared.Answer.{Answer}
 use Rattle.convert.specs.Convert.{onScreen, convertOf}
 use Rattle.strokes.specs.Strokes.{warned, Trace}
 use Rattle.strokes.specs.Space.{Output, outOfRoom, withWarning}
 use Rattle.strokes.specs.Contracts.Space.{outputBy, Fits, Applied}
-use Rattle.geopic.specs.Geopic.{fresh, ctxOf, traceOf, Buffers, unused, outputOf, early, conditions, numberOf, refusal, acceptance, answerOf, clear, sliceBy, buffersAfter}
+use Rattle.geopic.specs.Geopic.{ctxOf, traceOf, Buffers, unused, outputOf, early, conditions, numberOf, refusal, acceptance, answerOf, clear, sliceBy, buffersAfter}
 use Rattle.strokes.specs.Laws.Applying.{applied-no-events, applied-stuck, applied-then}
 use Rattle.strokes.specs.Laws.Events.{warned-fits, warned-lacks}
 use Rattle.geopic.specs.declared.Opened.{Opened}
@@ -111,22 +113,25 @@ module _ (s : List ℕ) where
   abbrev sc : Scene
   sc = sceneOf (payload s)
 
-  module _ (t : Buffers) {v : List ℕ} {w : WarningCursor} {number : ℕ} (told : record { out = v; cursor = w } ≡ allPushed (registerWarnings sc) (pushing (t .warnings) true 0))
-      (short : number ≡ cond (w .ok) 0 18) where
+  module _ (tier : ℕ) (t : Buffers) {v : List ℕ} {w : WarningCursor} {number : ℕ} {whole : Budget} (told : record { out = v; cursor = w } ≡ allPushed (registerWarnings sc) (pushing (t .warnings) true 0))
+      (short : number ≡ cond (w .ok) 0 18) (is : whole ≡ fresh (allowanceOf tier)) where
     -- the sheet with which the items begin
     abbrev begin : Output
-    begin = outputBy (length (t .work)) (t .positions) (t .features) v (record { number = number; positions = 0; features = 0; warnings = w .used; budget = fresh })
+    begin = outputBy (length (t .work)) (t .positions) (t .features) v (record { number = number; positions = 0; features = 0; warnings = w .used; budget = whole })
 
-    pub begun : Applied (telling (registerWarnings sc) fresh) (unused t) begin fresh
+    room : Fits (unused t) whole
+    room = record { positions = omega arith; features = omega arith; warnings = omega arith; left = rw is (omega (arith, allowance-most tier)) }
+
+    pub begun : Applied (telling (registerWarnings sc) whole) (unused t) begin whole
     begun =
         rw short
-        (subst (λ (r : Pushed). Applied (telling (registerWarnings sc) fresh) (unused t) (toldBy (unused t) r) fresh) (sym told)
-        (all-told (registerWarnings sc) fresh (unused t) refl (record { positions = omega arith; features = omega arith; warnings = omega arith; left = omega arith })))
+        (subst (λ (r : Pushed). Applied (telling (registerWarnings sc) whole) (unused t) (toldBy (unused t) r) whole) (sym told)
+        (all-told (registerWarnings sc) whole (unused t) refl room))
 
     pub drawn : {r : Registration} {p : Projection} {step tol : Float} {u : Output} {b : Budget} → r ≡ registrationOf sc → p ≡ projectionOf r → step ≡ sc .step → tol ≡ sc .flatten
-        → Applied (convertOf onScreen (record { projection = p; step = step; flatten = tol }) (itemsAt (payload s) 0) fresh) begin u b → Applied (traceOf sc) (unused t) u b
+        → Applied (convertOf onScreen (record { projection = p; step = step; flatten = tol }) (itemsAt (payload s) 0) whole) begin u b → Applied (traceOf (allowanceOf tier) sc) (unused t) u b
     unfolding traceOf
-    drawn e f g h d = applied-then (convertOf onScreen (ctxOf sc) (sc .items)) begun (rw (f, e, g, h, ← scene-lists (payload s) .3) at d)
+    drawn e f g h d = rw (← is) (applied-then (convertOf onScreen (ctxOf sc) (sc .items)) begun (rw (f, e, g, h, ← scene-lists (payload s) .3) at d))
 
 -- ---- what registration says
 module _ (sc : Scene) {o : Outcome} (e : o ≡ outcomeOf sc) where
@@ -146,8 +151,8 @@ module _ (sc : Scene) {o : Outcome} (e : o ≡ outcomeOf sc) where
   outcome-is h = outcome .1 (sym (outcome .0) ∙ h)
 
 -- ---- the answer and the slices
-module _ (s : List ℕ) (t : Buffers) where
-  refused : {n : ℕ} → numberOf s t ≡ n → (n ≡ 0 → ⊥) → {a : Answer} → a ≡ refusal n → a ≡ answerOf s t
+module _ (s : List ℕ) (tier : ℕ) (t : Buffers) where
+  refused : {n : ℕ} → numberOf s tier t ≡ n → (n ≡ 0 → ⊥) → {a : Answer} → a ≡ refusal n → a ≡ answerOf s tier t
   unfolding answerOf
   refused {n} is some e = rw (e, is, ne-eqb n 0 some)
 
@@ -156,50 +161,50 @@ module _ (s : List ℕ) (t : Buffers) where
     first : firstOf (early s) ≡ 0 → ⊥
     first z = some (is ∙ z)
 
-    pub early-answer : {a : Answer} → a ≡ refusal n → a ≡ answerOf s t
-    early-answer e = refused (by-early s t first ∙ sym is) some e
+    pub early-answer : {a : Answer} → a ≡ refusal n → a ≡ answerOf s tier t
+    early-answer e = refused (by-early s tier t first ∙ sym is) some e
 
-    pub early-buffers : t ≡ buffersAfter s t
+    pub early-buffers : t ≡ buffersAfter s tier t
     unfolding buffersAfter sliceBy
     early-buffers = rw (ne-eqb (firstOf (early s)) 0 first)
 
-  pub untouched : (firstOf (early s) ≡ 0 → ⊥) → buffersAfter s t ≡ t
+  pub untouched : (firstOf (early s) ≡ 0 → ⊥) → buffersAfter s tier t ≡ t
   untouched h = sym (early-buffers refl h)
 
-  pub cleared : firstOf (early s) ≡ 0 → (answerOf s t .number ≡ 0 → ⊥) → buffersAfter s t
+  pub cleared : firstOf (early s) ≡ 0 → (answerOf s tier t .number ≡ 0 → ⊥) → buffersAfter s tier t
       ≡ record { work = clear f0 (length (t .work)); positions = clear f0 (length (t .positions)); features = clear 0 (length (t .features)); warnings = clear 0 (length (t .warnings)) }
   unfolding buffersAfter sliceBy numberOf
-  cleared e h = rw (e, ne-eqb (firstOf (conditions s t)) 0 (λ z. h (number-is s t ∙ z)))
+  cleared e h = rw (e, ne-eqb (firstOf (conditions s tier t)) 0 (λ z. h (number-is s tier t ∙ z)))
 
-  module _ (none : firstOf (early s) ≡ 0) {u : Output} {b : Budget} (d : Applied (traceOf (sc s)) (unused t) u b) where
-    space : u .number ≡ outputOf (sc s) t .number
+  module _ (none : firstOf (early s) ≡ 0) {u : Output} {b : Budget} (d : Applied (traceOf (allowanceOf tier) (sc s)) (unused t) u b) where
+    space : u .number ≡ outputOf (allowanceOf tier) (sc s) t .number
     unfolding outputOf
     space = d .number
 
-    late-number : numberOf s t ≡ u .number
-    late-number = by-space s t none ∙ sym space
+    late-number : numberOf s tier t ≡ u .number
+    late-number = by-space s tier t none ∙ sym space
 
     -- something lacks room
     module _ (some : u .number ≡ 0 → ⊥) where
-      pub late-answer : {a : Answer} → a ≡ refusal (u .number) → a ≡ answerOf s t
+      pub late-answer : {a : Answer} → a ≡ refusal (u .number) → a ≡ answerOf s tier t
       late-answer e = refused late-number some e
 
       pub late-buffers : {w p : List Float} {f v : List ℕ} → w ≡ clear f0 (u .work) → p ≡ clear f0 (length (u .positions)) → f ≡ clear 0 (length (u .features)) → v ≡ clear 0 (length (u .warnings))
-          → record { work = w; positions = p; features = f; warnings = v } ≡ buffersAfter s t
+          → record { work = w; positions = p; features = f; warnings = v } ≡ buffersAfter s tier t
       unfolding buffersAfter sliceBy
       late-buffers work positions features warnings =
           rw (work, positions, features, warnings, d .work, d .positions, d .features, d .warnings, none, late-number, ne-eqb (u .number) 0 some)
 
     module _ (room : u .number ≡ 0) where
-      sheet : u ≡ outputOf (sc s) t
+      sheet : u ≡ outputOf (allowanceOf tier) (sc s) t
       unfolding outputOf
       sheet = d .same room
 
-      pub accepted-answer : {r : Registration} {a : Answer} → r ≡ registrationOf (sc s) → a ≡ acceptance r u b → a ≡ answerOf s t
+      pub accepted-answer : {r : Registration} {a : Answer} → r ≡ registrationOf (sc s) → a ≡ acceptance r u b → a ≡ answerOf s tier t
       unfolding answerOf
       accepted-answer e f = rw (late-number, eq-eqb (u .number) 0 room, ← e, ← sheet, ← d .after room) f
 
-      pub accepted-buffers : {w : List Float} → w ≡ clear f0 (u .work) → record { work = w; positions = u .positions; features = u .features; warnings = u .warnings } ≡ buffersAfter s t
+      pub accepted-buffers : {w : List Float} → w ≡ clear f0 (u .work) → record { work = w; positions = u .positions; features = u .features; warnings = u .warnings } ≡ buffersAfter s tier t
       unfolding buffersAfter sliceBy
       accepted-buffers e = rw (e, none, late-number, eq-eqb (u .number) 0 room, ← sheet, d .work)
 

@@ -18,6 +18,7 @@ use Rattle.register.specs.Register.{ofRegistration}
 use Rattle.register.specs.Contracts.Outcome.{registerRefusal}
 use Rattle.register.specs.Laws.Outcomes.{registration-numbered}
 use Rattle.values.specs.Points.{flats}
+use Rattle.budget.specs.Budget.{allowanceOf}
 use Rattle.strokes.specs.Strokes.{Event, drew, need, feature, warned}
 use Rattle.strokes.specs.Space.{Output, pickOutput, outOfRoom, withFeature, withWarning, apply, applyAll, ofSpace}
 use Rattle.geopic.specs.declared.Answer.{Answer}
@@ -92,35 +93,35 @@ module _ (s : List ℕ) where
   unfolding early
   early-none h = append-none (ofStream s) (ofRegistration sc) (stream-numbered s) h
 
-  module _ (t : Buffers) where
-    space-known : known (outputOf sc t .number) ≡ true
+  module _ (tier : ℕ) (t : Buffers) where
+    space-known : known (outputOf (allowanceOf tier) sc t .number) ≡ true
     unfolding outputOf
-    space-known = known-all (traceOf sc .events) (unused t) refl
+    space-known = known-all (traceOf (allowanceOf tier) sc .events) (unused t) refl
 
     -- an early condition decides, and else what lacks room
-    pub by-early : (firstOf (early s) ≡ 0 → ⊥) → numberOf s t ≡ firstOf (early s)
+    pub by-early : (firstOf (early s) ≡ 0 → ⊥) → numberOf s tier t ≡ firstOf (early s)
     unfolding numberOf conditions
-    by-early h = first-ahead (early s) (ofSpace (outputOf sc t)) early-numbered h
+    by-early h = first-ahead (early s) (ofSpace (outputOf (allowanceOf tier) sc t)) early-numbered h
 
-    pub by-space : firstOf (early s) ≡ 0 → numberOf s t ≡ outputOf sc t .number
+    pub by-space : firstOf (early s) ≡ 0 → numberOf s tier t ≡ outputOf (allowanceOf tier) sc t .number
     unfolding numberOf conditions
-    by-space h = first-behind (early s) (ofSpace (outputOf sc t)) early-numbered h ∙ space-first (outputOf sc t) space-known
+    by-space h = first-behind (early s) (ofSpace (outputOf (allowanceOf tier) sc t)) early-numbered h ∙ space-first (outputOf (allowanceOf tier) sc t) space-known
 
-    pub none-early : numberOf s t ≡ 0 → firstOf (early s) ≡ 0
+    pub none-early : numberOf s tier t ≡ 0 → firstOf (early s) ≡ 0
     unfolding numberOf conditions
-    none-early h = append-none (early s) (ofSpace (outputOf sc t)) early-numbered h .0
+    none-early h = append-none (early s) (ofSpace (outputOf (allowanceOf tier) sc t)) early-numbered h .0
 
     -- ---- the answer's number
-    pub number-is : answerOf s t .number ≡ firstOf (conditions s t)
+    pub number-is : answerOf s tier t .number ≡ firstOf (conditions s tier t)
     unfolding answerOf numberOf
-    number-is = picked _ (firstOf (conditions s t)) _ refl refl
+    number-is = picked _ (firstOf (conditions s tier t)) _ refl refl
 
-    pub none-number : NoneHolds (conditions s t) → answerOf s t .number ≡ 0
-    none-number h = number-is ∙ none-first (conditions s t) h
+    pub none-number : NoneHolds (conditions s tier t) → answerOf s tier t .number ≡ 0
+    none-number h = number-is ∙ none-first (conditions s tier t) h
 
-    numbered : Numbered (conditions s t)
+    numbered : Numbered (conditions s tier t)
     unfolding conditions
-    numbered = numbered-append (early s) (ofSpace (outputOf sc t)) early-numbered (space-numbered (outputOf sc t))
+    numbered = numbered-append (early s) (ofSpace (outputOf (allowanceOf tier) sc t)) early-numbered (space-numbered (outputOf (allowanceOf tier) sc t))
 
-    pub number-none : answerOf s t .number ≡ 0 → NoneHolds (conditions s t)
-    number-none h = first-none (conditions s t) numbered (sym number-is ∙ h)
+    pub number-none : answerOf s tier t .number ≡ 0 → NoneHolds (conditions s tier t)
+    number-none h = first-none (conditions s tier t) numbered (sym number-is ∙ h)

@@ -24,6 +24,7 @@ use Rattle.register.specs.Register as register
 use Rattle.register.specs.Register.{f0, isLon, stem, suffixLat, var, resolved, mentioned, eventOf, featureEvent, featureEvents, lonEvent, consIf, variableEvents, events, registrationOf, anchorOf, pxMode, halfAnchor, controlsOf, only, ignored, anyDeclared, ignoredWith, viewWarnings, halfWarnings, registerWarnings}
 use Rattle.values.specs.Warnings.{Warning}
 use Rattle.register.specs.Laws.Sound.{accepted-tame, accepted-sound}
+use Rattle.budget.specs.Budget.{allowanceOf, fresh}
 use Rattle.budget.specs.Draws.{leftAfter, Claim}
 use Rattle.budget.specs.Laws.Draws.{claim}
 use Rattle.densify.specs.Densify.{GrantedDraw}
@@ -34,11 +35,11 @@ use Rattle.strokes.specs.Features.{AllWellFormed, positionsIn, featuresIn, warn
 use Rattle.convert.specs.Laws.Draws.{trace-left, trace-hit, convert-replays, any-append, spent-warned}
 use Rattle.convert.specs.Laws.Features.{convert-well-formed}
 use Rattle.strokes.specs.Laws.Reading.{ReadBack, reads-back}
-use Rattle.geopic.specs.Geopic.{fresh, ctxOf, traceOf, Buffers, unused, outputOf, early, numberOf, acceptance, answerOf, clear, buffersAfter, sliceBy}
+use Rattle.geopic.specs.Geopic.{ctxOf, traceOf, Buffers, unused, outputOf, early, numberOf, acceptance, answerOf, clear, buffersAfter, sliceBy}
 use Rattle.geopic.specs.Laws.Conditions.{number-is, none-early, early-none, by-space}
 
 -- the registration's warnings draw nothing and give no feature
-warnings-draws : (ws : List Warning) (es : List Event) → drawsIn (map warned ws ++ es) ≡ drawsIn es
+pub warnings-draws : (ws : List Warning) (es : List Event) → drawsIn (map warned ws ++ es) ≡ drawsIn es
 unfolding drawsIn
 warnings-draws [] es = refl
 warnings-draws (w ∷ ws) es = warnings-draws ws es
@@ -124,6 +125,33 @@ register-no-six sc =
     (append-no-six (register.warningsIn (events sc)) (halfWarnings sc ++ last) (events-no-six sc)
     (append-no-six (halfWarnings sc) last (half-no-six sc) (ignored-no-six (length (controlsOf sc)) sc)))
 
+-- ---- a scene drawn from any allowance
+module _ (sc : Scene) (allowance : ℕ) where
+  draws-are : drawsIn (traceOf allowance sc .events) ≡ drawsIn (convertOf onScreen (ctxOf sc) (sc .items) (fresh allowance) .events)
+  unfolding traceOf
+  draws-are = warnings-draws (registerWarnings sc) _
+
+  pub scene-claim : Claim allowance (drawsOf (drawsIn (traceOf allowance sc .events)))
+  scene-claim = claim allowance (drawsOf (drawsIn (traceOf allowance sc .events)))
+
+  pub scene-grants : Granted (fresh allowance) (drawsIn (traceOf allowance sc .events))
+  scene-grants = rw draws-are (convert-replays onScreen (ctxOf sc) (sc .items) (fresh allowance) .grants)
+
+  pub left-is : traceOf allowance sc .after .left ≡ leftAfter allowance (drawsOf (drawsIn (traceOf allowance sc .events)))
+  unfolding traceOf
+  left-is = trace-left (convert-replays onScreen (ctxOf sc) (sc .items) (fresh allowance)) ∙ ap (λ (ds : List GrantedDraw). leftAfter allowance (drawsOf ds)) (sym draws-are)
+
+  pub hit-is : traceOf allowance sc .after .hit ≡ fellShort (drawsIn (traceOf allowance sc .events))
+  unfolding traceOf
+  hit-is = trace-hit (convert-replays onScreen (ctxOf sc) (sc .items) (fresh allowance)) ∙ ap fellShort (sym draws-are)
+
+  warning-is : anyOfKind 6 (warningsIn (traceOf allowance sc .events)) ≡ traceOf allowance sc .after .hit
+  unfolding traceOf
+  warning-is =
+      ap (anyOfKind 6) (warnings-warnings (registerWarnings sc) _)
+      ∙ any-append 6 (registerWarnings sc) _
+      ∙ rw (register-no-six sc) (spent-warned onScreen (ctxOf sc) (sc .items) (fresh allowance))
+
 -- ---- a step that condition 19 lets pass
 within-bounds : (x : Float64) → isFinite x ≡ true → outsideBounds x ≡ false → (x ≡ Finite (valueOf x)) × (lt (valueOf x) one ≡ false) × (lt thousand (valueOf x) ≡ false)
 unfolding isFinite outsideBounds valueOf
@@ -138,101 +166,79 @@ module _ (s : List ℕ) where
   abbrev sc : Scene
   sc = sceneOf (payload s)
 
-  draws-are : drawsIn (traceOf sc .events) ≡ drawsIn (convertOf onScreen (ctxOf sc) (sc .items) fresh .events)
-  unfolding traceOf
-  draws-are = warnings-draws (registerWarnings sc) _
-
-  pub scene-claim : Claim 2000000 (drawsOf (drawsIn (traceOf sc .events)))
-  scene-claim = claim 2000000 (drawsOf (drawsIn (traceOf sc .events)))
-
   pub scene-geo : (p : Point) → projectPoint (ctxOf sc .projection) p ≡ (let g = geoOf (registrationOf sc) (p .x) (p .y) in record { x = g .lon; y = g .lat })
   unfolding projectPoint
   scene-geo p = rw geo-projects
 
-  pub scene-grants : Granted fresh (drawsIn (traceOf sc .events))
-  scene-grants = rw draws-are (convert-replays onScreen (ctxOf sc) (sc .items) fresh .grants)
+  module _ (tier : ℕ) (t : Buffers) (h : answerOf s tier t .number ≡ 0) where
+    abbrev allowance : ℕ
+    allowance = allowanceOf tier
 
-  left-is : traceOf sc .after .left ≡ leftAfter 2000000 (drawsOf (drawsIn (traceOf sc .events)))
-  unfolding traceOf
-  left-is = trace-left (convert-replays onScreen (ctxOf sc) (sc .items) fresh) ∙ ap (λ (ds : List GrantedDraw). leftAfter 2000000 (drawsOf ds)) (sym draws-are)
-
-  hit-is : traceOf sc .after .hit ≡ fellShort (drawsIn (traceOf sc .events))
-  unfolding traceOf
-  hit-is = trace-hit (convert-replays onScreen (ctxOf sc) (sc .items) fresh) ∙ ap fellShort (sym draws-are)
-
-  warning-is : anyOfKind 6 (warningsIn (traceOf sc .events)) ≡ traceOf sc .after .hit
-  unfolding traceOf
-  warning-is =
-      ap (anyOfKind 6) (warnings-warnings (registerWarnings sc) _)
-      ∙ any-append 6 (registerWarnings sc) _
-      ∙ rw (register-no-six sc) (spent-warned onScreen (ctxOf sc) (sc .items) fresh)
-
-  module _ (t : Buffers) (h : answerOf s t .number ≡ 0) where
-    is-number : numberOf s t ≡ 0
+    is-number : numberOf s tier t ≡ 0
     unfolding numberOf
-    is-number = sym (number-is s t) ∙ h
+    is-number = sym (number-is s tier t) ∙ h
 
     is-early : firstOf (early s) ≡ 0
-    is-early = none-early s t is-number
+    is-early = none-early s tier t is-number
 
     -- ---- the events
-    pub scene-well-formed : AllWellFormed (featuresIn (traceOf sc .events))
+    pub scene-well-formed : AllWellFormed (featuresIn (traceOf allowance sc .events))
     unfolding traceOf
     scene-well-formed =
         let read = early-none s is-early .0 in
         let registered = early-none s is-early .1 in
         rw (warnings-features (registerWarnings sc))
-        (convert-well-formed onScreen (registrationOf sc) (sc .step) (sc .flatten) (sc .items) fresh (accepted-sound s read registered) (accepted-tame s read .points .items))
+        (convert-well-formed onScreen (registrationOf sc) (sc .step) (sc .flatten) (sc .items) (fresh allowance) (accepted-sound s read registered) (accepted-tame s read .points .items))
 
     pub scene-step : (stepIn (payload s) ≡ Finite (sc .step)) × (lt (sc .step) one ≡ false) × (lt thousand (sc .step) ≡ false)
     unfolding sceneOf
     scene-step = let read = early-none s is-early .0 in within-bounds (stepIn (payload s)) (is-finite-step s read) (is-step s read)
 
     -- ---- the answer
-    answer-is : answerOf s t ≡ acceptance (registrationOf sc) (outputOf sc t) (traceOf sc .after)
+    pub answer-is : answerOf s tier t ≡ acceptance (registrationOf sc) (outputOf allowance sc t) (traceOf allowance sc .after)
     unfolding answerOf
-    answer-is = rw (eq-eqb (numberOf s t) 0 is-number)
+    answer-is = rw (eq-eqb (numberOf s tier t) 0 is-number)
 
-    pub scene-left : answerOf s t .left ≡ leftAfter 2000000 (drawsOf (drawsIn (traceOf sc .events)))
-    scene-left = rw answer-is left-is
+    pub scene-left : answerOf s tier t .left ≡ leftAfter allowance (drawsOf (drawsIn (traceOf allowance sc .events)))
+    scene-left = rw answer-is (left-is sc allowance)
 
-    pub scene-spent : answerOf s t .spent ≡ cond (fellShort (drawsIn (traceOf sc .events))) 1 0
-    scene-spent = rw (answer-is, hit-is)
+    pub scene-spent : answerOf s tier t .spent ≡ cond (fellShort (drawsIn (traceOf allowance sc .events))) 1 0
+    scene-spent = rw (answer-is, hit-is sc allowance)
 
     -- ---- the slices
-    buffers-is : buffersAfter s t ≡ record { work = clear f0 (length (t .work)); positions = outputOf sc t .positions; features = outputOf sc t .features; warnings = outputOf sc t .warnings }
+    buffers-is : buffersAfter s tier t ≡ record { work = clear f0 (length (t .work)); positions = outputOf allowance sc t .positions; features = outputOf allowance sc t .features; warnings = outputOf allowance sc t .warnings }
     unfolding buffersAfter sliceBy
     buffers-is = rw (is-early, is-number)
 
-    output-number : outputOf sc t .number ≡ 0
-    output-number = sym (by-space s t is-early) ∙ is-number
+    output-number : outputOf allowance sc t .number ≡ 0
+    output-number = sym (by-space s tier t is-early) ∙ is-number
 
-    read-back : ReadBack (traceOf sc .events) (unused t) (outputOf sc t)
+    read-back : ReadBack (traceOf allowance sc .events) (unused t) (outputOf allowance sc t)
     unfolding outputOf
-    read-back = reads-back (traceOf sc .events) (unused t) refl refl refl scene-well-formed output-number
+    read-back = reads-back (traceOf allowance sc .events) (unused t) refl refl refl scene-well-formed output-number
 
-    pub scene-features : featuresAt (buffersAfter s t .features) (buffersAfter s t .positions) 0 0 (answerOf s t .features) ≡ featuresIn (traceOf sc .events)
+    pub scene-features : featuresAt (buffersAfter s tier t .features) (buffersAfter s tier t .positions) 0 0 (answerOf s tier t .features) ≡ featuresIn (traceOf allowance sc .events)
     scene-features = rw (buffers-is, answer-is) (read-back .features)
 
-    pub formed-read : AllWellFormed (featuresAt (buffersAfter s t .features) (buffersAfter s t .positions) 0 0 (answerOf s t .features))
+    pub formed-read : AllWellFormed (featuresAt (buffersAfter s tier t .features) (buffersAfter s tier t .positions) 0 0 (answerOf s tier t .features))
     formed-read = rw scene-features scene-well-formed
 
-    pub scene-warnings : warningsAt (buffersAfter s t .warnings) 0 (answerOf s t .warnings) ≡ warningsIn (traceOf sc .events)
+    pub scene-warnings : warningsAt (buffersAfter s tier t .warnings) 0 (answerOf s tier t .warnings) ≡ warningsIn (traceOf allowance sc .events)
     scene-warnings = rw (buffers-is, answer-is) (read-back .warnings)
 
-    pub scene-six : anyOfKind 6 (warningsAt (buffersAfter s t .warnings) 0 (answerOf s t .warnings)) ≡ fellShort (drawsIn (traceOf sc .events))
-    scene-six = ap (anyOfKind 6) scene-warnings ∙ warning-is ∙ hit-is
+    pub scene-six : anyOfKind 6 (warningsAt (buffersAfter s tier t .warnings) 0 (answerOf s tier t .warnings)) ≡ fellShort (drawsIn (traceOf allowance sc .events))
+    scene-six = ap (anyOfKind 6) scene-warnings ∙ warning-is sc allowance ∙ hit-is sc allowance
 
     -- ---- the counts, and what stands behind what is used
-    pub scene-counts : (answerOf s t .positions ≡ length (positionsIn (featuresIn (traceOf sc .events)))) × (answerOf s t .features ≡ length (featuresIn (traceOf sc .events)))
-        × (answerOf s t .warnings ≡ length (warningsIn (traceOf sc .events)))
+    pub scene-counts : (answerOf s tier t .positions ≡ length (positionsIn (featuresIn (traceOf allowance sc .events)))) × (answerOf s tier t .features ≡ length (featuresIn (traceOf allowance sc .events)))
+        × (answerOf s tier t .warnings ≡ length (warningsIn (traceOf allowance sc .events)))
     scene-counts = rw answer-is (omega (arith, read-back .usedPositions), omega (arith, read-back .usedFeatures), omega (arith, read-back .usedWarnings))
 
-    pub scene-tails : (drop (2 * answerOf s t .positions) (buffersAfter s t .positions) ≡ drop (2 * answerOf s t .positions) (t .positions))
-        × (drop (6 * answerOf s t .features) (buffersAfter s t .features) ≡ drop (6 * answerOf s t .features) (t .features))
-        × (drop (2 * answerOf s t .warnings) (buffersAfter s t .warnings) ≡ drop (2 * answerOf s t .warnings) (t .warnings))
+    pub scene-tails : (drop (2 * answerOf s tier t .positions) (buffersAfter s tier t .positions) ≡ drop (2 * answerOf s tier t .positions) (t .positions))
+        × (drop (6 * answerOf s tier t .features) (buffersAfter s tier t .features) ≡ drop (6 * answerOf s tier t .features) (t .features))
+        × (drop (2 * answerOf s tier t .warnings) (buffersAfter s tier t .warnings) ≡ drop (2 * answerOf s tier t .warnings) (t .warnings))
     scene-tails =
-        let p : 2 * (outputOf sc t .usedPositions / 2) ≡ outputOf sc t .usedPositions = omega (arith, read-back .usedPositions) in
-        let f : 6 * (outputOf sc t .usedFeatures / 6) ≡ outputOf sc t .usedFeatures = omega (arith, read-back .usedFeatures) in
-        let w : 2 * (outputOf sc t .usedWarnings / 2) ≡ outputOf sc t .usedWarnings = omega (arith, read-back .usedWarnings) in
+        let p : 2 * (outputOf allowance sc t .usedPositions / 2) ≡ outputOf allowance sc t .usedPositions = omega (arith, read-back .usedPositions) in
+        let f : 6 * (outputOf allowance sc t .usedFeatures / 6) ≡ outputOf allowance sc t .usedFeatures = omega (arith, read-back .usedFeatures) in
+        let w : 2 * (outputOf allowance sc t .usedWarnings / 2) ≡ outputOf allowance sc t .usedWarnings = omega (arith, read-back .usedWarnings) in
         rw (buffers-is, answer-is, p, f, w) (read-back .tailPositions, read-back .tailFeatures, read-back .tailWarnings)

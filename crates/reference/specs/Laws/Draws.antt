@@ -1,11 +1,10 @@
 -- The draws of three scenes by the definitions: they are those that the Rust with the stand-ins makes. The second has a step of its own, the third is drawn from five small allowances.
 use mathlib.Core.Path.{_≡_, refl}
-use mathlib.Core.Bool.{false, cond}
+use mathlib.Core.Bool.{cond}
 use mathlib.Core.List.{List, [], _∷_}
 use Prim.Native.Nat.{ℕ}
 use Rattle.scene.specs.Scene as scene
 use Rattle.densify.specs.Densify as densify
-use Rattle.convert.specs.Convert as convert
 use Rattle.strokes.specs.Strokes as strokes
 use Rattle.geopic.specs.Geopic as geopic
 use Rattle.reference.specs.Laws.Everything.{everything}
@@ -16,21 +15,15 @@ abbrev told : List densify.GrantedDraw → List ℕ
 told [] = []
 told (d ∷ ds) = d .want ∷ d .floor ∷ d .granted ∷ cond (d .cut) 1 0 ∷ told ds
 
--- by the whole call, which allows 2,000,000
-abbrev drawn : List ℕ → List ℕ
-drawn records = told (strokes.drawsIn (geopic.traceOf (scene.sceneOf records) .events))
-
--- by its items alone, from so many
+-- those of a scene from an allowance
 abbrev drawn-from : ℕ → List ℕ → List ℕ
-drawn-from left records =
-    let sc = scene.sceneOf records in
-    told (strokes.drawsIn (convert.convertOf convert.onScreen (geopic.ctxOf sc) (sc .items) (record { left = left; hit = false }) .events))
+drawn-from allowance records = told (strokes.drawsIn (geopic.traceOf allowance (scene.sceneOf records) .events))
 
-pub draws-2000000 : drawn every-producer ≡ all from-2000000
+pub draws-2000000 : drawn-from 2000000 every-producer ≡ all from-2000000
 unfolding everything
 draws-2000000 = refl
 
-pub draws-in-steps : drawn in-steps ≡ all in-steps-from-2000000
+pub draws-in-steps : drawn-from 2000000 in-steps ≡ all in-steps-from-2000000
 unfolding everything
 draws-in-steps = refl
 

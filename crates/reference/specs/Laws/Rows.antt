@@ -14,8 +14,7 @@ use Rattle.values.specs.declared.Point.{Point}
 use Rattle.values.specs.Maybe.{Maybe, none, some}
 use Rattle.scene.specs.Labels.{pointOfLabel}
 use Rattle.register.specs.Contracts.Outcome.{registerRefusal}
-use Rattle.budget.specs.declared.Budget.{Budget}
-use Rattle.budget.specs.Budget.{takeOf}
+use Rattle.budget.specs.Budget.{fresh, takeOf}
 use Rattle.densify.specs.Densify.{Block, segmentParts, boxRingOf, flattenCubicOf, densifyPolylineOf}
 use Rattle.reference.specs.Laws.Everything.{everything}
 
@@ -45,9 +44,6 @@ is v w = eqb (toBits binary64 v) w
 
 abbrev alike : Bool → Bool → Bool
 alike a b = cond a b (not b)
-
-abbrev from : ℕ → Budget
-from left = record { left = left; hit = false }
 
 abbrev origin : Point
 origin = record { x = K.zero; y = K.zero }
@@ -79,18 +75,18 @@ named-A l = let s = sceneOf (l ++ 0 ∷ []) in pointOfLabel (65 ∷ []) (s .plac
 
 abbrev pub holds : Row → Bool
 holds (draw left wanted floor grant rest short) =
-    let t = takeOf (from left) wanted floor in
+    let t = takeOf (fresh left) wanted floor in
     eqb (t .granted) grant && eqb (t .budget .left) rest && alike (t .budget .hit) short
 holds (segment metres parts) = eqb (segmentParts c100 (f metres)) parts
 holds (rounded v w) = is (roundOf (f v)) w
 holds (normalised v w) = is (normalizeLonOf (f v)) w
 holds (label l x) = isAt (named-A l) x
 holds (sharp w h n) =
-    let ring = boxRingOf c100 K.one c0001 origin (f w) (f h) K.zero (from 2000000) in
+    let ring = boxRingOf c100 K.one c0001 origin (f w) (f h) K.zero (fresh 2000000) in
     eqb (length (densifyPolylineOf c100 K.one (ring .points) (ring .after) .points)) n
 holds (refused l n) = eqb (registerRefusal (sceneOf (l ++ 0 ∷ []))) n
 holds (cubic left points short) =
-    let m = flattenCubicOf c0001 bent (from left) in
+    let m = flattenCubicOf c0001 bent (fresh left) in
     eqb (length (m .points)) points && alike (m .after .hit) short
 
 abbrev pub allHold : List Row → Bool

@@ -1,4 +1,4 @@
--- Document 01's reference sheet: the host's call on its stream, computed from the definitions. Two refused calls beside it: one for want of room, one early.
+-- Document 01's reference sheet: the host's call on its stream in the larger tier, as `place` makes it, computed from the definitions. Beside it the entry tier, and two refused calls: one for want of room, one early.
 use mathlib.Core.Path.{_≡_, refl}
 use mathlib.Core.Bool.{Bool, true, false, _&&_}
 use mathlib.Core.List.{List, [], _∷_, _++_}
@@ -66,27 +66,32 @@ ring = m ∷ m ∷ o ∷ m ∷ p ∷ m ∷ p ∷ o ∷ p ∷ p ∷ o ∷ p ∷ m
 
 pub sheet :
     -- R 0 0, 9 positions, 1 feature line, B 1999988 0
-    (answerOf stream lent ≡ record { number = 0; method = 0; controls = 0; spent = 0; positions = 9; features = 1; warnings = 0; left = 1999988 })
+    (answerOf stream 1 lent ≡ record { number = 0; method = 0; controls = 0; spent = 0; positions = 9; features = 1; warnings = 0; left = 1999988 })
     -- work is cleared
-    × (buffersAfter stream lent .work ≡ replicate 32 o)
+    × (buffersAfter stream 1 lent .work ≡ replicate 32 o)
     -- the P lines, and the rest of the slice as it was
-    × (agree (take 18 (buffersAfter stream lent .positions)) ring ≡ true)
-    × (drop 18 (buffersAfter stream lent .positions) ≡ replicate 14 (whole 12))
+    × (agree (take 18 (buffersAfter stream 1 lent .positions)) ring ≡ true)
+    × (drop 18 (buffersAfter stream 1 lent .positions) ≡ replicate 14 (whole 12))
     -- F 0 2 0 0 0 9, and the rest of the slice as it was
-    × (buffersAfter stream lent .features ≡ 0 ∷ 2 ∷ 0 ∷ 0 ∷ 0 ∷ 9 ∷ replicate 6 13)
+    × (buffersAfter stream 1 lent .features ≡ 0 ∷ 2 ∷ 0 ∷ 0 ∷ 0 ∷ 9 ∷ replicate 6 13)
     -- no W line, and the slice as it was
-    × (buffersAfter stream lent .warnings ≡ replicate 4 14)
+    × (buffersAfter stream 1 lent .warnings ≡ replicate 4 14)
 unfolding everything
 sheet = (refl, refl, refl, refl, refl, refl)
 
+-- in the entry tier: the same but for what is left
+pub entry-sheet : answerOf stream 0 lent ≡ record { number = 0; method = 0; controls = 0; spent = 0; positions = 9; features = 1; warnings = 0; left = 19988 }
+unfolding everything
+entry-sheet = refl
+
 -- with a word too few for the feature line: 17, and every slice is cleared
 pub no-room :
-    (answerOf stream (buffers-with 5) ≡ refusal 17)
-    × (buffersAfter stream (buffers-with 5) ≡ record { work = replicate 32 o; positions = replicate 32 o; features = replicate 5 0; warnings = replicate 4 0 })
+    (answerOf stream 1 (buffers-with 5) ≡ refusal 17)
+    × (buffersAfter stream 1 (buffers-with 5) ≡ record { work = replicate 32 o; positions = replicate 32 o; features = replicate 5 0; warnings = replicate 4 0 })
 unfolding everything
 no-room = (refl, refl)
 
 -- without a frame: 7, and every slice is as it was
-pub no-frame : (answerOf (stream-with []) lent ≡ refusal 7) × (buffersAfter (stream-with []) lent ≡ lent)
+pub no-frame : (answerOf (stream-with []) 1 lent ≡ refusal 7) × (buffersAfter (stream-with []) 1 lent ≡ lent)
 unfolding everything
 no-frame = (refl, refl)

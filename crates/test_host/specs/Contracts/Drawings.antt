@@ -5,14 +5,10 @@ use mathlib.Core.List.{List}
 use lib.Dec.{leb}
 use lib.Ieee.{Float}
 use Rattle.scene.specs.declared.readers.Path.{Path}
-use Rattle.budget.specs.declared.Budget.{Budget}
 use Rattle.densify.specs.declared.append.PointCursor.{PointCursor}
 use Rattle.densify.specs.Densify.{Made}
 use Rattle.densify.specs.Contracts.Written.{Written}
 use Rattle.test_host.specs.declared.densify_calls.Drawing.{Drawing}
-
-abbrev pub fresh : ℕ → Budget
-fresh left = record { left = left; hit = false }
 
 abbrev pub doneBy : Drawing → PointCursor
 doneBy r = record { ok = r .ok; at = r .at; budget = record { left = r .left; hit = r .hit } }
