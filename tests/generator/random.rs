@@ -17,15 +17,13 @@ fn seeded(seed: u64) -> Random {
 pub fn case(seed: u64) -> Case {
     let mut r = seeded(seed);
     let step = step(&mut seeded(seed ^ STEPS));
-    let mut doc = scene(&mut r, step);
-    if let Some(first) = first(&mut seeded(seed ^ EATERS), &doc) {
-        doc.items.insert(0, first);
-    }
+    let plain = scene(&mut r, step);
+    let doc = with_eater(&mut seeded(seed ^ EATERS), &plain);
     let name = format!("seed-{seed}");
     match r.below(20) {
         0..=11 => Case::doc(name, &doc),
         12 | 13 => Case::doc(name, &doc).with(|c| small_sizes(&mut r, c)),
-        14 | 15 => Case::doc(name, &doc).with(|c| {
+        14 | 15 => Case::doc(name, &plain).with(|c| {
             c.allowance = Some([r.below(20), r.below(400)][r.below(2)]);
         }),
         _ => Case::place(name, damage::damaged(&mut r, &doc)),
@@ -51,14 +49,18 @@ fn step(r: &mut Random) -> Option<f64> {
 /// Eaters have a sequence of their own, as steps have.
 const EATERS: u64 = 0x3c8f_61d2_b7e0_945a;
 
-/// In one scene of four that is wide enough, an eater that takes about the entry
-/// tier's allowance where the scale is the declared one.
-fn first(r: &mut Random, doc: &Doc) -> Option<Item> {
+/// One scene of four, where it is wide enough, begins with an eater that takes
+/// about the entry tier's allowance if the scale is the declared one.
+fn with_eater(r: &mut Random, doc: &Doc) -> Doc {
     let most = r.pick(&[8.0, 80.0, 400.0]);
     let parts = 20_000.0 - r.between(-most / 8.0, most).round();
     let declared = doc.scale.or(doc.vars.get("geo_scale").copied()).unwrap_or(100.0);
     let inches = (parts - 0.5) * doc.step.unwrap_or(100.0) * doc.rescale / declared;
-    (r.chance(4) && (0.0..=1e6).contains(&inches)).then(|| eater(inches))
+    let mut doc = doc.clone();
+    if r.chance(4) && (0.0..=1e6).contains(&inches) {
+        doc.items.insert(0, eater(inches));
+    }
+    doc
 }
 
 fn small_sizes(r: &mut Random, c: &mut Case) {

@@ -112,7 +112,7 @@ REPORTS = {
             "use crate::register::Registration;\n",
             "use crate::record::{self, Producer};\nuse crate::register::Registration;\n",
         ),
-        # The allowance to start from is a parameter of the tests.
+        # The allowance to start from is the tier's, or another that the tests name.
         (1, "left: MAX_VERTICES,", "left: record::allowance(),"),
         # The sheet's step takes the constant's place.
         (1, "len_m / MAX_STEP_M", "len_m / record::step()"),

@@ -156,8 +156,7 @@ pub change-viii-mark : (s : List ℕ) (tier : ℕ) (t : Buffers) → answerOf s 
 change-viii-mark s tier t h = spent-six s tier t h
 
 -- A stream that is accepted in the entry tier, and without warning 6 ..
-module _ (s : List ℕ) (t : Buffers) (tier : ℕ) (h : answerOf s 0 t .number ≡ 0)
-    (six : anyOfKind 6 (warningsAt (buffersAfter s 0 t .warnings) 0 (answerOf s 0 t .warnings)) ≡ false) where
+module _ (s : List ℕ) (t : Buffers) (h : answerOf s 0 t .number ≡ 0) (six : anyOfKind 6 (warningsAt (buffersAfter s 0 t .warnings) 0 (answerOf s 0 t .warnings)) ≡ false) (tier : ℕ) where
   -- .. has equal features in every tier ..
   pub change-viii : featuresAt (buffersAfter s tier t .features) (buffersAfter s tier t .positions) 0 0 (answerOf s tier t .features)
       ≡ featuresAt (buffersAfter s 0 t .features) (buffersAfter s 0 t .positions) 0 0 (answerOf s 0 t .features)

@@ -1,7 +1,6 @@
 -- Rows 1 to 3 of document 01's table.
 use mathlib.Core.Path.{_≡_, refl}
 use mathlib.Core.Bool.{true, false}
-use Prim.Native.Nat.{ℕ}
 use Rattle.budget.specs.Budget.{fresh, grantOf, takeOf}
 
 taken :

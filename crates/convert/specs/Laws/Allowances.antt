@@ -10,8 +10,8 @@ use Rattle.scene.specs.Scene.{DrawnPath, DrawnItem}
 use Rattle.values.specs.declared.Point.{Point}
 use Rattle.values.specs.Maybe.{Maybe, none, some, orValue}
 use Rattle.projection.specs.Projection.{projectPoint}
-use Rattle.densify.specs.Densify.{GrantedDraw, Made, closeRingOf}
-use Rattle.densify.specs.Laws.Allowances.{NoLess, SameMade, Enough, Keeps, enough-append, path-keeps, densify-keeps, ellipse-keeps, box-keeps}
+use Rattle.densify.specs.Densify.{Made, closeRingOf}
+use Rattle.densify.specs.Laws.Allowances.{NoLess, Enough, Keeps, enough-append, path-keeps, densify-keeps, ellipse-keeps, box-keeps}
 use Rattle.convert.specs.declared.shapes.Shape.{Shape}
 use Rattle.convert.specs.declared.shapes.Shape.the-variants.{Box, Ellipse, Circle, Dot, Points, Paths, Missing, Nothing}
 use Rattle.strokes.specs.declared.state.Ctx.{Ctx}

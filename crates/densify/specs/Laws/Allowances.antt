@@ -1,7 +1,7 @@
 -- A producer whose draws did not fall short makes the same points and the same draws where more is left.
 use Prim.Native.Nat.{ℕ, zero, suc, _*_, _/_, _≤_}
 use mathlib.Core.Path.{_≡_, refl, sym, ap, _∙_}
-use mathlib.Core.Bool.{Bool, true, false, not, _&&_, _||_, or-false, or-assoc, false≢true}
+use mathlib.Core.Bool.{Bool, true, false, not, _&&_, _||_, or-assoc, false≢true}
 use mathlib.Core.List.{List, [], _∷_, _++_}
 use native.Mathlib.Omega.{arith}
 use lib.Dec.{ltb}
@@ -38,9 +38,9 @@ abbrev pub KeepsFrom : (Budget → Made) → Type 0
 KeepsFrom f = (a b : Budget) → NoLess a b → Keeps (f a) (f b)
 
 -- ---- lists of draws
-neither : (x y : Bool) → x || y ≡ false → (x ≡ false) × (y ≡ false)
-neither true y h = absurd (false≢true (sym h))
-neither false y h = (refl, h)
+pub both-false : (x y : Bool) → x || y ≡ false → (x ≡ false) × (y ≡ false)
+both-false true y h = absurd (false≢true (sym h))
+both-false false y h = (refl, h)
 
 short-append : (ds es : List GrantedDraw) → fellShort (ds ++ es) ≡ fellShort ds || fellShort es
 unfolding fellShort
@@ -48,11 +48,16 @@ short-append [] es = refl
 short-append (d ∷ ds) es = simp (short-append ds es, or-assoc)
 
 pub enough-append : (ds es : List GrantedDraw) → Enough (ds ++ es) → Enough ds × Enough es
-enough-append ds es h = neither (fellShort ds) (fellShort es) (sym (short-append ds es) ∙ h)
+enough-append ds es h = both-false (fellShort ds) (fellShort es) (sym (short-append ds es) ∙ h)
+
+-- such a draw was not cut, and was granted what it wanted
+enough-draw : (d : GrantedDraw) → Enough (d ∷ []) → (d .cut ≡ false) × (ltb (d .granted) (d .want) ≡ false)
+unfolding fellShort
+enough-draw d h = both-false (d .cut) (ltb (d .granted) (d .want)) (both-false (d .cut || ltb (d .granted) (d .want)) false h .0)
 
 -- ---- what a producer is made of
 module _ (a b : Budget) (n : NoLess a b) (want floor : ℕ) (h : ltb (grantOf (a .left) want floor) want ≡ false) where
-  pub same-grant : grantOf (b .left) want floor ≡ grantOf (a .left) want floor
+  same-grant : grantOf (b .left) want floor ≡ grantOf (a .left) want floor
   unfolding grantOf
   same-grant = omega (arith, n .left, ltb-false (grantOf (a .left) want floor) want h)
 
@@ -60,13 +65,13 @@ module _ (a b : Budget) (n : NoLess a b) (want floor : ℕ) (h : ltb (grantOf (a
   unfolding takeOf
   take-keeps = record { left = omega (arith, n .left, same-grant); hit = rw (same-grant, n .hit) }
 
-pub plain-keeps : (ps : List Point) → KeepsFrom (withoutDraws ps)
+plain-keeps : (ps : List Point) → KeepsFrom (withoutDraws ps)
 plain-keeps ps a b n h = record { points = refl; draws = refl; after = n }
 
 draw-keeps : (want floor : ℕ) (f : ℕ → List Point) → KeepsFrom (λ (b : Budget). withDraw b want floor f)
-unfolding takeOf fellShort
+unfolding takeOf
 draw-keeps want floor f a b n h =
-    let e = neither (ltb (grantOf (a .left) want floor) want) false h .0 in
+    let e = enough-draw _ h .1 in
     let same = same-grant a b n want floor e in
     record { points = ap f same; draws = rw same; after = take-keeps a b n want floor e }
 
@@ -80,16 +85,15 @@ not-cut false x y l h = go (ltb y 2) refl
     go false e = refl
 
 leaf-keeps : (flat : Bool) (p : Point) → KeepsFrom (leafOf flat p)
-unfolding leafOf takeOf fellShort
+unfolding leafOf takeOf
 leaf-keeps flat p a b n h =
-    let granted = grantOf (a .left) 1 1 in
-    let e = neither (not flat && ltb (a .left) 2) (ltb granted 1) (neither (not flat && ltb (a .left) 2 || ltb granted 1) false h .0) in
+    let e = enough-draw _ h in
     let same = same-grant a b n 1 1 (e .1) in
     let cut = not-cut flat (a .left) (b .left) (n .left) (e .0) in
     let after = take-keeps a b n 1 1 (e .1) in
     record { points = refl; draws = rw (same, cut, e .0); after = record { left = after .left; hit = rw (cut, e .0, same, n .hit) } }
 
-pub then-keeps : {m n : Made} {f : Budget → Made} → Keeps m n → KeepsFrom f → Keeps (andThen m f) (andThen n f)
+then-keeps : {m n : Made} {f : Budget → Made} → Keeps m n → KeepsFrom f → Keeps (andThen m f) (andThen n f)
 then-keeps {m} {n} {f} k g h =
     let e = enough-append (m .draws) (f (m .after) .draws) h in
     let first = k (e .0) in
@@ -108,12 +112,12 @@ pick-keeps false j k h = k h
 -- a piece that is not flat is split, or it is cut and falls short
 halves-keep : (flat : Bool) (p : Point) (a b : Budget) {m n : Made} → NoLess a b → Keeps m n
     → Keeps (pickMade (flat || ltb (a .left) 2) (leafOf flat p a) m) (pickMade (flat || ltb (b .left) 2) (leafOf flat p b) n)
-unfolding leafOf takeOf fellShort
+unfolding leafOf
 halves-keep true p a b l k h = leaf-keeps true p a b l h
 halves-keep false p a b {m} {n} l k h = go (ltb (a .left) 2) refl (ltb (b .left) 2) refl h
   where
     go : (t : Bool) → ltb (a .left) 2 ≡ t → (u : Bool) → ltb (b .left) 2 ≡ u → Keeps (pickMade t (leafOf false p a) m) (pickMade u (leafOf false p b) n)
-    go true e u f h = absurd (false≢true (sym (neither (ltb (a .left) 2) (ltb (grantOf (a .left) 1 1) 1) (neither (ltb (a .left) 2 || ltb (grantOf (a .left) 1 1) 1) false h .0) .0) ∙ e))
+    go true e u f h = absurd (false≢true (sym (enough-draw _ h .0) ∙ e))
     go false e true f h = absurd (omega (arith, l .left, ltb-false (a .left) 2 e, ltb-true (b .left) 2 f))
     go false e false f h = k h
 

@@ -1,7 +1,6 @@
 -- Rows 4, 9 and 12 of document 01's table.
 use mathlib.Core.Path.{_≡_, refl}
 use mathlib.Core.Bool.{true, false}
-use Prim.Native.Nat.{ℕ}
 use lib.ListN.{length}
 use lib.Ieee.{Float, binary64, ofBits, ofInt, toUnsigned, neg, add, sub, mul, div, lt, eq, le, sum, round, units, odd, size, climb, span}
 use Rattle.float.specs.Functions.{ceilOf}

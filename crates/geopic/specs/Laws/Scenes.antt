@@ -1,7 +1,7 @@
 -- What an accepted stream's events are, and what the host then holds. Assumes nothing.
 use Prim.Native.Nat.{ℕ, zero, suc, _*_, _/_}
 use mathlib.Core.Path.{_≡_, refl, sym, ap, _∙_}
-use mathlib.Core.Bool.{Bool, true, false, not, _&&_, _||_, cond, false≢true}
+use mathlib.Core.Bool.{Bool, true, false, not, _&&_, cond, false≢true}
 use mathlib.Core.List.{List, [], _∷_, _++_, map}
 use native.Mathlib.Omega.{arith}
 use lib.ListN.{length, drop}
@@ -29,6 +29,7 @@ use Rattle.budget.specs.Draws.{leftAfter, Claim}
 use Rattle.budget.specs.Laws.Draws.{claim}
 use Rattle.densify.specs.Densify.{GrantedDraw}
 use Rattle.densify.specs.Draws.{drawsOf, Granted, fellShort}
+use Rattle.densify.specs.Laws.Allowances.{both-false}
 use Rattle.convert.specs.Convert.{onScreen, convertOf}
 use Rattle.strokes.specs.Strokes.{Event, warned, drawsIn}
 use Rattle.strokes.specs.Features.{AllWellFormed, positionsIn, featuresIn, warningsIn, featuresAt, warningsAt, anyOfKind}
@@ -156,11 +157,7 @@ module _ (sc : Scene) (allowance : ℕ) where
 within-bounds : (x : Float64) → isFinite x ≡ true → outsideBounds x ≡ false → (x ≡ Finite (valueOf x)) × (lt (valueOf x) one ≡ false) × (lt thousand (valueOf x) ≡ false)
 unfolding isFinite outsideBounds valueOf
 within-bounds NotFinite f h = absurd (false≢true f)
-within-bounds (Finite v) f h = let n = neither (lt v one) (lt thousand v) h in (refl, n .0, n .1)
-  where
-    neither : (a b : Bool) → (a || b) ≡ false → (a ≡ false) × (b ≡ false)
-    neither true b h = absurd (false≢true (sym h))
-    neither false b h = (refl, h)
+within-bounds (Finite v) f h = let n = both-false (lt v one) (lt thousand v) h in (refl, n .0, n .1)
 
 module _ (s : List ℕ) where
   abbrev sc : Scene
