@@ -15,8 +15,9 @@ extern "C" {
 #define GEOPIC_STACK 65536
 
 /* The panel's tier says how many vertices one scene may draw: GEOPIC_TIER_ENTRY 20,000, every other number 2,000,000.
- * Nothing refuses a tier. A scene that is accepted in the entry tier without GEOPIC_WARNING_ALLOWANCE_SPENT comes out
- * the same in every tier, but for `left`. */
+ * Nothing refuses a tier. A stream that is accepted in the entry tier without GEOPIC_WARNING_ALLOWANCE_SPENT comes out
+ * the same in every tier, but for `left`. With that warning it is coarser there, and the larger tier may need more
+ * room. */
 enum { GEOPIC_TIER_ENTRY = 0, GEOPIC_TIER_LARGER = 1 };
 
 /* A refusal: `number` is 1 to 19 and everything else 0. Acceptance: `number` is 0. */

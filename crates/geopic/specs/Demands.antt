@@ -1,6 +1,6 @@
 -- The three demands, as theorems about every stream s, every tier and whatever slices are lent with it (t), and what the changes of document 02 promise. The contract of `geopic_place` says that its answer is `answerOf s tier t` and that the slices then hold `buffersAfter s tier t`; both are read off one list of events, `traceOf`.
 use Prim.Native.Nat.{ℕ, suc, _*_, _^_, _≤_}
-use mathlib.Core.Path.{_≡_, refl}
+use mathlib.Core.Path.{_≡_, refl, sym, _∙_}
 use mathlib.Core.Bool.{false, cond}
 use mathlib.Core.List.{List}
 use lib.IntN.{ℤ}
@@ -146,9 +146,10 @@ change-iv-caps step scale r tol metres =
 pub change-viii-tiers : (allowanceOf 0 ≡ 20000) × ((tier : ℕ) → (tier ≡ 0 → ⊥) → allowanceOf tier ≡ 2000000)
 change-viii-tiers = (allowance-entry, λ tier some. allowance-larger tier some)
 
--- A scene that is drawn from an allowance without falling short comes to the same from any larger one: the same draws with the same grants, needs of work, features with their positions, and warnings.
-pub change-viii-any : (sc : Scene) (x y : ℕ) → x ≤ y → fellShort (drawsIn (traceOf x sc .events)) ≡ false → traceOf y sc .events ≡ traceOf x sc .events
-change-viii-any sc x y l h = scene-keeps sc x y l h .events
+-- A scene that is drawn from an allowance without falling short comes to the same from any larger one: the same draws with the same grants, needs of work, features with their positions, and warnings; and no less is left.
+pub change-viii-any : (sc : Scene) (x y : ℕ) → x ≤ y → traceOf x sc .after .hit ≡ false →
+    (traceOf y sc .events ≡ traceOf x sc .events) × (traceOf y sc .after .hit ≡ false) × (traceOf x sc .after .left ≤ traceOf y sc .after .left)
+change-viii-any sc x y l h = let same = scene-keeps sc x y l (sym (hit-is sc x) ∙ h) in (same .events, same .after .hit ∙ h, same .after .left)
 
 -- Warning 6 stands exactly if the mark is set.
 pub change-viii-mark : (s : List ℕ) (tier : ℕ) (t : Buffers) → answerOf s tier t .number ≡ 0
