@@ -21,6 +21,9 @@ struct Answer {
     left: usize,
 }
 
+/// The kind table of every call: the built-in one.
+const KINDS: [u8; 11] = [0, 0, 0, 0, 0, 0, 0, 1, 1, 0, 2];
+
 /// The tier of every call.
 const LARGER: u32 = 1;
 
@@ -32,6 +35,8 @@ macro_rules! call {
             fn $name(
                 stream: *const u8,
                 stream_length: usize,
+                kinds: *const u8,
+                kinds_length: usize,
                 tier: u32,
                 work: *mut f64,
                 work_length: usize,
@@ -79,6 +84,8 @@ macro_rules! timed_call {
                 $call(
                     stream.as_ptr(),
                     stream.len(),
+                    KINDS.as_ptr(),
+                    KINDS.len(),
                     LARGER,
                     lent.work.as_mut_ptr(),
                     lent.work.len(),

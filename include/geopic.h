@@ -20,7 +20,36 @@ extern "C" {
  * room. */
 enum { GEOPIC_TIER_ENTRY = 0, GEOPIC_TIER_LARGER = 1 };
 
-/* A refusal: `number` is 1 to 19 and everything else 0. Acceptance: `number` is 0. */
+/* The kinds of items, by their numbers in the stream. */
+enum {
+    GEOPIC_KIND_BOX = 0,
+    GEOPIC_KIND_CIRCLE = 1,
+    GEOPIC_KIND_ELLIPSE = 2,
+    GEOPIC_KIND_ARC = 3,
+    GEOPIC_KIND_LINE = 4,
+    GEOPIC_KIND_ARROW = 5,
+    GEOPIC_KIND_SPLINE = 6,
+    GEOPIC_KIND_TEXT = 7,
+    GEOPIC_KIND_DOT = 8,
+    GEOPIC_KIND_BRACE = 9,
+    GEOPIC_KIND_BLOCK = 10,
+    GEOPIC_KINDS = 11 /* so many */
+};
+
+/* Where a feature belongs: on the map, or on the screen. */
+enum { GEOPIC_GEOGRAPHIC = 0, GEOPIC_SCREEN = 1 };
+
+/* The kind table says it of each kind, by its number: GEOPIC_GEOGRAPHIC, GEOPIC_SCREEN or GEOPIC_NOT_DRAWN, which a
+ * block always is. What an item draws goes by its kind, and only its placement by the table. An item of a screen class
+ * is on the screen also where its kind is geographic. One that is hidden or of a kind that is not drawn, whatever its
+ * class, gives no feature and no warning, needs no room and takes no vertex. It keeps its index, and its label still
+ * names its point. */
+enum { GEOPIC_NOT_DRAWN = 2 };
+
+/* The built-in kind table: texts and dots on the screen, blocks not drawn, all others on the map. */
+static const uint8_t GEOPIC_BUILT_IN_KINDS[GEOPIC_KINDS] = {0, 0, 0, 0, 0, 0, 0, 1, 1, 0, 2};
+
+/* A refusal: `number` is 1 to 20 and everything else 0. Acceptance: `number` is 0. */
 typedef struct {
     uint32_t number;
     uint32_t method;   /* GEOPIC_ANCHOR, GEOPIC_TWO_POINTS or GEOPIC_HELMERT */
@@ -34,6 +63,7 @@ typedef struct {
 
 /* Numbers of refusals. The first that applies, in this order, is given. */
 enum {
+    GEOPIC_KIND_TABLE = 20,    /* the kind table is not 11 bytes, an entry is above 2, or that of block is not 2 */
     GEOPIC_SIZE = 1,           /* the stream is empty, not whole blocks of 512 bytes, or over 65,536 blocks */
     GEOPIC_CHECK = 2,          /* a block's check is wrong */
     GEOPIC_LAYOUT = 3,         /* a record breaks the layout or is cut off, or the end record is missing */
@@ -79,7 +109,6 @@ enum {
  * more, a ring four or more, its last bit-identical to its first; all are finite. */
 enum { GEOPIC_POINT = 0, GEOPIC_LINE = 1, GEOPIC_POLYGON = 2 /* of one ring */ };
 enum { GEOPIC_DRAWN = 0, GEOPIC_FILL = 1 /* a separate fill */ };
-enum { GEOPIC_GEOGRAPHIC = 0, GEOPIC_SCREEN = 1 };
 
 /* The step is the stream's option 7, 1 to 1,000 metres, 100 where it is absent. A straight edge is cut into equal parts
  * no longer than the step, but into 100,000 at most. A full curve (a circle, an ellipse by its longer radius, the
@@ -91,14 +120,16 @@ enum { GEOPIC_GEOGRAPHIC = 0, GEOPIC_SCREEN = 1 };
  * without one, used or not. They are counted before straight edges are densified, and also where they are too few to
  * draw.
  *
- * Lengths count doubles and numbers, not positions or lines. A length of 0 may come with any pointer that is not null.
+ * Lengths count bytes, doubles and numbers, not positions or lines. A length of 0 may come with any pointer that is not
+ * null. The stream and the kind table are only read.
  *
- *            1 to 14, 19   15 to 18     accepted
- * work       untouched     all zero     all zero
- * the rest   untouched     all zero     the used part written, the tail untouched */
-geopic_answer geopic_place(const uint8_t *stream, size_t stream_length, uint32_t tier, double *work,
-                           size_t work_length, double *positions, size_t positions_length, uint32_t *features,
-                           size_t features_length, uint32_t *warnings, size_t warnings_length);
+ *            1 to 14, 19, 20   15 to 18     accepted
+ * work       untouched         all zero     all zero
+ * the rest   untouched         all zero     the used part written, the tail untouched */
+geopic_answer geopic_place(const uint8_t *stream, size_t stream_length, const uint8_t *kinds, size_t kinds_length,
+                           uint32_t tier, double *work, size_t work_length, double *positions,
+                           size_t positions_length, uint32_t *features, size_t features_length, uint32_t *warnings,
+                           size_t warnings_length);
 
 #ifdef __cplusplus
 }

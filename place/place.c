@@ -40,8 +40,8 @@ int main(void)
         printf("E 0\n");
         return finish();
     }
-    geopic_answer a = geopic_place(stream, n, GEOPIC_TIER_LARGER, work, 2 * POINTS, positions, 2 * POSITIONS,
-                                   features, 6 * LINES, warnings, 2 * WARNINGS);
+    geopic_answer a = geopic_place(stream, n, GEOPIC_BUILT_IN_KINDS, GEOPIC_KINDS, GEOPIC_TIER_LARGER, work,
+                                   2 * POINTS, positions, 2 * POSITIONS, features, 6 * LINES, warnings, 2 * WARNINGS);
     if (a.number != 0) {
         printf("E %" PRIu32 "\n", a.number);
         return finish();

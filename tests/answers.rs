@@ -25,10 +25,11 @@ pub fn each(cases: &[u8], answers: &str, mut f: impl FnMut(&str, &[u8], &[&str])
 }
 
 /// The number that an answer ends with, 0 where the stream is accepted; none
-/// for E 0, a stream longer than its case lends room for.
+/// for E 0, a stream longer than its case lends room for, and for E 20, a kind
+/// table that is refused before the stream is looked at.
 pub fn refusal(answer: &[&str]) -> Option<u32> {
     match answer.last().and_then(|l| l.strip_prefix("E ")) {
-        Some("0") => None,
+        Some("0" | "20") => None,
         Some(number) => Some(number.parse().expect("a refusal has a number")),
         None => Some(0),
     }

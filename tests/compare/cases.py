@@ -10,11 +10,14 @@ BUILD = ROOT / "tests" / "oracle" / "build"
 ORACLE = ROOT / "target" / "oracle" / "oracle"
 GENERATE = ROOT / "target" / "oracle" / "generate"
 
-# Limit, work, positions, feature lines and warnings of `place`, the tier that it
-# names, and that tier's allowance.
-PLACE_SIZES = (32768, 2048, 2048, 512, 512, 1, "-")
-
 KINDS = "box circle ellipse arc line arrow spline text dot brace block".split()
+
+# The built-in kind table: texts and dots on the screen, blocks not drawn.
+BUILT_IN = "0000000000000001010002"
+
+# Limit, work, positions, feature lines and warnings of `place`, the kind table that
+# it lends, the tier that it names, and that tier's allowance.
+PLACE_SIZES = (32768, 2048, 2048, 512, 512, BUILT_IN, 1, "-")
 
 
 class Case:
@@ -24,8 +27,11 @@ class Case:
     def for_place(self):
         return self.sizes == PLACE_SIZES
 
-    def tier(self):
+    def kinds(self):
         return self.sizes[5]
+
+    def tier(self):
+        return self.sizes[6]
 
     def text(self):
         sizes = " ".join(map(str, self.sizes))
@@ -44,9 +50,9 @@ def generated(*args):
     at = 0
     while at < len(data):
         end = data.index(b"\n", at)
-        _, name, *numbers, allowance, length = data[at:end].decode().split(" ")
+        _, name, *numbers, kinds, tier, allowance, length = data[at:end].decode().split(" ")
         at = end + 1 + int(length)
-        yield Case(name, (*map(int, numbers), allowance), data[end + 1 : at])
+        yield Case(name, (*map(int, numbers), kinds, int(tier), allowance), data[end + 1 : at])
 
 
 def answered(cases, *options, program=ORACLE):
@@ -66,18 +72,26 @@ def answered(cases, *options, program=ORACLE):
 
 def split(lines):
     """The answer's lines, and what the oracle counted beside them."""
-    counted = [line.split(" ") for line in lines if line.startswith("T ")]
+    counted = [line.removeprefix("T ").rsplit(" ", 1) for line in lines if line.startswith("T ")]
     lines = [line for line in lines if not line.startswith("T ")]
-    return lines, {key: int(n) for _, key, n in counted}
+    return lines, {key: int(n) for key, n in counted}
 
 
-# Rows that `place` is not asked for: it names tier 1.
+# Each kind at each entry of the kind table, and those of the built-in one; then of
+# items at 2 that are no blocks, what they have.
+AT_ENTRIES = [f"{kind} at {entry}" for kind in KINDS[:-1] for entry in range(3)] + ["block at 2"]
+AT_BUILT_IN = [f"{kind} at {entry}" for kind, entry in zip(KINDS, bytes.fromhex(BUILT_IN))]
+AT_2 = [f"at 2, {what}" for what in ("hidden", "screen class", "labelled", "control point")]
+
 OTHER_TIERS = ["tier 0", "tier above 1", "tier 0, spent mark 1", "tier 0, spent mark 0 and 0 left"]
+
+# Rows that `place` is not asked for: it lends the built-in table and names tier 1.
+NOT_FOR_PLACE = {"refused 20", "kinds other", *AT_ENTRIES, *AT_2, *OTHER_TIERS} - {*AT_BUILT_IN}
 
 # The rows of the table, in its order: everything that can occur.
 ROWS = (
     ["accepted"]
-    + [f"refused {n}" for n in range(20)]
+    + [f"refused {n}" for n in range(21)]
     + [f"warning {n}" for n in range(1, 7)]
     + ["point", "line", "polygon"]
     + ["role 0", "role 1 (fill)", "placement 0", "placement 1 (screen)"]
@@ -93,6 +107,9 @@ ROWS = (
     + [f"short-{p}" for p in "segment ellipse rounded-box split".split()]
     + ["unwritten", "unused-outline"]
     + ["step-below-100", "step-above-100"]
+    + ["kinds built-in", "kinds other"]
+    + AT_ENTRIES
+    + AT_2
     + ["tier 1"]
     + OTHER_TIERS
 )
@@ -127,8 +144,9 @@ def rows_of(lines, counted):
         yield from (key for key in counted if key != "granted")
 
 
-def tier_rows(case, lines):
-    """The rows that a case's tier and its answer belong to."""
+def case_rows(case, lines):
+    """The rows that a case's kind table, its tier and its answer belong to."""
+    yield "kinds built-in" if case.kinds() == BUILT_IN else "kinds other"
     tier = case.tier()
     yield f"tier {tier}" if tier < 2 else "tier above 1"
     if tier == 0 and lines[-1].startswith("B "):
@@ -147,7 +165,7 @@ class Table:
         self.seen = {row: [0, 0] for row in ROWS}
 
     def add(self, case, lines, counted):
-        for row in {*rows_of(lines, counted), *tier_rows(case, lines)}:
+        for row in {*rows_of(lines, counted), *case_rows(case, lines)}:
             self.seen[row][0] += 1
             self.seen[row][1] += case.for_place()
 
@@ -160,7 +178,7 @@ class Table:
         return [
             row
             for row, (every, place) in self.seen.items()
-            if not every or not place and row not in OTHER_TIERS
+            if not every or not place and row not in NOT_FOR_PLACE
         ]
 
 

@@ -1,7 +1,11 @@
-// A stream with the sizes and the tier that it is to be answered under.
+// A stream with the sizes, the kind table and the tier that it is to be answered
+// under.
 
 use crate::write::Doc;
 use std::io::{self, Write};
+
+/// Texts and dots on the screen, blocks not drawn, the rest geographic.
+pub const BUILT_IN: [u8; 11] = [0, 0, 0, 0, 0, 0, 0, 1, 1, 0, 2];
 
 #[derive(Clone)]
 pub struct Case {
@@ -12,6 +16,8 @@ pub struct Case {
     pub positions: usize,
     pub features: usize,
     pub warnings: usize,
+    /// The kind table, fit or not.
+    pub kinds: Vec<u8>,
     pub tier: u32,
     /// Where to start from in place of the tier's allowance: the module has no such thing.
     pub allowance: Option<usize>,
@@ -19,7 +25,8 @@ pub struct Case {
 }
 
 impl Case {
-    /// Under the sizes of the program `place`, and the larger tier, which it names.
+    /// Under the sizes of the program `place`, the kind table that it lends, and the larger tier,
+    /// which it names.
     pub fn place(name: impl Into<String>, bytes: Vec<u8>) -> Case {
         Case {
             name: name.into(),
@@ -28,6 +35,7 @@ impl Case {
             positions: 2_048,
             features: 512,
             warnings: 512,
+            kinds: BUILT_IN.to_vec(),
             tier: 1,
             allowance: None,
             bytes,
@@ -44,12 +52,13 @@ impl Case {
     }
 
     pub fn write(&self, out: &mut impl Write) -> io::Result<()> {
-        let Case { name, limit, work, positions, features, warnings, tier, allowance, bytes } =
-            self;
-        let allowance = allowance.map_or("-".to_string(), |n| n.to_string());
+        let Case { name, limit, work, positions, features, warnings, tier, bytes, .. } = self;
+        let kinds = self.kinds.iter().map(|entry| format!("{entry:02x}")).collect();
+        let kinds = if self.kinds.is_empty() { "-".to_string() } else { kinds };
+        let allowance = self.allowance.map_or("-".to_string(), |n| n.to_string());
         let length = bytes.len();
         write!(out, "case {name} {limit} {work} {positions} {features} {warnings}")?;
-        writeln!(out, " {tier} {allowance} {length}")?;
+        writeln!(out, " {kinds} {tier} {allowance} {length}")?;
         out.write_all(bytes)
     }
 }

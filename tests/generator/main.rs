@@ -1,11 +1,13 @@
 // generate named | names | heavy | large
 // generate SEED COUNT
+// generate tables SEED COUNT
 // generate names SEED COUNT
 //
 // Prints cases as `oracle batch` reads them: the named ones; those of many names
 // and labels; those that use up the whole allowance, which take seconds each;
 // those at the limit of blocks, 32 MiB each; or one case for each seed from SEED
-// on, any or of many names and labels. The same arguments give the same bytes.
+// on: any, the same under a random kind table each, or of many names and labels.
+// The same arguments give the same bytes.
 
 mod case;
 mod damage;
@@ -30,6 +32,7 @@ fn main() {
         ["heavy"] => print(&mut out, named::heavy()),
         ["large"] => print(&mut out, named::large()),
         [seed, count] => seeds(&mut out, seed, count, random::case),
+        ["tables", seed, count] => seeds(&mut out, seed, count, random::table_case),
         ["names", seed, count] => seeds(&mut out, seed, count, names::case),
         _ => usage(),
     }
@@ -37,7 +40,7 @@ fn main() {
 }
 
 fn usage() -> ! {
-    eprintln!("generate named|names|heavy|large, or generate [names] SEED COUNT");
+    eprintln!("generate named|names|heavy|large, or generate [tables|names] SEED COUNT");
     exit(2);
 }
 

@@ -1,7 +1,8 @@
 // One case for each seed: scenes of every kind of record, most of them small
-// enough to be accepted, some under other sizes, some damaged.
+// enough to be accepted, some under other sizes or another kind table, some
+// damaged.
 
-use crate::case::Case;
+use crate::case::{BUILT_IN, Case};
 use crate::damage;
 use crate::named::eater;
 pub use crate::splitmix::Random;
@@ -15,6 +16,15 @@ fn seeded(seed: u64) -> Random {
 }
 
 pub fn case(seed: u64) -> Case {
+    built_in(seed).with(|c| c.kinds = kinds(&mut seeded(seed ^ TABLES)))
+}
+
+/// The same case, always under a kind table that fits.
+pub fn table_case(seed: u64) -> Case {
+    built_in(seed).with(|c| c.kinds = table(&mut seeded(seed ^ TABLES)))
+}
+
+fn built_in(seed: u64) -> Case {
     let mut r = seeded(seed);
     let step = step(&mut seeded(seed ^ STEPS));
     let plain = scene(&mut r, step);
@@ -28,6 +38,36 @@ pub fn case(seed: u64) -> Case {
         }),
         _ => Case::place(name, damage::damaged(&mut r, &doc)),
     }
+}
+
+/// Kind tables have a sequence of their own: under the built-in one a case is
+/// what it was.
+const TABLES: u64 = 0xd04b_8a37_5ec9_126f;
+
+/// The built-in one for about four cases of five, seldom one that is refused.
+fn kinds(r: &mut Random) -> Vec<u8> {
+    match r.below(80) {
+        0 => unfit_table(r),
+        1..=16 => table(r),
+        _ => BUILT_IN.to_vec(),
+    }
+}
+
+/// Any that fits.
+pub fn table(r: &mut Random) -> Vec<u8> {
+    let entry = |kind| if kind == BLOCK_KIND { 2 } else { r.below(3) as u8 };
+    (BOX..=BLOCK_KIND).map(entry).collect()
+}
+
+/// Of another length, with an entry above 2, or with a block that is drawn.
+fn unfit_table(r: &mut Random) -> Vec<u8> {
+    let mut table = table(r);
+    match r.below(3) {
+        0 => table.resize(r.pick(&[0, 1, 5, 10, 12, 13, 22, 267]), r.below(3) as u8),
+        1 => table[r.below(10)] = r.pick(&[3, 4, 128, 255]),
+        _ => table[10] = r.pick(&[0, 1, 3, 255]),
+    }
+    table
 }
 
 /// The step has a sequence of its own: a scene without one is what it was.

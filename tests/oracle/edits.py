@@ -199,6 +199,13 @@ REPORTS = {
             "use crate::register::Registration;\n",
             "use crate::record;\nuse crate::register::Registration;\n",
         ),
+        # The kind table takes the place of the rule from kind to placement.
+        (
+            1,
+            'item.kind == "block" || item.is_hidden()',
+            "record::entry(&item.kind) == 2 || item.is_hidden()",
+        ),
+        (1, 'item.kind == "text" || item.kind == "dot"', "record::entry(&item.kind) == 1"),
         # Positions of a line by itself need it.
         (1, "fn round9(", "pub fn round9("),
         (

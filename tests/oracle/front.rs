@@ -3,10 +3,11 @@
 
 use crate::record::{self, Event, Record};
 use crate::register::Method;
-use crate::stream::Parsed;
-use crate::{GeoError, Registration, georeference_scene};
+use crate::stream::{self, Parsed};
+use crate::{GeoError, KINDS, Registration, georeference_scene};
 
 pub use crate::record::{Feature, Producer};
+pub use crate::scene::Item;
 
 // For the producers of points, each by itself.
 pub use crate::convert::round9;
@@ -15,13 +16,14 @@ pub use crate::record::{begin, finish};
 pub use crate::scene::Path;
 
 /// Room in the four slices, in whole points, positions, feature lines and
-/// warnings; the tier, and where to start from in place of its allowance.
-#[derive(Clone, Copy)]
+/// warnings; the kind table; the tier, and where to start from in place of its
+/// allowance.
 pub struct Sizes {
     pub work: usize,
     pub positions: usize,
     pub features: usize,
     pub warnings: usize,
+    pub kinds: Vec<u8>,
     pub tier: u32,
     pub allowance: Option<usize>,
 }
@@ -61,16 +63,32 @@ impl Answer {
     }
 }
 
+/// Texts and dots on the screen, blocks not drawn, the rest geographic.
+pub const BUILT_IN: [u8; 11] = [0, 0, 0, 0, 0, 0, 0, 1, 1, 0, 2];
+
+/// Whether refusal 20 lets a kind table through.
+fn fits(kinds: &[u8]) -> bool {
+    kinds.len() == KINDS.len() && kinds.iter().all(|entry| *entry <= 2) && kinds[10] == 2
+}
+
+/// Refusal 20, before all that the stream decides: 1 to 6 and 19.
+pub fn parse(bytes: &[u8], kinds: &[u8]) -> Result<Parsed, u32> {
+    if !fits(kinds) {
+        return Err(20);
+    }
+    stream::parse(bytes)
+}
+
 /// The tier's allowance: 0 is the entry tier, any other number the larger.
 fn allowance_of(tier: u32) -> usize {
     if tier == 0 { 20_000 } else { 2_000_000 }
 }
 
 /// Refusals 7 to 14 as errors; 15 to 18 stand in the answer.
-pub fn answer(parsed: &Parsed, sizes: Sizes) -> Result<Answer, u32> {
+pub fn answer(parsed: &Parsed, sizes: &Sizes) -> Result<Answer, u32> {
     let variables = parsed.scene.vars.keys().cloned().collect();
     let allowance = sizes.allowance.unwrap_or(allowance_of(sizes.tier));
-    record::begin(allowance, parsed.step, variables);
+    record::begin(allowance, parsed.step, &sizes.kinds, variables);
     let result = georeference_scene(&parsed.scene, &parsed.options);
     let record = record::finish();
     let scene = result.map_err(|e| number(&e))?;
@@ -106,7 +124,7 @@ fn number(error: &GeoError) -> u32 {
 }
 
 /// Refusals 15 to 18: the first thing that lacks room decides.
-fn short_of(events: &[Event], sizes: Sizes) -> u32 {
+fn short_of(events: &[Event], sizes: &Sizes) -> u32 {
     let (mut positions, mut features, mut warnings) = (0, 0, 0);
     for event in events {
         match event {

@@ -5,27 +5,27 @@
 //
 // `place` answers one stream under the sizes of document 01's program. `batch`
 // answers cases one after another; each is a line
-//     case NAME LIMIT WORK POSITIONS FEATURES WARNINGS TIER ALLOWANCE LENGTH
+//     case NAME LIMIT WORK POSITIONS FEATURES WARNINGS KINDS TIER ALLOWANCE LENGTH
 // (LIMIT bytes of stream at most, 0 for any; then whole points, positions,
-// feature lines, warnings; the tier; `-` for the tier's allowance, or the
-// number to start from in its place), followed by LENGTH bytes; each answer
-// stands after a line `> NAME`. `project` takes eight f64 for each point,
-// little-endian (anchor's longitude and latitude, origin, scale, bearing, the
-// canvas point), and answers two: the longitude and latitude that `to_lonlat`
-// gives. `densify` answers for one path, ring or line at a time, as produce.rs
-// says.
+// feature lines, warnings; the kind table, two hexadecimal digits a byte, `-`
+// for no bytes; the tier; `-` for the tier's allowance, or the number to start
+// from in its place), followed by LENGTH bytes; each answer stands after a line
+// `> NAME`. `project` takes eight f64 for each point, little-endian (anchor's
+// longitude and latitude, origin, scale, bearing, the canvas point), and answers
+// two: the longitude and latitude that `to_lonlat` gives. `densify` answers for
+// one path, ring or line at a time, as produce.rs says.
 //
-// Options: --work N, --positions N, --features N, --warnings N, --tier N,
-// --allowance N and --limit N set sizes for `place`; the tier is 1 otherwise.
-// --scene prints the parsed scene before the answer where 1 to 6 and 19 do not
-// refuse, --registration the registration (G) where 7 to 14 do not; after each
-// P, --bits prints the position's bits (Q); after B, --draws prints every draw
-// (D: want, floor, grant, left). --tally ends an answer with what occurred in
-// it (T).
+// Options: --work N, --positions N, --features N, --warnings N, --kinds HEX,
+// --tier N, --allowance N and --limit N are for `place`; the kind table is the
+// built-in one and the tier 1 otherwise. --scene prints the parsed scene before
+// the answer where 20, 1 to 6 and 19 do not refuse, --registration the
+// registration (G) where 7 to 14 do not; after each P, --bits prints the
+// position's bits (Q); after B, --draws prints every draw (D: want, floor,
+// grant, left). --tally ends an answer with what occurred in it (T).
 
-use geopic_core::front::{self, Answer, Producer, Sizes};
-use geopic_core::stream::{self, Parsed};
-use geopic_core::{Frame, LonLat, Method, Registration};
+use geopic_core::front::{self, Answer, BUILT_IN, Item, Producer, Sizes};
+use geopic_core::stream::Parsed;
+use geopic_core::{Frame, KINDS, LonLat, Method, Registration};
 use std::collections::BTreeMap;
 use std::fmt::Write as _;
 use std::io::{self, Read, Write as _};
@@ -55,7 +55,7 @@ fn main() {
     let mut out = String::new();
     match mode.as_str() {
         "place" => {
-            answer(&input, limit, sizes, &shown, &mut out);
+            answer(&input, limit, &sizes, &shown, &mut out);
             print(&out);
         }
         "batch" => batch(&input, &shown),
@@ -73,6 +73,7 @@ fn options(mut args: impl Iterator<Item = String>) -> (usize, Sizes, Shown) {
         positions: 2_048,
         features: 512,
         warnings: 512,
+        kinds: BUILT_IN.to_vec(),
         tier: 1,
         allowance: None,
     };
@@ -88,6 +89,7 @@ fn options(mut args: impl Iterator<Item = String>) -> (usize, Sizes, Shown) {
             "--positions" => sizes.positions = number(&value()),
             "--features" => sizes.features = number(&value()),
             "--warnings" => sizes.warnings = number(&value()),
+            "--kinds" => sizes.kinds = table(&value()),
             "--tier" => sizes.tier = number(&value()),
             "--allowance" => sizes.allowance = Some(number(&value())),
             "--limit" => limit = number(&value()),
@@ -104,6 +106,18 @@ fn usage() -> ! {
 
 fn number<T: FromStr>(text: &str) -> T {
     text.parse().unwrap_or_else(|_| usage())
+}
+
+/// The bytes of a kind table, as a case has them.
+fn table(text: &str) -> Vec<u8> {
+    if text == "-" {
+        return Vec::new();
+    }
+    let byte = |pair: &[u8]| {
+        let digits = std::str::from_utf8(pair).unwrap_or_else(|_| usage());
+        u8::from_str_radix(digits, 16).unwrap_or_else(|_| usage())
+    };
+    text.as_bytes().chunks(2).map(byte).collect()
 }
 
 fn print(text: &str) {
@@ -125,14 +139,14 @@ fn batch(mut input: &[u8], shown: &Shown) {
         };
         let (bytes, rest) = input[end + 1..].split_at(number(length));
         let mut out = format!("> {name}\n");
-        answer(bytes, number(limit), sizes_of(sizes), shown, &mut out);
+        answer(bytes, number(limit), &sizes_of(sizes), shown, &mut out);
         print(&out);
         input = rest;
     }
 }
 
 fn sizes_of(fields: &[&str]) -> Sizes {
-    let [work, positions, features, warnings, tier, allowance] = *fields else {
+    let [work, positions, features, warnings, kinds, tier, allowance] = *fields else {
         usage()
     };
     Sizes {
@@ -140,6 +154,7 @@ fn sizes_of(fields: &[&str]) -> Sizes {
         positions: number(positions),
         features: number(features),
         warnings: number(warnings),
+        kinds: table(kinds),
         tier: number(tier),
         allowance: (allowance != "-").then(|| number(allowance)),
     }
@@ -173,11 +188,11 @@ fn registration([lon, lat, x, y, scale, bearing]: [f64; 6]) -> Registration {
     }
 }
 
-fn answer(bytes: &[u8], limit: usize, sizes: Sizes, shown: &Shown, out: &mut String) {
+fn answer(bytes: &[u8], limit: usize, sizes: &Sizes, shown: &Shown, out: &mut String) {
     if limit != 0 && bytes.len() > limit {
         return refused(0, out);
     }
-    let parsed = match stream::parse(bytes) {
+    let parsed = match front::parse(bytes, &sizes.kinds) {
         Ok(parsed) => parsed,
         Err(number) => return refused(number, out),
     };
@@ -195,7 +210,7 @@ fn answer(bytes: &[u8], limit: usize, sizes: Sizes, shown: &Shown, out: &mut Str
                 number => refused(number, out),
             }
             if shown.tally {
-                tally(&parsed, &answer, out);
+                tally(&parsed, &answer, &sizes.kinds, out);
             }
         }
     }
@@ -253,7 +268,7 @@ fn whole(degrees: f64) -> i64 {
 }
 
 /// What occurred in a stream that reached the drawing.
-fn tally(parsed: &Parsed, answer: &Answer, out: &mut String) {
+fn tally(parsed: &Parsed, answer: &Answer, kinds: &[u8], out: &mut String) {
     let mut seen: BTreeMap<String, usize> = BTreeMap::new();
     let mut count = |key: String, n: usize| *seen.entry(key).or_default() += n;
     for item in &parsed.scene.items {
@@ -263,6 +278,9 @@ fn tally(parsed: &Parsed, answer: &Answer, out: &mut String) {
         count("flag-closed".into(), usize::from(item.closed.is_some()));
         count("flag-fill".into(), usize::from(item.fill.is_some()));
         count("flag-screen".into(), usize::from(item.class.is_some()));
+        for key in by_table(parsed, item, kinds) {
+            count(key, 1);
+        }
     }
     count("step-below-100".into(), usize::from(parsed.step < 100.0));
     count("step-above-100".into(), usize::from(parsed.step > 100.0));
@@ -286,4 +304,35 @@ fn tally(parsed: &Parsed, answer: &Answer, out: &mut String) {
             line(out, format_args!("T {key} {n}"));
         }
     }
+}
+
+/// An item's kind with its entry in the kind table; where the entry is 2 and not
+/// a block's, what the item has all the same.
+fn by_table(parsed: &Parsed, item: &Item, kinds: &[u8]) -> Vec<String> {
+    let (_, entry) = KINDS
+        .iter()
+        .zip(kinds)
+        .find(|(kind, _)| **kind == item.kind)
+        .expect("the table has every kind");
+    let mut keys = vec![format!("{} at {entry}", item.kind)];
+    if *entry == 2 && item.kind != "block" {
+        let has = [
+            ("hidden", item.hidden.is_some()),
+            ("screen class", item.class.is_some()),
+            ("labelled", item.label.is_some()),
+            ("control point", is_control(parsed, item)),
+        ];
+        let seen = has.into_iter().filter(|(_, holds)| *holds);
+        keys.extend(seen.map(|(what, _)| format!("at 2, {what}")));
+    }
+    keys
+}
+
+/// Whether the name of a host feature stands for the item's point.
+fn is_control(parsed: &Parsed, item: &Item) -> bool {
+    let point = item.reference_point();
+    let named = |name: &String| item.label.as_ref() == Some(name);
+    let taken = |name: &String| point.is_some() && parsed.scene.point_of_label(name) == point;
+    let mut names = parsed.options.features.iter().map(|f| &f.name);
+    names.any(|name| named(name) && taken(name))
 }

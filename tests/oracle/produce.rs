@@ -37,7 +37,7 @@ fn one(kind: u64, left: usize, numbers: &[f64]) -> Vec<u64> {
     let mut budget = Budget { left, hit: false };
     // a path's points have no step
     let step = if kind < 4 { f64::NAN } else { numbers[0] };
-    begin(left, step, Vec::new());
+    begin(left, step, &[], Vec::new());
     let points = points(kind, numbers, &mut budget);
     let draws = finish().draws;
     let head = [points.len(), draws.len(), budget.left, budget.hit as usize];

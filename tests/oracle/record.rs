@@ -1,10 +1,10 @@
 // What the source reports while it runs: the edits call these functions. One
 // run at a time; `begin` opens it and `finish` takes it out.
 
-use crate::GeoError;
 use crate::densify::close_ring;
 use crate::geodesy::Frame;
 use crate::geojson::Geometry;
+use crate::{GeoError, KINDS};
 use serde_json::{Map, Value};
 use std::cell::RefCell;
 
@@ -54,6 +54,8 @@ pub struct Record {
     pub left: usize,
     /// The longest step between two positions, in metres.
     step: f64,
+    /// The kind table: an entry for each of KINDS.
+    kinds: Vec<u8>,
     pub spent: bool,
     /// Pieces that were not flat and met fewer than 2 left.
     pub unsplit: usize,
@@ -79,11 +81,12 @@ fn with<T>(f: impl FnOnce(&mut Record) -> T) -> T {
     RECORD.with(|r| f(&mut r.borrow_mut()))
 }
 
-pub fn begin(allowance: usize, step: f64, variables: Vec<String>) {
+pub fn begin(allowance: usize, step: f64, kinds: &[u8], variables: Vec<String>) {
     with(|r| {
         *r = Record {
             left: allowance,
             step,
+            kinds: kinds.to_vec(),
             variables,
             ..Record::default()
         }
@@ -100,6 +103,12 @@ pub fn allowance() -> usize {
 
 pub fn step() -> f64 {
     with(|r| r.step)
+}
+
+/// What the kind table says of a kind: 0 geographic, 1 screen, 2 not drawn.
+pub fn entry(kind: &str) -> u8 {
+    let index = KINDS.iter().position(|k| *k == kind);
+    with(|r| r.kinds[index.expect("the stream has no other kinds")])
 }
 
 /// Refusal 7, where the source has just chosen the frame.

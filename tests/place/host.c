@@ -1,16 +1,17 @@
 /* The host's call from C, on cases as the generator writes them:
- *     case NAME LIMIT WORK POSITIONS FEATURES WARNINGS TIER ALLOWANCE LENGTH
+ *     case NAME LIMIT WORK POSITIONS FEATURES WARNINGS KINDS TIER ALLOWANCE LENGTH
  * and LENGTH bytes (tests/oracle/main.rs).
  *
  * host answer < CASES    answers as `oracle batch --bits` does, and stops where a slice holds anything but what
- *                        include/geopic.h says, what was not written included
+ *                        include/geopic.h says, what was not written included, or the kind table was changed
  * host sizes < CASES     for every accepted case: exactly enough room, and each slice one short, and 0 and 1
  * host filter < CASES    the cases with their tier's own allowance
  * host other < CASES     every case under the other tier: 0 becomes 1, any other number 0
  * host stack < CASES     the most stack that a call took, on a stack of its own filled before; stops where that is more
  *                        than include/geopic.h says
  *
- * Every slice is allocated at its own length, so that a sanitizer sees a write behind it. */
+ * Every slice and the kind table are allocated at their own length, so that a sanitizer sees a write or a read behind
+ * them. */
 #define _XOPEN_SOURCE 700 /* contexts */
 #include "geopic.h"
 
@@ -25,10 +26,10 @@
 
 typedef struct {
     char name[256];
-    size_t limit, work, positions, features, warnings, length;
+    size_t limit, work, positions, features, warnings, kinds_length, length;
     uint32_t tier;
     char allowance[24];
-    uint8_t *bytes;
+    uint8_t *kinds, *bytes;
 } Case;
 
 static void stop(const Case *c, const char *why)
@@ -48,15 +49,39 @@ static void *taken(size_t n)
     return p;
 }
 
+/* The kind table from two hexadecimal digits a byte, `-` for no bytes. */
+static void read_kinds(Case *c, const char *digits)
+{
+    c->kinds_length = strcmp(digits, "-") ? strlen(digits) / 2 : 0;
+    c->kinds = taken(c->kinds_length);
+    for (size_t i = 0; i < c->kinds_length; i++) {
+        if (sscanf(digits + 2 * i, "%2" SCNx8, &c->kinds[i]) != 1) {
+            stop(c, "a kind table of other digits");
+        }
+    }
+}
+
+static void write_kinds(const Case *c)
+{
+    for (size_t i = 0; i < c->kinds_length; i++) {
+        printf("%02" PRIx8, c->kinds[i]);
+    }
+    if (c->kinds_length == 0) {
+        printf("-");
+    }
+}
+
 static int next(Case *c)
 {
-    if (scanf("case %255s %zu %zu %zu %zu %zu %" SCNu32 " %23s %zu", c->name, &c->limit, &c->work, &c->positions,
-              &c->features, &c->warnings, &c->tier, c->allowance, &c->length) != 9) {
+    char kinds[1024];
+    if (scanf("case %255s %zu %zu %zu %zu %zu %1023s %" SCNu32 " %23s %zu", c->name, &c->limit, &c->work,
+              &c->positions, &c->features, &c->warnings, kinds, &c->tier, c->allowance, &c->length) != 10) {
         return 0;
     }
     if (getchar() != '\n') {
         stop(c, "no end of line");
     }
+    read_kinds(c, kinds);
     c->bytes = taken(c->length);
     if (fread(c->bytes, 1, c->length, stdin) != c->length) {
         stop(c, "cut off");
@@ -66,12 +91,14 @@ static int next(Case *c)
 
 static void write_case(const Case *c)
 {
-    printf("case %s %zu %zu %zu %zu %zu %" PRIu32 " %s %zu\n", c->name, c->limit, c->work, c->positions, c->features,
-           c->warnings, c->tier, c->allowance, c->length);
+    printf("case %s %zu %zu %zu %zu %zu ", c->name, c->limit, c->work, c->positions, c->features, c->warnings);
+    write_kinds(c);
+    printf(" %" PRIu32 " %s %zu\n", c->tier, c->allowance, c->length);
     fwrite(c->bytes, 1, c->length, stdout);
 }
 
 typedef struct {
+    uint8_t *kinds;
     double *work, *positions;
     uint32_t *features, *warnings;
     geopic_answer answer;
@@ -79,17 +106,21 @@ typedef struct {
 
 static Call lent(const Case *c)
 {
-    Call k = {.work = taken(16 * c->work),
+    Call k = {.kinds = taken(c->kinds_length),
+              .work = taken(16 * c->work),
               .positions = taken(16 * c->positions),
               .features = taken(24 * c->features),
               .warnings = taken(8 * c->warnings)};
+    memcpy(k.kinds, c->kinds, c->kinds_length);
     return k;
 }
 
 static void place(const Case *c, Call *k)
 {
-    k->answer = geopic_place(c->bytes, c->length, c->tier, k->work, 2 * c->work, k->positions, 2 * c->positions,
-                             k->features, 6 * c->features, k->warnings, 2 * c->warnings);
+    /* a table of no bytes begins where its memory ends */
+    const uint8_t *kinds = k->kinds + (c->kinds_length == 0);
+    k->answer = geopic_place(c->bytes, c->length, kinds, c->kinds_length, c->tier, k->work, 2 * c->work, k->positions,
+                             2 * c->positions, k->features, 6 * c->features, k->warnings, 2 * c->warnings);
 }
 
 static Call call(const Case *c)
@@ -101,6 +132,7 @@ static Call call(const Case *c)
 
 static void release(Call *k)
 {
+    free(k->kinds);
     free(k->work);
     free(k->positions);
     free(k->features);
@@ -144,6 +176,9 @@ static void check(const Case *c, const Call *k)
         if (!lacks_room(a->number)) {
             work = rest = PATTERN;
         }
+    }
+    if (memcmp(k->kinds, c->kinds, c->kinds_length)) {
+        stop(c, "kinds");
     }
     if (!all(k->work, 0, 16 * c->work, work)) {
         stop(c, "work");
@@ -327,6 +362,7 @@ int main(int argc, char **argv)
             fprintf(stderr, "host answer|sizes|filter|other|stack < CASES\n");
             return 2;
         }
+        free(c.kinds);
         free(c.bytes);
     }
     if (!strcmp(mode, "stack")) {

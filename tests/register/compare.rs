@@ -3,6 +3,8 @@
 // compare streams CASES ANSWERS: refusals 1 to 14 and 19, method, control
 //   points, warnings 1 to 4 and every field of the registration, for every case
 //   of a file that `generate` wrote and what `oracle batch --registration` says.
+//   A case whose stream is too long (E 0) or whose kind table is refused (E 20)
+//   is not asked.
 // compare ask ANSWERS COUNT: so many canvas points for `oracle project`, through
 //   the registrations that stand in the answers.
 // compare points POINTS PROJECTED: the same points by the library.

@@ -1,7 +1,8 @@
 // Refusals 1 to 6 and 19, and the questions to a scene, asked of the static library and
 // compared with the oracle's answers, for every case of a file that `generate`
 // wrote. Arguments: the cases, and what `oracle batch --scene` says of them. A
-// stream that is longer than its case lends room for (E 0) is not asked.
+// stream that is longer than its case lends room for (E 0), or whose kind table
+// is refused (E 20), is not asked.
 
 use std::collections::BTreeMap;
 use std::process::exit;

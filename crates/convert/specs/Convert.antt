@@ -6,6 +6,7 @@ use lib.ListN.{length}
 use lib.Dec.{eqb, ltb}
 use lib.Ieee.{Float, binary64, div}
 use Rattle.elementary.specs.Constants as K
+use Rattle.kind_table.specs.KindTable.{notDrawn, onScreen}
 use Rattle.scene.specs.Scene.{DrawnPath, DrawnItem}
 use Rattle.values.specs.declared.Point.{Point}
 use Rattle.values.specs.Maybe.{Maybe, none, some, orValue}
@@ -87,22 +88,20 @@ circleOf it = circleShape (it .at) (it .r)
 unfoldable pub dotOf : DrawnItem → Shape
 dotOf it = dotShape (it .at)
 
-unfoldable pub shapeOf : DrawnItem → Shape
-shapeOf it =
+-- by its kind, where the entry of its kind lets it be drawn
+unfoldable pub shapeOf : ℕ → DrawnItem → Shape
+shapeOf e it =
     let k = it .kind in
-    pickShape (it .hidden || eqb k 10) Nothing
+    pickShape (notDrawn (it .hidden) e) Nothing
     (pickShape (eqb k 0) (boxOf it)
     (pickShape (eqb k 1) (circleOf it)
     (pickShape (eqb k 2) (ellipseOf it)
     (pickShape (eqb k 7 || eqb k 8) (dotOf it)
     (pickShape (eqb k 4 || eqb k 5) Points Paths)))))
 
--- texts and dots stay on the screen, and so does what is of a screen class
-unfoldable pub onScreen : ℕ → Bool
-onScreen k = eqb k 7 || eqb k 8
-
-unfoldable pub propsOf : (ℕ → Bool) → ℕ → DrawnItem → Props
-propsOf rule i it = record { item = i; placement = cond (it .screen || rule (it .kind)) 1 0; part = 0; fill = it .fill }
+-- its placement is by its class and the entry of its kind
+unfoldable pub propsOf : ℕ → ℕ → DrawnItem → Props
+propsOf e i it = record { item = i; placement = cond (onScreen (it .screen) e) 1 0; part = 0; fill = it .fill }
 
 abbrev pub at : Float → Float → Point
 at x y = record { x = x; y = y }
@@ -131,17 +130,18 @@ drawnOf cx p it Paths b = pathsTrace cx p (it .paths) (it .fillPaths) b
 drawnOf cx p it Missing b = missing (p .item) b
 drawnOf cx p it Nothing b = noEvents b
 
-unfoldable pub itemOf : (ℕ → Bool) → Ctx → ℕ → DrawnItem → Budget → Trace
-itemOf rule cx i it b = drawnOf cx (propsOf rule i it) it (shapeOf it) b
+-- the i-th, by the entry of its kind
+unfoldable pub itemOf : ℕ → Ctx → ℕ → DrawnItem → Budget → Trace
+itemOf e cx i it b = drawnOf cx (propsOf e i it) it (shapeOf e it) b
 
--- the items, the first of them the i-th
-unfoldable pub itemsOf : (ℕ → Bool) → Ctx → ℕ → List DrawnItem → Budget → Trace
-itemsOf rule cx i [] b = noEvents b
-itemsOf rule cx i (it ∷ its) b = andThenTrace (itemOf rule cx i it b) (λ r. itemsOf rule cx (suc i) its r)
+-- the items, the first of them the i-th; entry says of each kind what the kind table does
+unfoldable pub itemsOf : (ℕ → ℕ) → Ctx → ℕ → List DrawnItem → Budget → Trace
+itemsOf entry cx i [] b = noEvents b
+itemsOf entry cx i (it ∷ its) b = andThenTrace (itemOf (entry (it .kind)) cx i it b) (λ r. itemsOf entry cx (suc i) its r)
 
 -- ---- convert
 unfoldable pub spentOf : Budget → Trace
 spentOf b = pickTrace (b .hit) (oneEvent (warned (record { kind = 6; index = 0 })) b) (noEvents b)
 
-unfoldable pub convertOf : (ℕ → Bool) → Ctx → List DrawnItem → Budget → Trace
-convertOf rule cx its b = andThenTrace (itemsOf rule cx 0 its b) (λ r. spentOf r)
+unfoldable pub convertOf : (ℕ → ℕ) → Ctx → List DrawnItem → Budget → Trace
+convertOf entry cx its b = andThenTrace (itemsOf entry cx 0 its b) (λ r. spentOf r)

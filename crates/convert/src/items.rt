@@ -6,10 +6,11 @@ ghost use Prim.Native.Nat.{_+_, _<_};
 ghost use lib.ListN.{length};
 ghost use Rattle.stream.specs.Payload.{payload};
 ghost use Rattle.stream.specs.Contracts.Payload.{room};
+ghost use Rattle.kind_table.specs.KindTable.{entryOf};
 ghost use Rattle.scene.specs.Contracts.Answers.{LabelsFrom, PathWithin, pointsFrom, pathsFrom};
 ghost use Rattle.scene.specs.Contracts.Answers.{pathsBy, itemsAt, itemBy};
 ghost use Rattle.convert.specs.Convert.{pointsTrace, pathsOf, pathsTrace, withPart};
-ghost use Rattle.convert.specs.Convert.{onScreen, itemOf, itemsOf, convertOf};
+ghost use Rattle.convert.specs.Convert.{itemOf, itemsOf, convertOf};
 ghost use Rattle.strokes.specs.Contracts.Space.{outputBy, Fits, Draws, DrawsQuietly};
 ghost use Rattle.strokes.specs.Contracts.Space.{CanDraw, boxTrace, ellipseTrace};
 use crate::shapes::Shape;
@@ -17,6 +18,7 @@ use crate::shapes::props_of;
 use crate::shapes::shape_of;
 use densify::box_ring;
 use densify::ellipse_ring;
+use kind_table::entry_of;
 use scene::Item;
 use scene::Path;
 use scene::next_item;
@@ -257,8 +259,10 @@ fn draw_paths(
     )
 }
 
+// The i-th item, by the entry of its kind.
 fn draw_item(
     s: &[u8],
+    entry: u8,
     cx: Ctx,
     it: Item,
     i: u32,
@@ -270,12 +274,12 @@ fn draw_item(
 ) -> State
     requires { ⌜ (room (now s) < 4294967295)
         × Fits (outputBy (length (now work)) (now positions) (now features) (now warnings) st) (st .budget) ⌝ }
-    ensures { λ r. ⌜ Draws (itemOf onScreen cx i (itemBy (payload (now (s .entry))) it) (st .budget))
+    ensures { λ r. ⌜ Draws (itemOf entry cx i (itemBy (payload (now (s .entry))) it) (st .budget))
         (now (work .entry)) (now (positions .entry)) (now (features .entry)) (now (warnings .entry)) st
         (now (work .exit)) (now (positions .exit)) (now (features .exit)) (now (warnings .exit)) r ⌝ }
 {
-    let p = props_of(it, i);
-    match shape_of(it) {
+    let p = props_of(it, i, entry);
+    match shape_of(it, entry) {
         Shape::Box(x, y, w, h, rad) => draw_box(
             cx,
             p,
@@ -323,6 +327,7 @@ fn draw_item(
 
 fn draw_items(
     s: &[u8],
+    kinds: &[u8],
     from: usize,
     cx: Ctx,
     work: &mut [f64],
@@ -334,7 +339,8 @@ fn draw_items(
     requires { ⌜ (room (now s) < 4294967295)
         × Fits (outputBy (length (now work)) (now positions) (now features) (now warnings) st) (st .budget)
         × LabelsFrom (payload (now s)) from ⌝ }
-    ensures { λ r. ⌜ Draws (itemsOf onScreen cx 0 (itemsAt (payload (now (s .entry))) 0) (st .budget))
+    ensures { λ r. ⌜ Draws
+        (itemsOf (entryOf (now (kinds .entry))) cx 0 (itemsAt (payload (now (s .entry))) 0) (st .budget))
         (now (work .entry)) (now (positions .entry)) (now (features .entry)) (now (warnings .entry)) st
         (now (work .exit)) (now (positions .exit)) (now (features .exit)) (now (warnings .exit)) r ⌝ }
 {
@@ -349,8 +355,10 @@ fn draw_items(
         if !it.some {
             return state;
         }
+        let entry = entry_of(kinds, it.kind);
         state = draw_item(
             s,
+            entry,
             cx,
             it,
             i as u32,
@@ -365,9 +373,11 @@ fn draw_items(
     }
 }
 
-// Every item of the scene, all of which stand from a position on, then the warning that the allowance was spent.
+// Every item of the scene, all of which stand from a position on, by the kind table; then the warning that the allowance
+// was spent.
 pub fn convert(
     s: &[u8],
+    kinds: &[u8],
     from: usize,
     cx: Ctx,
     work: &mut [f64],
@@ -379,11 +389,12 @@ pub fn convert(
     requires { ⌜ (room (now s) < 4294967295)
         × Fits (outputBy (length (now work)) (now positions) (now features) (now warnings) st) (st .budget)
         × LabelsFrom (payload (now s)) from ⌝ }
-    ensures { λ r. ⌜ Draws (convertOf onScreen cx (itemsAt (payload (now (s .entry))) 0) (st .budget))
+    ensures { λ r. ⌜ Draws
+        (convertOf (entryOf (now (kinds .entry))) cx (itemsAt (payload (now (s .entry))) 0) (st .budget))
         (now (work .entry)) (now (positions .entry)) (now (features .entry)) (now (warnings .entry)) st
         (now (work .exit)) (now (positions .exit)) (now (features .exit)) (now (warnings .exit)) r ⌝ }
 {
-    let r = draw_items(s, from, cx, work, positions, features, warnings, st);
+    let r = draw_items(s, kinds, from, cx, work, positions, features, warnings, st);
     let left = r.budget;
     if !left.hit {
         return r;

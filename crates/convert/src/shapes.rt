@@ -3,10 +3,11 @@ ghost use mathlib.Core.Path.{_≡_};
 ghost use mathlib.Core.List.{List};
 ghost use Prim.Native.Nat.{ℕ};
 ghost use Rattle.scene.specs.Contracts.Answers.{itemBy};
-ghost use Rattle.convert.specs.Convert.{boxOf, ellipseOf, circleOf, dotOf, shapeOf, onScreen, propsOf};
+ghost use Rattle.convert.specs.Convert.{boxOf, ellipseOf, circleOf, dotOf, shapeOf, propsOf};
 use geojson::SCREEN;
+use kind_table::is_not_drawn;
+use kind_table::is_on_screen;
 use records::KIND_ARROW;
-use records::KIND_BLOCK;
 use records::KIND_BOX;
 use records::KIND_CIRCLE;
 use records::KIND_DOT;
@@ -82,21 +83,12 @@ fn dot_of(it: Item) -> Shape
     Shape::Dot(it.at.x, it.at.y)
 }
 
-// Texts and dots stay on the screen.
-fn is_on_screen(kind: u8) -> bool
-    ensures { λ r. ⌜ r ≡ onScreen kind ⌝ }
-{
-    kind == KIND_TEXT || kind == KIND_DOT
-}
-
-pub fn shape_of(it: Item) -> Shape
-    ensures { λ r. ⌜ ((l : List ℕ) → r ≡ shapeOf (itemBy l it)) ⌝ }
+// By its kind, where the entry of its kind lets it be drawn.
+pub fn shape_of(it: Item, entry: u8) -> Shape
+    ensures { λ r. ⌜ ((l : List ℕ) → r ≡ shapeOf entry (itemBy l it)) ⌝ }
 {
     let k = it.kind;
-    if it.hidden {
-        return Shape::Nothing;
-    }
-    if k == KIND_BLOCK {
+    if is_not_drawn(it.hidden, entry) {
         return Shape::Nothing;
     }
     if k == KIND_BOX {
@@ -108,7 +100,10 @@ pub fn shape_of(it: Item) -> Shape
     if k == KIND_ELLIPSE {
         return ellipse_of(it);
     }
-    if is_on_screen(k) {
+    if k == KIND_TEXT {
+        return dot_of(it);
+    }
+    if k == KIND_DOT {
         return dot_of(it);
     }
     if k == KIND_LINE {
@@ -120,12 +115,12 @@ pub fn shape_of(it: Item) -> Shape
     Shape::Paths
 }
 
-// What its feature lines say of the i-th item.
-pub fn props_of(it: Item, i: u32) -> Props
-    ensures { λ r. ⌜ ((l : List ℕ) → r ≡ propsOf onScreen i (itemBy l it)) ⌝ }
+// What its feature lines say of the i-th item, by the entry of its kind.
+pub fn props_of(it: Item, i: u32, entry: u8) -> Props
+    ensures { λ r. ⌜ ((l : List ℕ) → r ≡ propsOf entry i (itemBy l it)) ⌝ }
 {
     let mut placement = 0u32;
-    if it.screen || is_on_screen(it.kind) {
+    if is_on_screen(it.screen, entry) {
         placement = SCREEN;
     }
     Props {

@@ -3,6 +3,7 @@
 
 mod bytes;
 mod earth;
+mod kinds;
 mod names;
 mod shapes;
 mod sizes;
@@ -81,6 +82,17 @@ pub fn all() -> Vec<Case> {
     tiers::written(&mut set);
     tiers::none_left(&mut set);
     tiers::refused(&mut set);
+    kinds::every_entry(&mut set);
+    kinds::blocks_under_any(&mut set);
+    kinds::missing(&mut set);
+    kinds::paths_and_fills(&mut set);
+    kinds::scenes(&mut set);
+    kinds::allowance(&mut set);
+    kinds::room(&mut set);
+    kinds::labels(&mut set);
+    kinds::bad_records(&mut set);
+    kinds::refused(&mut set);
+    kinds::refused_first(&mut set);
     set.checked()
 }
 

@@ -3,7 +3,7 @@
 use super::*;
 
 /// An item of the kind with all that any kind reads.
-fn whole(kind: u8, x: f64) -> Item {
+pub fn whole(kind: u8, x: f64) -> Item {
     let shift = |p: &[Point]| -> Vec<Point> { p.iter().map(|q| [q[0] + x, q[1]]).collect() };
     let item = Item::new(kind).at(x, 0.5).size(2.0, 1.0).r(0.75).rad(0.2);
     let item = item.points(&shift(&SQUARE)).fill_points(&shift(&TRIANGLE));

@@ -148,10 +148,16 @@ pub fn none_left(set: &mut Set) {
 }
 
 pub fn refused(set: &mut Set) {
+    for (n, case) in refusals() {
+        set.cases.push(case.with(|c| (c.name, c.tier) = (format!("tier-0-refused-{n}"), 0)));
+    }
+}
+
+/// A case for each refusal, with its number.
+pub fn refusals() -> Vec<(u32, Case)> {
     let good = Doc::anchored().item(sharp(0.0, 0.0, 2.0, 2.0)).item(Item::new(TEXT));
-    let mut bytes = |n: u32, stream: Vec<u8>| {
-        set.cases.push(Case::place(format!("tier-0-refused-{n}"), stream).with(|c| c.tier = 0));
-    };
+    let mut all = Vec::new();
+    let mut bytes = |n: u32, stream: Vec<u8>| all.push((n, Case::place("", stream)));
     bytes(1, vec![]);
     bytes(2, good.stream().into_iter().rev().collect());
     bytes(3, blocks(&[9]));
@@ -175,19 +181,13 @@ pub fn refused(set: &mut Set) {
     };
     bytes(9, controls(65).stream());
     bytes(11, controls(2).stream());
-    short_of_room(set, &good);
-}
-
-fn short_of_room(set: &mut Set, doc: &Doc) {
     for (n, change) in [
         (15, (|c| c.work = 4) as fn(&mut Case)),
         (16, |c| c.positions = 8),
         (17, |c| c.features = 0),
         (18, |c| c.warnings = 0),
     ] {
-        set.sized(format!("tier-0-refused-{n}"), doc, |c| {
-            c.tier = 0;
-            change(c);
-        });
+        all.push((n, Case::doc("", &good).with(change)));
     }
+    all
 }

@@ -151,12 +151,12 @@ module _ (cx : Ctx) where
   drawn-keeps p it Missing a b n e = still-keeps _ a b n e
   drawn-keeps p it Nothing a b n e = still-keeps [] a b n e
 
-  module _ (rule : ℕ → Bool) where
-    items-keep : (i : ℕ) (its : List DrawnItem) → TraceKeepsFrom (itemsOf rule cx i its)
+  module _ (entry : ℕ → ℕ) where
+    items-keep : (i : ℕ) (its : List DrawnItem) → TraceKeepsFrom (itemsOf entry cx i its)
     unfolding itemsOf itemOf
     items-keep i [] a b n h = still-keeps [] a b n h
-    items-keep i (it ∷ its) a b n h = then-keeps (drawn-keeps (propsOf rule i it) it (shapeOf it) a b n) (items-keep (suc i) its) h
+    items-keep i (it ∷ its) a b n h = then-keeps (drawn-keeps (propsOf (entry (it .kind)) i it) it (shapeOf (entry (it .kind)) it) a b n) (items-keep (suc i) its) h
 
-    pub convert-keeps : (its : List DrawnItem) → TraceKeepsFrom (convertOf rule cx its)
+    pub convert-keeps : (its : List DrawnItem) → TraceKeepsFrom (convertOf entry cx its)
     unfolding convertOf
     convert-keeps its a b n h = then-keeps (items-keep 0 its a b n) spent-keeps h

@@ -190,11 +190,11 @@ module _ (cx : Ctx) where
   told-drawn p it Missing b = told-missing (p .item) b
   told-drawn p it Nothing b = told-no-events b
 
-  module _ (rule : ℕ → Bool) where
-    told-items : (i : ℕ) (its : List DrawnItem) (b : Budget) → Told b (itemsOf rule cx i its b)
+  module _ (entry : ℕ → ℕ) where
+    told-items : (i : ℕ) (its : List DrawnItem) (b : Budget) → Told b (itemsOf entry cx i its b)
     unfolding itemsOf itemOf
     told-items i [] b = told-no-events b
-    told-items i (it ∷ its) b = told-then (told-drawn (propsOf rule i it) it (shapeOf it) b) (told-items (suc i) its _)
+    told-items i (it ∷ its) b = told-then (told-drawn (propsOf (entry (it .kind)) i it) it (shapeOf (entry (it .kind)) it) b) (told-items (suc i) its _)
 
 -- ---- convert
 -- the warning that the budget was hit
@@ -228,22 +228,22 @@ unfolding anyOfKind
 spent-six true = refl
 spent-six false = refl
 
-module _ (rule : ℕ → Bool) (cx : Ctx) (its : List DrawnItem) (b : Budget) where
-  pub convert-replays : TraceReplays b (convertOf rule cx its b)
+module _ (entry : ℕ → ℕ) (cx : Ctx) (its : List DrawnItem) (b : Budget) where
+  pub convert-replays : TraceReplays b (convertOf entry cx its b)
   unfolding convertOf
-  convert-replays = then-replays (told-items cx rule 0 its b .replays) (spent-told _ .0)
+  convert-replays = then-replays (told-items cx entry 0 its b .replays) (spent-told _ .0)
 
   -- those of the items, none of which has the kind 6; then warning 6 exactly where the budget was hit
-  pub convert-warnings : let t = convertOf rule cx its b in warningsIn (t .events) ≡ warningsIn (itemsOf rule cx 0 its b .events) ++ spent (t .after .hit)
+  pub convert-warnings : let t = convertOf entry cx its b in warningsIn (t .events) ≡ warningsIn (itemsOf entry cx 0 its b .events) ++ spent (t .after .hit)
   unfolding convertOf
-  convert-warnings = rw (warnings-append, spent-told (itemsOf rule cx 0 its b .after) .1)
+  convert-warnings = rw (warnings-append, spent-told (itemsOf entry cx 0 its b .after) .1)
 
-  pub items-warnings : Each Five (warningsIn (itemsOf rule cx 0 its b .events))
-  items-warnings = told-items cx rule 0 its b .fives
+  pub items-warnings : Each Five (warningsIn (itemsOf entry cx 0 its b .events))
+  items-warnings = told-items cx entry 0 its b .fives
 
   -- warning 6 stands where the budget was hit, and nowhere else
-  pub spent-warned : anyOfKind 6 (warningsIn (convertOf rule cx its b .events)) ≡ convertOf rule cx its b .after .hit
+  pub spent-warned : anyOfKind 6 (warningsIn (convertOf entry cx its b .events)) ≡ convertOf entry cx its b .after .hit
   spent-warned =
       ap (anyOfKind 6) convert-warnings
-      ∙ any-append 6 (warningsIn (itemsOf rule cx 0 its b .events)) (spent (convertOf rule cx its b .after .hit))
-      ∙ rw (none-six (warningsIn (itemsOf rule cx 0 its b .events)) items-warnings) (spent-six (convertOf rule cx its b .after .hit))
+      ∙ any-append 6 (warningsIn (itemsOf entry cx 0 its b .events)) (spent (convertOf entry cx its b .after .hit))
+      ∙ rw (none-six (warningsIn (itemsOf entry cx 0 its b .events)) items-warnings) (spent-six (convertOf entry cx its b .after .hit))

@@ -33,6 +33,7 @@ use Rattle.convert.specs.declared.shapes.Shape.{Shape}
 use Rattle.convert.specs.declared.shapes.Shape.the-variants.{Box, Ellipse, Circle, Dot, Points, Paths, Missing, Nothing}
 use Rattle.strokes.specs.declared.state.Ctx.{Ctx}
 use Rattle.strokes.specs.declared.state.Props.{Props}
+use Rattle.kind_table.specs.KindTable.{notDrawn}
 use Rattle.convert.specs.Convert.{firstPath, laterPaths, outlineOf, pathOf, withPart, pathsOf, boxShape, ellipseShape, circleShape, dotShape, pickShape, boxOf, ellipseOf, circleOf, dotOf, shapeOf, propsOf, at, half, pointsTrace, pathsTrace, drawnOf, itemOf, itemsOf, spentOf, convertOf}
 use Rattle.strokes.specs.Strokes.{Event, drew, need, feature, warned, Trace, noEvents, oneEvent, andThenTrace, pickTrace, drawsTrace, missing, endWith, firstRepeated, featureOf, strokeOf, drawWithoutWriting, pointOf, fillOf, shapeTrace, closedOutline, polylineOrPolygonOf, ringTrace}
 use Rattle.strokes.specs.Features.{AllOnGlobe, AllWellFormed, featuresIn}
@@ -224,11 +225,11 @@ module _ (it : DrawnItem) (N : NearItem it) where
       go (some c) i = record { near = near-point c i }
       go none i = record { near = tt }
 
-  shape-measured : Measured (shapeOf it)
+  shape-measured : (e : ℕ) → Measured (shapeOf e it)
   unfolding shapeOf
-  shape-measured =
+  shape-measured e =
       let k = it .kind in
-      pick-measured (it .hidden || eqb k 10) (record { near = tt })
+      pick-measured (notDrawn (it .hidden) e) (record { near = tt })
       (pick-measured (eqb k 0) box-measured
       (pick-measured (eqb k 1) circle-measured
       (pick-measured (eqb k 2) ellipse-measured
@@ -351,17 +352,17 @@ module _ (r : Registration) (S : Sound r) (step flatten : Float) where
   formed-drawn p it Missing b N k = formed-missing (p .item) b
   formed-drawn p it Nothing b N k = formed-no-events b
 
-  module _ (rule : ℕ → Bool) where
-    formed-items : (i : ℕ) (its : List DrawnItem) (b : Budget) → Each NearItem its → Formed (itemsOf rule cx i its b)
+  module _ (entry : ℕ → ℕ) where
+    formed-items : (i : ℕ) (its : List DrawnItem) (b : Budget) → Each NearItem its → Formed (itemsOf entry cx i its b)
     unfolding itemsOf itemOf
     formed-items i [] b h = formed-no-events b
-    formed-items i (it ∷ its) b h = formed-then (formed-drawn (propsOf rule i it) it (shapeOf it) b (h .0) (shape-measured it (h .0) .near)) (formed-items (suc i) its _ (h .1))
+    formed-items i (it ∷ its) b h = formed-then (formed-drawn (propsOf (entry (it .kind)) i it) it (shapeOf (entry (it .kind)) it) b (h .0) (shape-measured it (h .0) (entry (it .kind)) .near)) (formed-items (suc i) its _ (h .1))
 
 formed-spent : (b : Budget) → Formed (spentOf b)
 unfolding spentOf featuresIn
 formed-spent b = formed-pick (b .hit) (λ t. record { each = tt }) (λ t. formed-no-events b)
 
-pub convert-well-formed : (rule : ℕ → Bool) (r : Registration) (step flatten : Float) (its : List DrawnItem) (b : Budget) → Sound r → Each NearItem its →
-    AllWellFormed (featuresIn (convertOf rule (record { projection = projectionOf r; step = step; flatten = flatten }) its b .events))
+pub convert-well-formed : (entry : ℕ → ℕ) (r : Registration) (step flatten : Float) (its : List DrawnItem) (b : Budget) → Sound r → Each NearItem its →
+    AllWellFormed (featuresIn (convertOf entry (record { projection = projectionOf r; step = step; flatten = flatten }) its b .events))
 unfolding convertOf
-convert-well-formed rule r step flatten its b S N = formed-then (formed-items r S step flatten rule 0 its b N) (formed-spent _) .each
+convert-well-formed entry r step flatten its b S N = formed-then (formed-items r S step flatten entry 0 its b N) (formed-spent _) .each

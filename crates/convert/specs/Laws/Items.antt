@@ -26,7 +26,7 @@ use Rattle.convert.specs.declared.shapes.Shape.{Shape}
 use Rattle.strokes.specs.declared.state.Ctx.{Ctx}
 use Rattle.strokes.specs.declared.state.Props.{Props}
 use Rattle.strokes.specs.declared.state.State.{State}
-use Rattle.convert.specs.Convert.{pathsOf, shapeOf, onScreen, propsOf, pointsTrace, pathsTrace, drawnOf, itemOf}
+use Rattle.convert.specs.Convert.{pathsOf, shapeOf, propsOf, pointsTrace, pathsTrace, drawnOf, itemOf}
 use Rattle.strokes.specs.Strokes.{Trace, missing, polylineOrPolygonOf, ringTrace}
 use Rattle.strokes.specs.Space.{Output}
 use Rattle.strokes.specs.Contracts.Space.{most, outputBy, Applied, Small, DrawsQuietly, RingLoaded, RingEnds, DrawsRing}
@@ -115,7 +115,7 @@ module _ (cx : Ctx) (p : Props) {qs : List DrawnPath} (outlines : List DrawnPath
   paths-drawn e more h = rw (e, more) (rw e at h)
 
 -- ---- an item
-pub item-drawn : (cx : Ctx) {p : Props} (i : ℕ) (it : DrawnItem) {r s : Shape} (b : Budget) {c : Budget} {t u : Output} → p ≡ propsOf onScreen i it → r ≡ shapeOf it → r ≡ s
-    → Applied (drawnOf cx p it s b) t u c → Applied (itemOf onScreen cx i it b) t u c
+pub item-drawn : (e : ℕ) (cx : Ctx) {p : Props} (i : ℕ) (it : DrawnItem) {r s : Shape} (b : Budget) {c : Budget} {t u : Output} → p ≡ propsOf e i it → r ≡ shapeOf e it → r ≡ s
+    → Applied (drawnOf cx p it s b) t u c → Applied (itemOf e cx i it b) t u c
 unfolding itemOf
-item-drawn cx i it b props shape is h = rw (← props, ← shape, is) h
+item-drawn e cx i it b props shape is h = rw (← props, ← shape, is) h

@@ -126,16 +126,16 @@ module _ (cx : Ctx) (p : Props) (many : Bool) (l : List ℕ) (outlines : List Dr
       (rw (e, not-false (path .some) n, k, head-given, tail-given, add-one) refl) one more
 
 -- ---- the items of a scene
-module _ (rule : ℕ → Bool) (cx : Ctx) (l : List ℕ) {whole : Trace} {t₀ t : Output} {b : Budget} {q i : ℕ}
-    (d : Loop whole t₀ t (itemsOf rule cx i (itemsAt l q) b) b q i) (it : Item) (e : itemsAt l q ≡ itemsBy l it) where
+module _ (entry : ℕ → ℕ) (cx : Ctx) (l : List ℕ) {whole : Trace} {t₀ t : Output} {b : Budget} {q i : ℕ}
+    (d : Loop whole t₀ t (itemsOf entry cx i (itemsAt l q) b) b q i) (it : Item) (e : itemsAt l q ≡ itemsBy l it) where
   pub all-items : not (it .some) ≡ true → Applied whole t₀ t b
   unfolding itemsOf
   all-items n = all-done d (rw (e, not-true (it .some) n) refl)
 
-  pub one-item : not (it .some) ≡ false → q < it .next → {u : Output} {c : Budget} → Applied (itemOf rule cx i (itemBy l it) b) t u c
-      → Loop whole t₀ u (itemsOf rule cx (i + 1) (itemsAt l (it .next)) c) c (it .next) (i + 1)
-  unfolding itemsOf
-  one-item n more one = one-done d (λ r. itemsOf rule cx (i + 1) (itemsAt l (it .next)) r) (rw (e, not-false (it .some) n, add-one) refl) one more
+  pub one-item : not (it .some) ≡ false → q < it .next → {k : ℕ} {u : Output} {c : Budget} → k ≡ entry (it .kind) → Applied (itemOf k cx i (itemBy l it) b) t u c
+      → Loop whole t₀ u (itemsOf entry cx (i + 1) (itemsAt l (it .next)) c) c (it .next) (i + 1)
+  unfolding itemsOf itemBy
+  one-item n more same one = one-done d (λ r. itemsOf entry cx (i + 1) (itemsAt l (it .next)) r) (rw (e, not-false (it .some) n, add-one, same) refl) one more
 
 -- ---- all items, then the warning that the allowance was spent
 module _ (b : Budget) where
@@ -147,11 +147,11 @@ module _ (b : Budget) where
   unfolding spentOf
   spent-warns n = rw (not-false (b .hit) n) refl
 
-module _ (rule : ℕ → Bool) (cx : Ctx) (its : List DrawnItem) (b : Budget) {t u : Output} {c : Budget} (all : Applied (itemsOf rule cx 0 its b) t u c) where
-  pub all-within : not (c .hit) ≡ true → Applied (convertOf rule cx its b) t u c
+module _ (entry : ℕ → ℕ) (cx : Ctx) (its : List DrawnItem) (b : Budget) {t u : Output} {c : Budget} (all : Applied (itemsOf entry cx 0 its b) t u c) where
+  pub all-within : not (c .hit) ≡ true → Applied (convertOf entry cx its b) t u c
   unfolding convertOf
   all-within n = applied-then spentOf all (rw (unspent c n) (applied-no-events u c (all .fits)))
 
-  pub all-spent : {v : Output} {d : Budget} → not (c .hit) ≡ false → Applied (oneEvent (warned (record { kind = 6; index = 0 })) c) u v d → Applied (convertOf rule cx its b) t v d
+  pub all-spent : {v : Output} {d : Budget} → not (c .hit) ≡ false → Applied (oneEvent (warned (record { kind = 6; index = 0 })) c) u v d → Applied (convertOf entry cx its b) t v d
   unfolding convertOf
   all-spent n h = applied-then spentOf all (rw (spent-warns c n) h)

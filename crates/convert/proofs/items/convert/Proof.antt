@@ -1,5 +1,4 @@
 use borrow.Author.Needs.{needs}
-use Rattle.convert.specs.Convert.{onScreen}
 use Rattle.convert.specs.Laws.Loops.{all-within, all-spent}
 use Rattle.convert.proofs.items.convert.Statement.{statement}
 use Rattle.convert.proofs.items.convert.Tie as tie
@@ -20,7 +19,7 @@ same-length-4 : tie.Need-same-length-4
 same-length-4 c = search needs
 
 returns : tie.Need-returns
-returns c = all-within onScreen _ _ _ (c .before .before .before .before .before .before .before .before .before .before .before .draw-items .ensures) (c .if1 .taken)
+returns c = all-within _ _ _ _ (c .before .before .before .before .before .before .before .before .before .before .before .draw-items .ensures) (c .if1 .taken)
 
 warn-requires : tie.Need-warn-requires
 warn-requires c κs = c .before .before .before .before .before .before .before .before .before .before .before .before .draw-items .ensures .fits .warnings
@@ -38,7 +37,7 @@ same-length-8 : tie.Need-same-length-8
 same-length-8 c = search needs
 
 returns-2 : tie.Need-returns-2
-returns-2 c = all-spent onScreen _ _ _ (c .before .before .before .before .before .before .before .before .before .before .before .before .before .before .before .draw-items .ensures) (c .before .before .before .before .if1 .left) (c .before .before .warn .ensures _ _ _ (c .before .before .before .before .before .before .before .before .before .before .before .before .before .before .before .draw-items .ensures .fits))
+returns-2 c = all-spent _ _ _ _ (c .before .before .before .before .before .before .before .before .before .before .before .before .before .before .before .draw-items .ensures) (c .before .before .before .before .if1 .left) (c .before .before .warn .ensures _ _ _ (c .before .before .before .before .before .before .before .before .before .before .before .before .before .before .before .draw-items .ensures .fits))
 
 pub convert-spec : {M : Type 1} → statement M
 convert-spec =

@@ -75,7 +75,7 @@ same-length-3 c = search needs
 
 returns : tie.Need-returns
 unfolding drawnOf
-returns c = item-drawn _ _ _ _ (c .before .before .before .before .before .before .before .before .before .before .before .before .before .before .props-of .ensures _) (c .before .before .before .before .before .before .before .before .before .before .before .before .before .shape-of .ensures _) (c .before .before .before .before .before .before .before .before .before .before .before .x .given .1) (c .before .before .before .before .before .before .draw-box .ensures _ (c .before .before .before .before .before .before .before .before .before .before .before .before .before .before .before .before .before .before .before .before .pre .1))
+returns c = item-drawn _ _ _ _ _ (c .before .before .before .before .before .before .before .before .before .before .before .before .before .before .props-of .ensures _) (c .before .before .before .before .before .before .before .before .before .before .before .before .before .shape-of .ensures _) (c .before .before .before .before .before .before .before .before .before .before .before .x .given .1) (c .before .before .before .before .before .before .draw-box .ensures _ (c .before .before .before .before .before .before .before .before .before .before .before .before .before .before .before .before .before .before .before .before .pre .1))
 
 same-length-4 : tie.Need-same-length-4
 same-length-4 c = search needs
@@ -88,7 +88,7 @@ same-length-6 c = search needs
 
 returns-2 : tie.Need-returns-2
 unfolding drawnOf
-returns-2 c = item-drawn _ _ _ _ (c .before .before .before .before .before .before .before .before .before .before .before .before .before .before .props-of .ensures _) (c .before .before .before .before .before .before .before .before .before .before .before .before .before .shape-of .ensures _) (c .before .before .before .before .before .before .before .before .before .before .before .x2 .given .1) (c .before .before .before .before .before .before .draw-ellipse .ensures _ (c .before .before .before .before .before .before .before .before .before .before .before .before .before .before .before .before .before .before .before .before .pre .1))
+returns-2 c = item-drawn _ _ _ _ _ (c .before .before .before .before .before .before .before .before .before .before .before .before .before .before .props-of .ensures _) (c .before .before .before .before .before .before .before .before .before .before .before .before .before .shape-of .ensures _) (c .before .before .before .before .before .before .before .before .before .before .before .x2 .given .1) (c .before .before .before .before .before .before .draw-ellipse .ensures _ (c .before .before .before .before .before .before .before .before .before .before .before .before .before .before .before .before .before .before .before .before .pre .1))
 
 same-length-7 : tie.Need-same-length-7
 same-length-7 c = search needs
@@ -101,7 +101,7 @@ same-length-9 c = search needs
 
 returns-3 : tie.Need-returns-3
 unfolding drawnOf
-returns-3 c = item-drawn _ _ _ _ (c .before .before .before .before .before .before .before .before .before .before .before .before .before .before .props-of .ensures _) (c .before .before .before .before .before .before .before .before .before .before .before .before .before .shape-of .ensures _) (c .before .before .before .before .before .before .before .before .before .before .before .x3 .given .1) (c .before .before .before .before .before .before .draw-ellipse2 .ensures _ (c .before .before .before .before .before .before .before .before .before .before .before .before .before .before .before .before .before .before .before .before .pre .1))
+returns-3 c = item-drawn _ _ _ _ _ (c .before .before .before .before .before .before .before .before .before .before .before .before .before .before .props-of .ensures _) (c .before .before .before .before .before .before .before .before .before .before .before .before .before .shape-of .ensures _) (c .before .before .before .before .before .before .before .before .before .before .before .x3 .given .1) (c .before .before .before .before .before .before .draw-ellipse2 .ensures _ (c .before .before .before .before .before .before .before .before .before .before .before .before .before .before .before .before .before .before .before .before .pre .1))
 
 same-length-10 : tie.Need-same-length-10
 same-length-10 c = search needs
@@ -111,7 +111,7 @@ same-length-11 c = search needs
 
 returns-4 : tie.Need-returns-4
 unfolding drawnOf
-returns-4 c = item-drawn _ _ _ _ (c .before .before .before .before .before .before .before .before .before .before .before .props-of .ensures _) (c .before .before .before .before .before .before .before .before .before .before .shape-of .ensures _) (c .before .before .before .before .before .before .before .before .x4 .given .1) (c .before .before .before .before .point-feature .ensures _ _ (c .before .before .before .before .before .before .before .before .before .before .before .before .before .before .before .before .before .pre .1))
+returns-4 c = item-drawn _ _ _ _ _ (c .before .before .before .before .before .before .before .before .before .before .before .props-of .ensures _) (c .before .before .before .before .before .before .before .before .before .before .shape-of .ensures _) (c .before .before .before .before .before .before .before .before .x4 .given .1) (c .before .before .before .before .point-feature .ensures _ _ (c .before .before .before .before .before .before .before .before .before .before .before .before .before .before .before .before .before .pre .1))
 
 same-length-12 : tie.Need-same-length-12
 same-length-12 c = search needs
@@ -127,7 +127,7 @@ same-length-15 c = search needs
 
 returns-5 : tie.Need-returns-5
 unfolding drawnOf itemBy
-returns-5 c = item-drawn _ _ _ _ (c .before .before .before .before .before .before .before .before .before .before .before .before .before .before .before .before .props-of .ensures _) (c .before .before .before .before .before .before .before .before .before .before .before .before .before .before .before .shape-of .ensures _) (c .before .before .before .before .before .before .before .before .before .before .before .before .before .enum-told .given .1) (c .before .before .before .before .before .before .before .before .draw-points .ensures)
+returns-5 c = item-drawn _ _ _ _ _ (c .before .before .before .before .before .before .before .before .before .before .before .before .before .before .before .before .props-of .ensures _) (c .before .before .before .before .before .before .before .before .before .before .before .before .before .before .before .shape-of .ensures _) (c .before .before .before .before .before .before .before .before .before .before .before .before .before .enum-told .given .1) (c .before .before .before .before .before .before .before .before .draw-points .ensures)
 
 same-length-16 : tie.Need-same-length-16
 same-length-16 c = search needs
@@ -143,18 +143,18 @@ same-length-19 c = search needs
 
 returns-6 : tie.Need-returns-6
 unfolding drawnOf itemBy
-returns-6 c = item-drawn _ _ _ _ (c .before .before .before .before .before .before .before .before .before .before .before .before .before .before .before .before .props-of .ensures _) (c .before .before .before .before .before .before .before .before .before .before .before .before .before .before .before .shape-of .ensures _) (c .before .before .before .before .before .before .before .before .before .before .before .before .before .enum-told2 .given .1) (c .before .before .before .before .before .before .before .before .draw-paths .ensures)
+returns-6 c = item-drawn _ _ _ _ _ (c .before .before .before .before .before .before .before .before .before .before .before .before .before .before .before .before .props-of .ensures _) (c .before .before .before .before .before .before .before .before .before .before .before .before .before .before .before .shape-of .ensures _) (c .before .before .before .before .before .before .before .before .before .before .before .before .before .enum-told2 .given .1) (c .before .before .before .before .before .before .before .before .draw-paths .ensures)
 
 same-length-20 : tie.Need-same-length-20
 same-length-20 c = search needs
 
 returns-7 : tie.Need-returns-7
 unfolding drawnOf propsOf
-returns-7 c = item-drawn _ _ _ _ refl (c .before .before .before .before .before .before .shape-of .ensures _) (c .before .before .before .before .enum-told3 .given .1) (c .before .before .warn .ensures _ _ _ (c .before .before .before .before .before .before .before .before .before .before .before .before .before .pre .1))
+returns-7 c = item-drawn _ _ _ _ _ refl (c .before .before .before .before .before .before .shape-of .ensures _) (c .before .before .before .before .enum-told3 .given .1) (c .before .before .warn .ensures _ _ _ (c .before .before .before .before .before .before .before .before .before .before .before .before .before .pre .1))
 
 returns-8 : tie.Need-returns-8
 unfolding drawnOf
-returns-8 c = item-drawn _ _ _ _ (c .before .before .before .props-of .ensures _) (c .before .before .shape-of .ensures _) (c .enum-told4 .given .1) (applied-no-events _ _ (c .before .before .before .before .before .before .before .before .before .pre .1))
+returns-8 c = item-drawn _ _ _ _ _ (c .before .before .before .props-of .ensures _) (c .before .before .shape-of .ensures _) (c .enum-told4 .given .1) (applied-no-events _ _ (c .before .before .before .before .before .before .before .before .before .pre .1))
 
 pub draw-item-spec : {M : Type 1} → statement M
 draw-item-spec =

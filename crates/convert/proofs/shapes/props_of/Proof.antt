@@ -1,5 +1,4 @@
 use mathlib.Core.Path.{sym, _∙_}
-use mathlib.Core.Logic.{⊎-elim}
 use borrow.Author.Needs.{needs}
 use Rattle.scene.specs.Contracts.Answers.{itemBy}
 use Rattle.convert.specs.Convert.{propsOf}
@@ -11,11 +10,11 @@ is-on-screen-requires c κs = search needs
 
 returns : tie.Need-returns
 unfolding propsOf itemBy
-returns c = λ l. ⊎-elim (λ t. rw (t .taken)) (λ t. rw (t .0 .left, sym (t .1 .ensures) ∙ t .2 .taken)) (c .if1 .came)
+returns c = λ l. rw (sym (c .before .is-on-screen .ensures) ∙ c .if1 .taken)
 
 returns-2 : tie.Need-returns-2
 unfolding propsOf itemBy
-returns-2 c = λ l. rw (c .before .before .if1 .left, sym (c .before .is-on-screen .ensures) ∙ c .if2 .left)
+returns-2 c = λ l. rw (sym (c .before .is-on-screen .ensures) ∙ c .if1 .left)
 
 pub props-of-spec : {M : Type 1} → statement M
 props-of-spec = tie.close (tie.spec is-on-screen-requires returns returns-2)

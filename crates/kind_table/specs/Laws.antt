@@ -1,0 +1,2 @@
+-- The laws of these definitions.
+pub mod KindTable

@@ -1,0 +1,3 @@
+-- The kind table.
+pub mod KindTable
+pub mod Laws
