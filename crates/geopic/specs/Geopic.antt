@@ -1,4 +1,4 @@
--- The host's call: its answer, and what each of the four lent slices holds after it, for every stream, every tier and every length of the slices.
+-- The host's call: its answer, and what each of the four lent slices holds after it, for every stream, every kind table, every tier and every length of the slices.
 use Prim.Native.Nat.{ℕ, zero, suc, _/_}
 use mathlib.Core.Bool.{Bool, true, false, cond}
 use mathlib.Core.List.{List, [], _∷_, _++_, map}
@@ -8,6 +8,7 @@ use lib.Ieee.{Float}
 use Rattle.stream.specs.Conditions.{Condition, firstOf}
 use Rattle.stream.specs.Payload.{payload}
 use Rattle.records.specs.Conditions.{ofStream}
+use Rattle.kind_table.specs.KindTable.{entryOf, ofKindTable}
 use Rattle.scene.specs.Scene.{Scene, sceneOf}
 use Rattle.projection.specs.declared.Registration.{Registration}
 use Rattle.projection.specs.Projection.{projectionOf}
@@ -15,7 +16,7 @@ use Rattle.register.specs.Register.{f0, registrationOf, ofRegistration, registe
 use Rattle.budget.specs.declared.Budget.{Budget}
 use Rattle.budget.specs.Budget.{allowanceOf, fresh}
 use Rattle.strokes.specs.declared.state.Ctx.{Ctx}
-use Rattle.convert.specs.Convert.{onScreen, convertOf}
+use Rattle.convert.specs.Convert.{convertOf}
 use Rattle.strokes.specs.Strokes.{warned, Trace}
 use Rattle.strokes.specs.Space.{Output, applyAll, ofSpace}
 use Rattle.geopic.specs.declared.Answer.{Answer}
@@ -24,10 +25,10 @@ use Rattle.geopic.specs.declared.Answer.{Answer}
 abbrev pub ctxOf : Scene → Ctx
 ctxOf sc = record { projection = projectionOf (registrationOf sc); step = sc .step; flatten = sc .flatten }
 
--- the registration's warnings, then everything that its items draw from so many vertices
-unfoldable pub traceOf : ℕ → Scene → Trace
-traceOf allowance sc =
-    let t = convertOf onScreen (ctxOf sc) (sc .items) (fresh allowance) in
+-- the registration's warnings, then everything that its items draw, by the kind table, from so many vertices
+unfoldable pub traceOf : List ℕ → ℕ → Scene → Trace
+traceOf kinds allowance sc =
+    let t = convertOf (entryOf kinds) (ctxOf sc) (sc .items) (fresh allowance) in
     record { events = map warned (registerWarnings sc) ++ t .events; after = t .after }
 
 -- ---- what is lent, and the sheet that comes of it
@@ -53,21 +54,21 @@ unused t =
       number = 0;
     }
 
-unfoldable pub outputOf : ℕ → Scene → Buffers → Output
-outputOf allowance sc t = applyAll (traceOf allowance sc .events) (unused t)
+unfoldable pub outputOf : List ℕ → ℕ → Scene → Buffers → Output
+outputOf kinds allowance sc t = applyAll (traceOf kinds allowance sc .events) (unused t)
 
--- ---- document 01's eighteen conditions and 02's nineteenth, in the order of checking
--- those that are checked before the lent slices are looked at: 1 to 5, 19 and 6 of the stream, 7 to 14 of the
--- registration
-unfoldable pub early : List ℕ → List Condition
-early s = ofStream s ++ ofRegistration (sceneOf (payload s))
+-- ---- document 01's eighteen conditions, and 19 and 20 of 02, in the order of checking
+-- those that are checked before the lent slices are looked at: 20 of the kind table, 1 to 5, 19 and 6 of the stream,
+-- 7 to 14 of the registration
+unfoldable pub early : List ℕ → List ℕ → List Condition
+early s kinds = ofKindTable kinds ++ (ofStream s ++ ofRegistration (sceneOf (payload s)))
 
 -- and 15 to 18: the first thing that lacks room
-unfoldable pub conditions : List ℕ → ℕ → Buffers → List Condition
-conditions s tier t = early s ++ ofSpace (outputOf (allowanceOf tier) (sceneOf (payload s)) t)
+unfoldable pub conditions : List ℕ → List ℕ → ℕ → Buffers → List Condition
+conditions s kinds tier t = early s kinds ++ ofSpace (outputOf kinds (allowanceOf tier) (sceneOf (payload s)) t)
 
-unfoldable pub numberOf : List ℕ → ℕ → Buffers → ℕ
-numberOf s tier t = firstOf (conditions s tier t)
+unfoldable pub numberOf : List ℕ → List ℕ → ℕ → Buffers → ℕ
+numberOf s kinds tier t = firstOf (conditions s kinds tier t)
 
 -- ---- the answer
 -- a refusal's number, and zero for everything else
@@ -92,12 +93,12 @@ abbrev pub pickAnswer : Bool → Answer → Answer → Answer
 pickAnswer true a b = a
 pickAnswer false a b = b
 
-unfoldable pub answerOf : List ℕ → ℕ → Buffers → Answer
-answerOf s tier t =
+unfoldable pub answerOf : List ℕ → List ℕ → ℕ → Buffers → Answer
+answerOf s kinds tier t =
     let sc = sceneOf (payload s) in
     let allowance = allowanceOf tier in
-    let n = numberOf s tier t in
-    pickAnswer (eqb n 0) (acceptance (registrationOf sc) (outputOf allowance sc t) (traceOf allowance sc .after)) (refusal n)
+    let n = numberOf s kinds tier t in
+    pickAnswer (eqb n 0) (acceptance (registrationOf sc) (outputOf kinds allowance sc t) (traceOf kinds allowance sc .after)) (refusal n)
 
 -- ---- the slices
 unfoldable pub clear : {A : Type 0} → A → ℕ → List A
@@ -113,11 +114,11 @@ unfoldable pub sliceBy : {A : Type 0} → ℕ → ℕ → A → List A → List 
 sliceBy first n z before written = pickList (eqb first 0) (pickList (eqb n 0) written (clear z (length before))) before
 
 -- an accepted call clears work too; the others hold what was written, and their tails are as they were
-unfoldable pub buffersAfter : List ℕ → ℕ → Buffers → Buffers
-buffersAfter s tier t =
-    let first = firstOf (early s) in
-    let n = numberOf s tier t in
-    let u = outputOf (allowanceOf tier) (sceneOf (payload s)) t in
+unfoldable pub buffersAfter : List ℕ → List ℕ → ℕ → Buffers → Buffers
+buffersAfter s kinds tier t =
+    let first = firstOf (early s kinds) in
+    let n = numberOf s kinds tier t in
+    let u = outputOf kinds (allowanceOf tier) (sceneOf (payload s)) t in
     record {
       work = sliceBy first n f0 (t .work) (clear f0 (length (t .work)));
       positions = sliceBy first n f0 (t .positions) (u .positions);

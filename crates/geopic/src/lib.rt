@@ -13,6 +13,7 @@ ghost use Rattle.geopic.specs.Geopic.{traceOf, buffersBy, unused, refusa
 ghost use Rattle.geopic.specs.Contracts.Opened.{Opens, Registers};
 use budget::Budget;
 use convert::convert;
+use kind_table::table_refusal;
 use projection::Registration;
 use projection::projection_of;
 use register::Survey;
@@ -82,10 +83,14 @@ fn clear_words(out: &mut [u32])
 
 // The step with which each call of the host begins: every condition that is checked before the lent slices. `kept` gets
 // the numbers of the names that are control points.
-fn open_stream(s: &[u8], kept: &mut [u32]) -> Opened
+fn open_stream(s: &[u8], kinds: &[u8], kept: &mut [u32]) -> Opened
     requires { ⌜ length (now kept) ≡ 64 ⌝ }
-    ensures { λ o. ⌜ Opens (now (s .entry)) (now (kept .exit)) o ⌝ }
+    ensures { λ o. ⌜ Opens (now (s .entry)) (now (kinds .entry)) (now (kept .exit)) o ⌝ }
 {
+    let table = table_refusal(kinds);
+    if table != 0 {
+        return Opened::Refused(table);
+    }
     let number = records::refusal(s);
     if number != 0 {
         return Opened::Refused(number);
@@ -102,6 +107,7 @@ fn open_stream(s: &[u8], kept: &mut [u32]) -> Opened
 // The registration's warnings, then every item.
 fn write_output(
     s: &[u8],
+    kinds: &[u8],
     tier: u32,
     v: Survey,
     r: Registration,
@@ -111,8 +117,8 @@ fn write_output(
     features: &mut [u32],
     warnings: &mut [u32],
 ) -> State
-    requires { ⌜ Registers (now s) v r (now kept) ⌝ }
-    ensures { λ st. ⌜ Applied (traceOf (allowanceOf tier) (sceneOf (payload (now (s .entry)))))
+    requires { ⌜ Registers (now s) (now kinds) v r (now kept) ⌝ }
+    ensures { λ st. ⌜ Applied (traceOf (now (kinds .entry)) (allowanceOf tier) (sceneOf (payload (now (s .entry)))))
         (unused
         (buffersBy (now (work .entry)) (now (positions .entry)) (now (features .entry)) (now (warnings .entry))))
         (outputBy (length (now (work .exit))) (now (positions .exit)) (now (features .exit)) (now (warnings .exit)) st)
@@ -137,7 +143,17 @@ fn write_output(
         step,
         flatten: scene::flatten(s),
     };
-    convert(s, v.places_at, cx, work, positions, features, warnings, st)
+    convert(
+        s,
+        kinds,
+        v.places_at,
+        cx,
+        work,
+        positions,
+        features,
+        warnings,
+        st,
+    )
 }
 
 fn accept(r: Registration, st: State) -> Answer
@@ -164,6 +180,7 @@ fn accept(r: Registration, st: State) -> Answer
 // What a stream that has been opened answers and leaves in the slices.
 fn place_registered(
     s: &[u8],
+    kinds: &[u8],
     tier: u32,
     v: Survey,
     r: Registration,
@@ -173,16 +190,27 @@ fn place_registered(
     features: &mut [u32],
     warnings: &mut [u32],
 ) -> Answer
-    requires { ⌜ Registers (now s) v r (now kept) ⌝ }
+    requires { ⌜ Registers (now s) (now kinds) v r (now kept) ⌝ }
     ensures { λ a. ⌜ a
-        ≡ answerOf (now (s .entry)) tier
+        ≡ answerOf (now (s .entry)) (now (kinds .entry)) tier
         (buffersBy (now (work .entry)) (now (positions .entry)) (now (features .entry)) (now (warnings .entry))) ⌝ }
     ensures { λ a. ⌜ buffersBy (now (work .exit)) (now (positions .exit))
         (now (features .exit)) (now (warnings .exit))
-        ≡ buffersAfter (now (s .entry)) tier
+        ≡ buffersAfter (now (s .entry)) (now (kinds .entry)) tier
         (buffersBy (now (work .entry)) (now (positions .entry)) (now (features .entry)) (now (warnings .entry))) ⌝ }
 {
-    let st = write_output(s, tier, v, r, kept, work, positions, features, warnings);
+    let st = write_output(
+        s,
+        kinds,
+        tier,
+        v,
+        r,
+        kept,
+        work,
+        positions,
+        features,
+        warnings,
+    );
     clear_floats(work);
     if st.number != 0 {
         clear_floats(positions);
@@ -193,10 +221,11 @@ fn place_registered(
     accept(r, st)
 }
 
-// Places the scene of a stream on the Earth, for a panel of this tier.
+// Places the scene of a stream on the Earth, by the host's kind table, for a panel of this tier.
 #[no_mangle]
 pub extern "C" fn geopic_place(
     s: &[u8],
+    kinds: &[u8],
     tier: u32,
     work: &mut [f64],
     positions: &mut [f64],
@@ -204,18 +233,19 @@ pub extern "C" fn geopic_place(
     warnings: &mut [u32],
 ) -> Answer
     ensures { λ r. ⌜ r
-        ≡ answerOf (now (s .entry)) tier
+        ≡ answerOf (now (s .entry)) (now (kinds .entry)) tier
         (buffersBy (now (work .entry)) (now (positions .entry)) (now (features .entry)) (now (warnings .entry))) ⌝ }
     ensures { λ r. ⌜ buffersBy (now (work .exit)) (now (positions .exit))
         (now (features .exit)) (now (warnings .exit))
-        ≡ buffersAfter (now (s .entry)) tier
+        ≡ buffersAfter (now (s .entry)) (now (kinds .entry)) tier
         (buffersBy (now (work .entry)) (now (positions .entry)) (now (features .entry)) (now (warnings .entry))) ⌝ }
 {
     let mut kept = [0u32; 64];
-    match open_stream(s, &mut kept) {
+    match open_stream(s, kinds, &mut kept) {
         Opened::Refused(number) => refuse(number),
         Opened::Registered(v, r) => place_registered(
             s,
+            kinds,
             tier,
             v,
             r,

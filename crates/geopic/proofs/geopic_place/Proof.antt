@@ -26,15 +26,16 @@ slice-aggregate-place-registered : tie.Need-slice-aggregate-place-registered
 slice-aggregate-place-registered c = search needs
 
 place-registered-requires : tie.Need-place-registered-requires
-place-registered-requires c κs = is-registered (c .before .before .before .before .before .before .before .before .before .before .before .before .before .before .before .before .args .s .now) (c .before .before .before .before .before .before .before .before .before .open-stream .ensures) (c .before .before .before .before .before .before .v .given .1)
+place-registered-requires c κs = is-registered (c .before .before .before .before .before .before .before .before .before .before .before .before .before .before .before .before .before .args .s .now) (c .before .before .before .before .before .before .before .before .before .before .before .before .before .before .before .before .before .args .kinds .now) (c .before .before .before .before .before .before .before .before .before .open-stream .ensures) (c .before .before .before .before .before .before .v .given .1)
 
 returns : tie.Need-returns
 returns c =
-    let a = c .before .before .before .before .before .before .before .before .before .before .before .before in
+    let a = c .before .before .before .before .before .before .before .before .before .before .before .before .before in
     let s = a .args .s .now in
+    let kinds = a .args .kinds .now in
     let tier = a .args .tier in
-    let o = is-refused s (c .before .before .before .before .before .open-stream .ensures) (c .before .before .number .given .1) in
-    (early-answer s tier (lent a) (o .0) (o .1) (c .refuse .ensures), early-buffers s tier (lent a) (o .0) (o .1))
+    let o = is-refused s kinds (c .before .before .before .before .before .open-stream .ensures) (c .before .before .number .given .1) in
+    (early-answer s kinds tier (lent a) (o .0) (o .1) (c .refuse .ensures), early-buffers s kinds tier (lent a) (o .0) (o .1))
 
 same-length : tie.Need-same-length
 same-length c = search needs

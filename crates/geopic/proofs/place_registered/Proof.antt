@@ -43,10 +43,10 @@ same-length-4 c = search needs
 
 returns : tie.Need-returns
 returns c =
-    let a = c .before .before .before .before .before .before .before .before .before .before .before .before .before .before .before .before .before .before .before .before .before .before .before .before .before .before .before .before .before .before .before .before .before .before .before .before .before .before .before in
+    let a = c .before .before .before .before .before .before .before .before .before .before .before .before .before .before .before .before .before .before .before .before .before .before .before .before .before .before .before .before .before .before .before .before .before .before .before .before .before .before .before .before in
     let s = a .args .s .now in
     let some = c .before .before .before .before .before .before .before .before .before .before .before .before .before .before .if1 .taken in
-    (late-answer s (a .args .tier) (lent a) (a .pre .none) (c .before .before .before .before .before .before .before .before .before .before .before .before .before .before .before .before .before .before .before .before .before .before .before .before .before .before .before .before .write-output .ensures) some (c .refuse .ensures), late-buffers s (a .args .tier) (lent a) (a .pre .none) (c .before .before .before .before .before .before .before .before .before .before .before .before .before .before .before .before .before .before .before .before .before .before .before .before .before .before .before .before .write-output .ensures) some (c .before .before .before .before .before .before .before .before .before .before .before .before .before .before .before .before .before .before .clear-floats .ensures) (c .before .before .before .before .before .before .before .before .before .before .before .before .clear-floats2 .ensures) (c .before .before .before .before .before .before .before .before .clear-words .ensures) (c .before .before .before .before .clear-words2 .ensures))
+    (late-answer s (a .args .kinds .now) (a .args .tier) (lent a) (a .pre .none) (c .before .before .before .before .before .before .before .before .before .before .before .before .before .before .before .before .before .before .before .before .before .before .before .before .before .before .before .before .write-output .ensures) some (c .refuse .ensures), late-buffers s (a .args .kinds .now) (a .args .tier) (lent a) (a .pre .none) (c .before .before .before .before .before .before .before .before .before .before .before .before .before .before .before .before .before .before .before .before .before .before .before .before .before .before .before .before .write-output .ensures) some (c .before .before .before .before .before .before .before .before .before .before .before .before .before .before .before .before .before .before .clear-floats .ensures) (c .before .before .before .before .before .before .before .before .before .before .before .before .clear-floats2 .ensures) (c .before .before .before .before .before .before .before .before .clear-words .ensures) (c .before .before .before .before .clear-words2 .ensures))
 
 accept-requires : tie.Need-accept-requires
 accept-requires c κs = search needs
@@ -65,10 +65,10 @@ same-length-8 c = search needs
 
 returns-2 : tie.Need-returns-2
 returns-2 c =
-    let a = c .before .before .before .before .before .before .before .before .before .before .before .before .before .before .before .before .before .before .before .before .before .before .before .before .before .before in
+    let a = c .before .before .before .before .before .before .before .before .before .before .before .before .before .before .before .before .before .before .before .before .before .before .before .before .before .before .before in
     let s = a .args .s .now in
     let room = c .before .if1 .left in
-    (accepted-answer s (a .args .tier) (lent a) (a .pre .none) (c .before .before .before .before .before .before .before .before .before .before .before .before .before .before .before .write-output .ensures) room (a .pre .is) (c .accept .ensures 0 [] [] []), accepted-buffers s (a .args .tier) (lent a) (a .pre .none) (c .before .before .before .before .before .before .before .before .before .before .before .before .before .before .before .write-output .ensures) room (c .before .before .before .before .before .clear-floats .ensures))
+    (accepted-answer s (a .args .kinds .now) (a .args .tier) (lent a) (a .pre .none) (c .before .before .before .before .before .before .before .before .before .before .before .before .before .before .before .write-output .ensures) room (a .pre .is) (c .accept .ensures 0 [] [] []), accepted-buffers s (a .args .kinds .now) (a .args .tier) (lent a) (a .pre .none) (c .before .before .before .before .before .before .before .before .before .before .before .before .before .before .before .write-output .ensures) room (c .before .before .before .before .before .clear-floats .ensures))
 
 pub place-registered-spec : {M : Type 1} → statement M
 place-registered-spec =

@@ -1,25 +1,16 @@
 use mathlib.Core.Path.{_≡_}
 use mathlib.Core.Bool.{cond}
-use mathlib.Core.List.{List}
-use Prim.Native.Nat.{ℕ}
-use Rattle.stream.specs.Conditions.{firstOf}
-use Rattle.records.specs.Contracts.Refusals.{refusalOf}
 use mathlib.Core.Logic.{⊎-elim}
 use native.Mathlib.Omega.{arith}
 use borrow.Author.Needs.{needs}
 use borrow.Author.Tests.{not-true, not-false}
-use Rattle.geopic.specs.Geopic.{Buffers, early}
-use Rattle.geopic.specs.Laws.Conditions.{early-none}
+use Rattle.geopic.specs.Geopic.{Buffers}
 use Rattle.geopic.specs.Laws.Calls.{begun, drawn}
 use Rattle.geopic.proofs.write_output.Statement.{statement}
 use Rattle.geopic.proofs.write_output.Tie as tie
 
 abbrev lent : tie.Start → Buffers
 lent a = record { work = a .args .work .now; positions = a .args .positions .now; features = a .args .features .now; warnings = a .args .warnings .now }
-
--- none of 1 to 6 and 19
-read : (s : List ℕ) → firstOf (early s) ≡ 0 → refusalOf s ≡ 0
-read s h = early-none s h .0
 
 -- 18 if a warning lacked room
 short : (j : tie.Joined1) → j .if1 .number ≡ cond (j .before .before .before .before .before .write-warnings .result .ok) 0 18
@@ -29,7 +20,7 @@ short j =
 
 write-warnings-requires : tie.Need-write-warnings-requires
 write-warnings-requires c κs =
-    let a = c .before .before .before .before .before .before .before in
+    let a = c .before .before .before .before .before .before .before .before in
     (a .pre .registrable, a .pre .controls)
 
 new-requires : tie.Need-new-requires
@@ -46,7 +37,7 @@ flatten-requires c κs = search needs
 
 convert-requires : tie.Need-convert-requires
 convert-requires c κs =
-    let a = c .before .before .before .before .before .before .before .before .before .before .before .before .before .before .before .before .before .before .before .before in
+    let a = c .before .before .before .before .before .before .before .before .before .before .before .before .before .before .before .before .before .before .before .before .before in
     let start = begun (a .args .s .now) (a .args .tier) (lent a) (c .before .before .before .before .before .before .before .before .before .before .before .before .write-warnings .ensures) (short (c .before .before .before .before .before .before .before)) (c .before .before .before .before .before .before .before .before .before .new .ensures) in
     (omega (arith, a .pre .registrable), start .fits, a .pre .registrable .surveyed .places-at)
 
@@ -64,8 +55,8 @@ same-length-4 c = search needs
 
 returns : tie.Need-returns
 returns c =
-    let a = c .before .before .before .before .before .before .before .before .before .before .before .before .before .before .before .before .before .before .before .before .before .before .before .before .before .before .before .before .before in
-    drawn (a .args .s .now) (a .args .tier) (lent a) (c .before .before .before .before .before .before .before .before .before .before .before .before .before .before .before .before .before .before .before .before .before .write-warnings .ensures) (short (c .before .before .before .before .before .before .before .before .before .before .before .before .before .before .before .before)) (c .before .before .before .before .before .before .before .before .before .before .before .before .before .before .before .before .before .before .new .ensures) (a .pre .is) (c .before .before .before .before .before .before .before .before .before .before .before .before .before .before .projection-of .ensures) (c .before .before .before .before .before .before .before .before .before .before .before .before .before .before .before .step .ensures) (c .before .before .before .before .before .before .before .before .before .before .before .before .before .flatten .ensures) (c .before .before .before .before .before .before .before .before .convert .ensures)
+    let a = c .before .before .before .before .before .before .before .before .before .before .before .before .before .before .before .before .before .before .before .before .before .before .before .before .before .before .before .before .before .before in
+    drawn (a .args .s .now) (a .args .tier) (lent a) (c .before .before .before .before .before .before .before .before .before .before .before .before .before .before .before .before .before .before .before .before .before .write-warnings .ensures) (short (c .before .before .before .before .before .before .before .before .before .before .before .before .before .before .before .before)) (c .before .before .before .before .before .before .before .before .before .before .before .before .before .before .before .before .before .before .new .ensures) (a .args .kinds .now) (a .pre .is) (c .before .before .before .before .before .before .before .before .before .before .before .before .before .before .projection-of .ensures) (c .before .before .before .before .before .before .before .before .before .before .before .before .before .before .before .step .ensures) (c .before .before .before .before .before .before .before .before .before .before .before .before .before .flatten .ensures) (c .before .before .before .before .before .before .before .before .convert .ensures)
 
 pub write-output-spec : {M : Type 1} → statement M
 write-output-spec =

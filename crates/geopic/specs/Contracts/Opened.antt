@@ -19,17 +19,17 @@ numberBy (Refused n) = n
 numberBy (Registered v r) = 0
 
 -- no early condition holds, and these are the scene's
-pub record Registers (s : List ℕ) (v : Survey) (r : Registration) (kept : List ℕ) : Type 0 where
-  pub none : firstOf (early s) ≡ 0
+pub record Registers (s kinds : List ℕ) (v : Survey) (r : Registration) (kept : List ℕ) : Type 0 where
+  pub none : firstOf (early s kinds) ≡ 0
   pub is : r ≡ registrationOf (sceneOf (payload s))
   pub registrable : Registrable s v
   pub controls : KeptControls (sceneOf (payload s)) (r .controls) kept
 
-abbrev pub OpenedAs : List ℕ → List ℕ → Opened → Type 0
-OpenedAs s kept (Refused n) = n ≡ 0 → ⊥
-OpenedAs s kept (Registered v r) = Registers s v r kept
+abbrev pub OpenedAs : List ℕ → List ℕ → List ℕ → Opened → Type 0
+OpenedAs s kinds kept (Refused n) = n ≡ 0 → ⊥
+OpenedAs s kinds kept (Registered v r) = Registers s kinds v r kept
 
 -- the number of the first early condition that holds; the registration where none does
-pub record Opens (s kept : List ℕ) (o : Opened) : Type 0 where
-  pub number : numberBy o ≡ firstOf (early s)
-  pub comes : OpenedAs s kept o
+pub record Opens (s kinds kept : List ℕ) (o : Opened) : Type 0 where
+  pub number : numberBy o ≡ firstOf (early s kinds)
+  pub comes : OpenedAs s kinds kept o

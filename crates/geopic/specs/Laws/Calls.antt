@@ -11,6 +11,8 @@ use borrow.Author.Tests.{leb-true, leb-false, eq-eqb, ne-eqb, eqb-true, eqb-fals
 use Rattle.stream.specs.Conditions.{firstOf}
 use Rattle.stream.specs.Payload.{payload}
 use Rattle.records.specs.Contracts.Refusals.{refusalOf}
+use Rattle.kind_table.specs.KindTable.{entryOf, unusable, ofKindTable}
+use Rattle.kind_table.specs.Laws.KindTable.{refused-table}
 use Rattle.scene.specs.Scene.{Scene, sceneOf}
 use Rattle.scene.specs.Contracts.Answers.{itemsAt}
 use Rattle.scene.specs.Laws.Answers.{scene-lists}
@@ -33,7 +35,7 @@ use Rattle.budget.specs.Budget.{allowanceOf, fresh}
 use Rattle.budget.specs.Laws.Allowances.{allowance-most}
 use Rattle.values.specs.Slices.{put}
 use Rattle.geopic.specs.declared.Answer.{Answer}
-use Rattle.convert.specs.Convert.{onScreen, convertOf}
+use Rattle.convert.specs.Convert.{convertOf}
 use Rattle.strokes.specs.Strokes.{warned, Trace}
 use Rattle.strokes.specs.Space.{Output, outOfRoom, withWarning}
 use Rattle.strokes.specs.Contracts.Space.{outputBy, Fits, Applied}
@@ -43,7 +45,7 @@ use Rattle.strokes.specs.Laws.Events.{warned-fits, warned-lacks}
 use Rattle.geopic.specs.declared.Opened.{Opened}
 use Rattle.geopic.specs.declared.Opened.the-variants.{Refused, Registered}
 use Rattle.geopic.specs.Contracts.Opened.{numberBy, Registers, OpenedAs, Opens}
-use Rattle.geopic.specs.Laws.Conditions.{number-is, early-stream, early-registration, by-early, by-space}
+use Rattle.geopic.specs.Laws.Conditions.{number-is, early-table, early-stream, early-registration, by-early, by-space}
 
 -- ---- the registration's warnings: what `register` pushes is what is played
 abbrev Pushed : Type 0
@@ -128,10 +130,10 @@ module _ (s : List ℕ) where
         (subst (λ (r : Pushed). Applied (telling (registerWarnings sc) whole) (unused t) (toldBy (unused t) r) whole) (sym told)
         (all-told (registerWarnings sc) whole (unused t) refl room))
 
-    pub drawn : {r : Registration} {p : Projection} {step tol : Float} {u : Output} {b : Budget} → r ≡ registrationOf sc → p ≡ projectionOf r → step ≡ sc .step → tol ≡ sc .flatten
-        → Applied (convertOf onScreen (record { projection = p; step = step; flatten = tol }) (itemsAt (payload s) 0) whole) begin u b → Applied (traceOf (allowanceOf tier) sc) (unused t) u b
+    pub drawn : (kinds : List ℕ) {r : Registration} {p : Projection} {step tol : Float} {u : Output} {b : Budget} → r ≡ registrationOf sc → p ≡ projectionOf r → step ≡ sc .step → tol ≡ sc .flatten
+        → Applied (convertOf (entryOf kinds) (record { projection = p; step = step; flatten = tol }) (itemsAt (payload s) 0) whole) begin u b → Applied (traceOf kinds (allowanceOf tier) sc) (unused t) u b
     unfolding traceOf
-    drawn e f g h d = rw (← is) (applied-then (convertOf onScreen (ctxOf sc) (sc .items)) begun (rw (f, e, g, h, ← scene-lists (payload s) .3) at d))
+    drawn kinds e f g h d = rw (← is) (applied-then (convertOf (entryOf kinds) (ctxOf sc) (sc .items)) begun (rw (f, e, g, h, ← scene-lists (payload s) .3) at d))
 
 -- ---- what registration says
 module _ (sc : Scene) {o : Outcome} (e : o ≡ outcomeOf sc) where
@@ -151,76 +153,88 @@ module _ (sc : Scene) {o : Outcome} (e : o ≡ outcomeOf sc) where
   outcome-is h = outcome .1 (sym (outcome .0) ∙ h)
 
 -- ---- the answer and the slices
-module _ (s : List ℕ) (tier : ℕ) (t : Buffers) where
-  refused : {n : ℕ} → numberOf s tier t ≡ n → (n ≡ 0 → ⊥) → {a : Answer} → a ≡ refusal n → a ≡ answerOf s tier t
+module _ (s kinds : List ℕ) (tier : ℕ) (t : Buffers) where
+  refused : {n : ℕ} → numberOf s kinds tier t ≡ n → (n ≡ 0 → ⊥) → {a : Answer} → a ≡ refusal n → a ≡ answerOf s kinds tier t
   unfolding answerOf
   refused {n} is some e = rw (e, is, ne-eqb n 0 some)
 
   -- an early condition holds
-  module _ {n : ℕ} (is : n ≡ firstOf (early s)) (some : n ≡ 0 → ⊥) where
-    first : firstOf (early s) ≡ 0 → ⊥
+  module _ {n : ℕ} (is : n ≡ firstOf (early s kinds)) (some : n ≡ 0 → ⊥) where
+    first : firstOf (early s kinds) ≡ 0 → ⊥
     first z = some (is ∙ z)
 
-    pub early-answer : {a : Answer} → a ≡ refusal n → a ≡ answerOf s tier t
-    early-answer e = refused (by-early s tier t first ∙ sym is) some e
+    pub early-answer : {a : Answer} → a ≡ refusal n → a ≡ answerOf s kinds tier t
+    early-answer e = refused (by-early s kinds tier t first ∙ sym is) some e
 
-    pub early-buffers : t ≡ buffersAfter s tier t
+    pub early-buffers : t ≡ buffersAfter s kinds tier t
     unfolding buffersAfter sliceBy
-    early-buffers = rw (ne-eqb (firstOf (early s)) 0 first)
+    early-buffers = rw (ne-eqb (firstOf (early s kinds)) 0 first)
 
-  pub untouched : (firstOf (early s) ≡ 0 → ⊥) → buffersAfter s tier t ≡ t
+  pub untouched : (firstOf (early s kinds) ≡ 0 → ⊥) → buffersAfter s kinds tier t ≡ t
   untouched h = sym (early-buffers refl h)
 
-  pub cleared : firstOf (early s) ≡ 0 → (answerOf s tier t .number ≡ 0 → ⊥) → buffersAfter s tier t
+  -- a table that can't be used
+  pub table-refused : unusable kinds ≡ true → (answerOf s kinds tier t .number ≡ 20) × (buffersAfter s kinds tier t ≡ t)
+  unfolding numberOf
+  table-refused h =
+      let twenty = refused-table kinds h in
+      let first = early-table s kinds (λ z. omega (arith, twenty)) ∙ twenty in
+      let some : firstOf (early s kinds) ≡ 0 → ⊥ = λ z. omega (arith, first) in
+      (number-is s kinds tier t ∙ by-early s kinds tier t some ∙ first, untouched some)
+
+  pub cleared : firstOf (early s kinds) ≡ 0 → (answerOf s kinds tier t .number ≡ 0 → ⊥) → buffersAfter s kinds tier t
       ≡ record { work = clear f0 (length (t .work)); positions = clear f0 (length (t .positions)); features = clear 0 (length (t .features)); warnings = clear 0 (length (t .warnings)) }
   unfolding buffersAfter sliceBy numberOf
-  cleared e h = rw (e, ne-eqb (firstOf (conditions s tier t)) 0 (λ z. h (number-is s tier t ∙ z)))
+  cleared e h = rw (e, ne-eqb (firstOf (conditions s kinds tier t)) 0 (λ z. h (number-is s kinds tier t ∙ z)))
 
-  module _ (none : firstOf (early s) ≡ 0) {u : Output} {b : Budget} (d : Applied (traceOf (allowanceOf tier) (sc s)) (unused t) u b) where
-    space : u .number ≡ outputOf (allowanceOf tier) (sc s) t .number
+  module _ (none : firstOf (early s kinds) ≡ 0) {u : Output} {b : Budget} (d : Applied (traceOf kinds (allowanceOf tier) (sc s)) (unused t) u b) where
+    space : u .number ≡ outputOf kinds (allowanceOf tier) (sc s) t .number
     unfolding outputOf
     space = d .number
 
-    late-number : numberOf s tier t ≡ u .number
-    late-number = by-space s tier t none ∙ sym space
+    late-number : numberOf s kinds tier t ≡ u .number
+    late-number = by-space s kinds tier t none ∙ sym space
 
     -- something lacks room
     module _ (some : u .number ≡ 0 → ⊥) where
-      pub late-answer : {a : Answer} → a ≡ refusal (u .number) → a ≡ answerOf s tier t
+      pub late-answer : {a : Answer} → a ≡ refusal (u .number) → a ≡ answerOf s kinds tier t
       late-answer e = refused late-number some e
 
       pub late-buffers : {w p : List Float} {f v : List ℕ} → w ≡ clear f0 (u .work) → p ≡ clear f0 (length (u .positions)) → f ≡ clear 0 (length (u .features)) → v ≡ clear 0 (length (u .warnings))
-          → record { work = w; positions = p; features = f; warnings = v } ≡ buffersAfter s tier t
+          → record { work = w; positions = p; features = f; warnings = v } ≡ buffersAfter s kinds tier t
       unfolding buffersAfter sliceBy
       late-buffers work positions features warnings =
           rw (work, positions, features, warnings, d .work, d .positions, d .features, d .warnings, none, late-number, ne-eqb (u .number) 0 some)
 
     module _ (room : u .number ≡ 0) where
-      sheet : u ≡ outputOf (allowanceOf tier) (sc s) t
+      sheet : u ≡ outputOf kinds (allowanceOf tier) (sc s) t
       unfolding outputOf
       sheet = d .same room
 
-      pub accepted-answer : {r : Registration} {a : Answer} → r ≡ registrationOf (sc s) → a ≡ acceptance r u b → a ≡ answerOf s tier t
+      pub accepted-answer : {r : Registration} {a : Answer} → r ≡ registrationOf (sc s) → a ≡ acceptance r u b → a ≡ answerOf s kinds tier t
       unfolding answerOf
       accepted-answer e f = rw (late-number, eq-eqb (u .number) 0 room, ← e, ← sheet, ← d .after room) f
 
-      pub accepted-buffers : {w : List Float} → w ≡ clear f0 (u .work) → record { work = w; positions = u .positions; features = u .features; warnings = u .warnings } ≡ buffersAfter s tier t
+      pub accepted-buffers : {w : List Float} → w ≡ clear f0 (u .work) → record { work = w; positions = u .positions; features = u .features; warnings = u .warnings } ≡ buffersAfter s kinds tier t
       unfolding buffersAfter sliceBy
       accepted-buffers e = rw (e, none, late-number, eq-eqb (u .number) 0 room, ← sheet, d .work)
 
 -- ---- what `open_stream` comes to
-module _ (s : List ℕ) where
-  pub stream-opens : {kept : List ℕ} {n : ℕ} → n ≡ refusalOf s → (n ≡ 0 → ⊥) → Opens s kept (Refused n)
-  stream-opens e some = record { number = e ∙ sym (early-stream s (λ z. some (e ∙ z))); comes = some }
+module _ (s kinds : List ℕ) where
+  pub table-opens : {kept : List ℕ} {n : ℕ} → n ≡ firstOf (ofKindTable kinds) → (n ≡ 0 → ⊥) → Opens s kinds kept (Refused n)
+  table-opens e some = record { number = e ∙ sym (early-table s kinds (λ z. some (e ∙ z))); comes = some }
 
-  module _ (read : refusalOf s ≡ 0) {o : Outcome} (is : o ≡ outcomeOf (sc s)) where
-    number : o .number ≡ firstOf (early s)
-    number = outcome-number (sc s) is ∙ sym (early-registration s read)
+  pub stream-opens : {kept : List ℕ} {n : ℕ} → firstOf (ofKindTable kinds) ≡ 0 → n ≡ refusalOf s → (n ≡ 0 → ⊥) → Opens s kinds kept (Refused n)
+  stream-opens usable e some = record { number = e ∙ sym (early-stream s kinds usable (λ z. some (e ∙ z))); comes = some }
 
-    pub registration-opens : {kept : List ℕ} → (o .number ≡ 0 → ⊥) → Opens s kept (Refused (o .number))
+  module _ (usable : firstOf (ofKindTable kinds) ≡ 0) (read : refusalOf s ≡ 0) {o : Outcome} (is : o ≡ outcomeOf (sc s)) where
+    number : o .number ≡ firstOf (early s kinds)
+    number = outcome-number (sc s) is ∙ sym (early-registration s kinds usable read)
+
+    pub registration-opens : {kept : List ℕ} → (o .number ≡ 0 → ⊥) → Opens s kinds kept (Refused (o .number))
     registration-opens some = record { number = number; comes = some }
 
-    pub registered-opens : {v : Survey} {kept : List ℕ} → o .number ≡ 0 → Surveyed (payload s) v → length kept ≡ 64 → Kept (sceneOf (payload s)) kept → Opens s kept (Registered v (o .registration))
+    pub registered-opens : {v : Survey} {kept : List ℕ} → o .number ≡ 0 → Surveyed (payload s) v → length kept ≡ 64 → Kept (sceneOf (payload s)) kept → Opens s kinds kept (Registered v (o .registration))
     registered-opens z w n k =
         let none = sym number ∙ z in
         let r = outcome-is (sc s) is z in
@@ -236,9 +250,9 @@ module _ (s : List ℕ) where
         }
 
   -- the same by the answer's case
-  module _ {kept : List ℕ} {o : Opened} (h : Opens s kept o) where
-    pub is-registered : {v : Survey} {r : Registration} → o ≡ Registered v r → Registers s v r kept
-    is-registered e = subst (λ (x : Opened). OpenedAs s kept x) e (h .comes)
+  module _ {kept : List ℕ} {o : Opened} (h : Opens s kinds kept o) where
+    pub is-registered : {v : Survey} {r : Registration} → o ≡ Registered v r → Registers s kinds v r kept
+    is-registered e = subst (λ (x : Opened). OpenedAs s kinds kept x) e (h .comes)
 
-    pub is-refused : {n : ℕ} → o ≡ Refused n → (n ≡ firstOf (early s)) × (n ≡ 0 → ⊥)
-    is-refused e = (sym (ap numberBy e) ∙ h .number, subst (λ (x : Opened). OpenedAs s kept x) e (h .comes))
+    pub is-refused : {n : ℕ} → o ≡ Refused n → (n ≡ firstOf (early s kinds)) × (n ≡ 0 → ⊥)
+    is-refused e = (sym (ap numberBy e) ∙ h .number, subst (λ (x : Opened). OpenedAs s kinds kept x) e (h .comes))

@@ -2,17 +2,19 @@
 use Prim.Native.Nat.{ℕ, _+_, _*_}
 use mathlib.Core.Path.{_≡_, refl, sym, _∙_}
 use mathlib.Core.Bool.{Bool, true, false, _||_, false≢true}
-use mathlib.Core.List.{List, [], _∷_}
+use mathlib.Core.List.{List, [], _∷_, _++_}
 use native.Mathlib.Omega.{arith}
 use lib.ListN.{length}
 use lib.Dec.{eqb, leb}
 use borrow.Author.Tests.{eqb-true}
-use Rattle.stream.specs.Conditions.{firstOf, NoneHolds}
+use Rattle.stream.specs.Conditions.{Condition, firstOf, NoneHolds}
 use Rattle.stream.specs.Payload.{payload}
 use Rattle.stream.specs.Laws.Conditions.{Numbered, none-first, first-none, first-ahead, first-behind, append-none, numbered-append}
 use Rattle.records.specs.Conditions.{ofStream}
 use Rattle.records.specs.Contracts.Refusals.{refusalOf}
 use Rattle.records.specs.Laws.Refusals.{stream-numbered}
+use Rattle.kind_table.specs.KindTable.{ofKindTable}
+use Rattle.kind_table.specs.Laws.KindTable.{table-numbered}
 use Rattle.scene.specs.Scene.{Scene, sceneOf}
 use Rattle.register.specs.Register.{ofRegistration}
 use Rattle.register.specs.Contracts.Outcome.{registerRefusal}
@@ -72,56 +74,70 @@ picked : (b : Bool) (n : ℕ) (a : Answer) → a .number ≡ 0 → eqb n 0 ≡ b
 picked true n a h e = h ∙ sym (eqb-true n 0 e)
 picked false n a h e = refl
 
-module _ (s : List ℕ) where
+module _ (s kinds : List ℕ) where
   abbrev sc : Scene
   sc = sceneOf (payload s)
 
-  early-numbered : Numbered (early s)
-  unfolding early
-  early-numbered = numbered-append (ofStream s) (ofRegistration sc) (stream-numbered s) (registration-numbered sc)
-
   -- those of the stream, then those of the registration
-  pub early-stream : (refusalOf s ≡ 0 → ⊥) → firstOf (early s) ≡ refusalOf s
-  unfolding early
-  early-stream h = first-ahead (ofStream s) (ofRegistration sc) (stream-numbered s) h
+  abbrev behindTable : List Condition
+  behindTable = ofStream s ++ ofRegistration sc
 
-  pub early-registration : refusalOf s ≡ 0 → firstOf (early s) ≡ registerRefusal sc
+  early-numbered : Numbered (early s kinds)
   unfolding early
-  early-registration h = first-behind (ofStream s) (ofRegistration sc) (stream-numbered s) h
+  early-numbered =
+      numbered-append (ofKindTable kinds) behindTable (table-numbered kinds)
+      (numbered-append (ofStream s) (ofRegistration sc) (stream-numbered s) (registration-numbered sc))
 
-  pub early-none : firstOf (early s) ≡ 0 → (refusalOf s ≡ 0) × (registerRefusal sc ≡ 0)
+  -- that of the kind table is the first
+  pub early-table : (firstOf (ofKindTable kinds) ≡ 0 → ⊥) → firstOf (early s kinds) ≡ firstOf (ofKindTable kinds)
   unfolding early
-  early-none h = append-none (ofStream s) (ofRegistration sc) (stream-numbered s) h
+  early-table h = first-ahead (ofKindTable kinds) behindTable (table-numbered kinds) h
+
+  module _ (usable : firstOf (ofKindTable kinds) ≡ 0) where
+    early-behind : firstOf (early s kinds) ≡ firstOf behindTable
+    unfolding early
+    early-behind = first-behind (ofKindTable kinds) behindTable (table-numbered kinds) usable
+
+    pub early-stream : (refusalOf s ≡ 0 → ⊥) → firstOf (early s kinds) ≡ refusalOf s
+    early-stream h = early-behind ∙ first-ahead (ofStream s) (ofRegistration sc) (stream-numbered s) h
+
+    pub early-registration : refusalOf s ≡ 0 → firstOf (early s kinds) ≡ registerRefusal sc
+    early-registration h = early-behind ∙ first-behind (ofStream s) (ofRegistration sc) (stream-numbered s) h
+
+  pub early-none : firstOf (early s kinds) ≡ 0 → (refusalOf s ≡ 0) × (registerRefusal sc ≡ 0)
+  unfolding early
+  early-none h =
+      append-none (ofStream s) (ofRegistration sc) (stream-numbered s) (append-none (ofKindTable kinds) behindTable (table-numbered kinds) h .1)
 
   module _ (tier : ℕ) (t : Buffers) where
-    space-known : known (outputOf (allowanceOf tier) sc t .number) ≡ true
+    space-known : known (outputOf kinds (allowanceOf tier) sc t .number) ≡ true
     unfolding outputOf
-    space-known = known-all (traceOf (allowanceOf tier) sc .events) (unused t) refl
+    space-known = known-all (traceOf kinds (allowanceOf tier) sc .events) (unused t) refl
 
     -- an early condition decides, and else what lacks room
-    pub by-early : (firstOf (early s) ≡ 0 → ⊥) → numberOf s tier t ≡ firstOf (early s)
+    pub by-early : (firstOf (early s kinds) ≡ 0 → ⊥) → numberOf s kinds tier t ≡ firstOf (early s kinds)
     unfolding numberOf conditions
-    by-early h = first-ahead (early s) (ofSpace (outputOf (allowanceOf tier) sc t)) early-numbered h
+    by-early h = first-ahead (early s kinds) (ofSpace (outputOf kinds (allowanceOf tier) sc t)) early-numbered h
 
-    pub by-space : firstOf (early s) ≡ 0 → numberOf s tier t ≡ outputOf (allowanceOf tier) sc t .number
+    pub by-space : firstOf (early s kinds) ≡ 0 → numberOf s kinds tier t ≡ outputOf kinds (allowanceOf tier) sc t .number
     unfolding numberOf conditions
-    by-space h = first-behind (early s) (ofSpace (outputOf (allowanceOf tier) sc t)) early-numbered h ∙ space-first (outputOf (allowanceOf tier) sc t) space-known
+    by-space h = first-behind (early s kinds) (ofSpace (outputOf kinds (allowanceOf tier) sc t)) early-numbered h ∙ space-first (outputOf kinds (allowanceOf tier) sc t) space-known
 
-    pub none-early : numberOf s tier t ≡ 0 → firstOf (early s) ≡ 0
+    pub none-early : numberOf s kinds tier t ≡ 0 → firstOf (early s kinds) ≡ 0
     unfolding numberOf conditions
-    none-early h = append-none (early s) (ofSpace (outputOf (allowanceOf tier) sc t)) early-numbered h .0
+    none-early h = append-none (early s kinds) (ofSpace (outputOf kinds (allowanceOf tier) sc t)) early-numbered h .0
 
     -- ---- the answer's number
-    pub number-is : answerOf s tier t .number ≡ firstOf (conditions s tier t)
+    pub number-is : answerOf s kinds tier t .number ≡ firstOf (conditions s kinds tier t)
     unfolding answerOf numberOf
-    number-is = picked _ (firstOf (conditions s tier t)) _ refl refl
+    number-is = picked _ (firstOf (conditions s kinds tier t)) _ refl refl
 
-    pub none-number : NoneHolds (conditions s tier t) → answerOf s tier t .number ≡ 0
-    none-number h = number-is ∙ none-first (conditions s tier t) h
+    pub none-number : NoneHolds (conditions s kinds tier t) → answerOf s kinds tier t .number ≡ 0
+    none-number h = number-is ∙ none-first (conditions s kinds tier t) h
 
-    numbered : Numbered (conditions s tier t)
+    numbered : Numbered (conditions s kinds tier t)
     unfolding conditions
-    numbered = numbered-append (early s) (ofSpace (outputOf (allowanceOf tier) sc t)) early-numbered (space-numbered (outputOf (allowanceOf tier) sc t))
+    numbered = numbered-append (early s kinds) (ofSpace (outputOf kinds (allowanceOf tier) sc t)) early-numbered (space-numbered (outputOf kinds (allowanceOf tier) sc t))
 
-    pub number-none : answerOf s tier t .number ≡ 0 → NoneHolds (conditions s tier t)
-    number-none h = first-none (conditions s tier t) numbered (sym number-is ∙ h)
+    pub number-none : answerOf s kinds tier t .number ≡ 0 → NoneHolds (conditions s kinds tier t)
+    number-none h = first-none (conditions s kinds tier t) numbered (sym number-is ∙ h)

@@ -15,6 +15,7 @@ use Rattle.stream.specs.declared.Float64.the-variants.{Finite, NotFinite}
 use Rattle.records.specs.Limits.{isFinite}
 use Rattle.records.specs.Values.{one, thousand, stepIn, outsideBounds}
 use Rattle.records.specs.Laws.Refusals.{is-step, is-finite-step}
+use Rattle.kind_table.specs.KindTable.{entryOf}
 use Rattle.scene.specs.Scene.{valueOf, NamedFeature, NamedValue, Scene, sceneOf}
 use Rattle.values.specs.declared.Point.{Point}
 use Rattle.values.specs.Maybe.{Maybe, none, some, isSome}
@@ -30,7 +31,7 @@ use Rattle.budget.specs.Laws.Draws.{claim}
 use Rattle.densify.specs.Densify.{GrantedDraw}
 use Rattle.densify.specs.Draws.{drawsOf, Granted, fellShort}
 use Rattle.densify.specs.Laws.Allowances.{both-false}
-use Rattle.convert.specs.Convert.{onScreen, convertOf}
+use Rattle.convert.specs.Convert.{convertOf}
 use Rattle.strokes.specs.Strokes.{Event, warned, drawsIn}
 use Rattle.strokes.specs.Features.{AllWellFormed, positionsIn, featuresIn, warningsIn, featuresAt, warningsAt, anyOfKind}
 use Rattle.convert.specs.Laws.Draws.{trace-left, trace-hit, convert-replays, any-append, spent-warned}
@@ -126,32 +127,32 @@ register-no-six sc =
     (append-no-six (register.warningsIn (events sc)) (halfWarnings sc ++ last) (events-no-six sc)
     (append-no-six (halfWarnings sc) last (half-no-six sc) (ignored-no-six (length (controlsOf sc)) sc)))
 
--- ---- a scene drawn from any allowance
-module _ (sc : Scene) (allowance : ℕ) where
-  draws-are : drawsIn (traceOf allowance sc .events) ≡ drawsIn (convertOf onScreen (ctxOf sc) (sc .items) (fresh allowance) .events)
+-- ---- a scene drawn by any kind table from any allowance
+module _ (sc : Scene) (kinds : List ℕ) (allowance : ℕ) where
+  draws-are : drawsIn (traceOf kinds allowance sc .events) ≡ drawsIn (convertOf (entryOf kinds) (ctxOf sc) (sc .items) (fresh allowance) .events)
   unfolding traceOf
   draws-are = warnings-draws (registerWarnings sc) _
 
-  pub scene-claim : Claim allowance (drawsOf (drawsIn (traceOf allowance sc .events)))
-  scene-claim = claim allowance (drawsOf (drawsIn (traceOf allowance sc .events)))
+  pub scene-claim : Claim allowance (drawsOf (drawsIn (traceOf kinds allowance sc .events)))
+  scene-claim = claim allowance (drawsOf (drawsIn (traceOf kinds allowance sc .events)))
 
-  pub scene-grants : Granted (fresh allowance) (drawsIn (traceOf allowance sc .events))
-  scene-grants = rw draws-are (convert-replays onScreen (ctxOf sc) (sc .items) (fresh allowance) .grants)
+  pub scene-grants : Granted (fresh allowance) (drawsIn (traceOf kinds allowance sc .events))
+  scene-grants = rw draws-are (convert-replays (entryOf kinds) (ctxOf sc) (sc .items) (fresh allowance) .grants)
 
-  pub left-is : traceOf allowance sc .after .left ≡ leftAfter allowance (drawsOf (drawsIn (traceOf allowance sc .events)))
+  pub left-is : traceOf kinds allowance sc .after .left ≡ leftAfter allowance (drawsOf (drawsIn (traceOf kinds allowance sc .events)))
   unfolding traceOf
-  left-is = trace-left (convert-replays onScreen (ctxOf sc) (sc .items) (fresh allowance)) ∙ ap (λ (ds : List GrantedDraw). leftAfter allowance (drawsOf ds)) (sym draws-are)
+  left-is = trace-left (convert-replays (entryOf kinds) (ctxOf sc) (sc .items) (fresh allowance)) ∙ ap (λ (ds : List GrantedDraw). leftAfter allowance (drawsOf ds)) (sym draws-are)
 
-  pub hit-is : traceOf allowance sc .after .hit ≡ fellShort (drawsIn (traceOf allowance sc .events))
+  pub hit-is : traceOf kinds allowance sc .after .hit ≡ fellShort (drawsIn (traceOf kinds allowance sc .events))
   unfolding traceOf
-  hit-is = trace-hit (convert-replays onScreen (ctxOf sc) (sc .items) (fresh allowance)) ∙ ap fellShort (sym draws-are)
+  hit-is = trace-hit (convert-replays (entryOf kinds) (ctxOf sc) (sc .items) (fresh allowance)) ∙ ap fellShort (sym draws-are)
 
-  warning-is : anyOfKind 6 (warningsIn (traceOf allowance sc .events)) ≡ traceOf allowance sc .after .hit
+  warning-is : anyOfKind 6 (warningsIn (traceOf kinds allowance sc .events)) ≡ traceOf kinds allowance sc .after .hit
   unfolding traceOf
   warning-is =
       ap (anyOfKind 6) (warnings-warnings (registerWarnings sc) _)
       ∙ any-append 6 (registerWarnings sc) _
-      ∙ rw (register-no-six sc) (spent-warned onScreen (ctxOf sc) (sc .items) (fresh allowance))
+      ∙ rw (register-no-six sc) (spent-warned (entryOf kinds) (ctxOf sc) (sc .items) (fresh allowance))
 
 -- ---- a step that condition 19 lets pass
 within-bounds : (x : Float64) → isFinite x ≡ true → outsideBounds x ≡ false → (x ≡ Finite (valueOf x)) × (lt (valueOf x) one ≡ false) × (lt thousand (valueOf x) ≡ false)
@@ -167,75 +168,75 @@ module _ (s : List ℕ) where
   unfolding projectPoint
   scene-geo p = rw geo-projects
 
-  module _ (tier : ℕ) (t : Buffers) (h : answerOf s tier t .number ≡ 0) where
+  module _ (kinds : List ℕ) (tier : ℕ) (t : Buffers) (h : answerOf s kinds tier t .number ≡ 0) where
     abbrev allowance : ℕ
     allowance = allowanceOf tier
 
-    is-number : numberOf s tier t ≡ 0
+    is-number : numberOf s kinds tier t ≡ 0
     unfolding numberOf
-    is-number = sym (number-is s tier t) ∙ h
+    is-number = sym (number-is s kinds tier t) ∙ h
 
-    is-early : firstOf (early s) ≡ 0
-    is-early = none-early s tier t is-number
+    is-early : firstOf (early s kinds) ≡ 0
+    is-early = none-early s kinds tier t is-number
 
     -- ---- the events
-    pub scene-well-formed : AllWellFormed (featuresIn (traceOf allowance sc .events))
+    pub scene-well-formed : AllWellFormed (featuresIn (traceOf kinds allowance sc .events))
     unfolding traceOf
     scene-well-formed =
-        let read = early-none s is-early .0 in
-        let registered = early-none s is-early .1 in
+        let read = early-none s kinds is-early .0 in
+        let registered = early-none s kinds is-early .1 in
         rw (warnings-features (registerWarnings sc))
-        (convert-well-formed onScreen (registrationOf sc) (sc .step) (sc .flatten) (sc .items) (fresh allowance) (accepted-sound s read registered) (accepted-tame s read .points .items))
+        (convert-well-formed (entryOf kinds) (registrationOf sc) (sc .step) (sc .flatten) (sc .items) (fresh allowance) (accepted-sound s read registered) (accepted-tame s read .points .items))
 
     pub scene-step : (stepIn (payload s) ≡ Finite (sc .step)) × (lt (sc .step) one ≡ false) × (lt thousand (sc .step) ≡ false)
     unfolding sceneOf
-    scene-step = let read = early-none s is-early .0 in within-bounds (stepIn (payload s)) (is-finite-step s read) (is-step s read)
+    scene-step = let read = early-none s kinds is-early .0 in within-bounds (stepIn (payload s)) (is-finite-step s read) (is-step s read)
 
     -- ---- the answer
-    pub answer-is : answerOf s tier t ≡ acceptance (registrationOf sc) (outputOf allowance sc t) (traceOf allowance sc .after)
+    pub answer-is : answerOf s kinds tier t ≡ acceptance (registrationOf sc) (outputOf kinds allowance sc t) (traceOf kinds allowance sc .after)
     unfolding answerOf
-    answer-is = rw (eq-eqb (numberOf s tier t) 0 is-number)
+    answer-is = rw (eq-eqb (numberOf s kinds tier t) 0 is-number)
 
-    pub scene-left : answerOf s tier t .left ≡ leftAfter allowance (drawsOf (drawsIn (traceOf allowance sc .events)))
-    scene-left = rw answer-is (left-is sc allowance)
+    pub scene-left : answerOf s kinds tier t .left ≡ leftAfter allowance (drawsOf (drawsIn (traceOf kinds allowance sc .events)))
+    scene-left = rw answer-is (left-is sc kinds allowance)
 
-    pub scene-spent : answerOf s tier t .spent ≡ cond (fellShort (drawsIn (traceOf allowance sc .events))) 1 0
-    scene-spent = rw (answer-is, hit-is sc allowance)
+    pub scene-spent : answerOf s kinds tier t .spent ≡ cond (fellShort (drawsIn (traceOf kinds allowance sc .events))) 1 0
+    scene-spent = rw (answer-is, hit-is sc kinds allowance)
 
     -- ---- the slices
-    buffers-is : buffersAfter s tier t ≡ record { work = clear f0 (length (t .work)); positions = outputOf allowance sc t .positions; features = outputOf allowance sc t .features; warnings = outputOf allowance sc t .warnings }
+    buffers-is : buffersAfter s kinds tier t ≡ record { work = clear f0 (length (t .work)); positions = outputOf kinds allowance sc t .positions; features = outputOf kinds allowance sc t .features; warnings = outputOf kinds allowance sc t .warnings }
     unfolding buffersAfter sliceBy
     buffers-is = rw (is-early, is-number)
 
-    output-number : outputOf allowance sc t .number ≡ 0
-    output-number = sym (by-space s tier t is-early) ∙ is-number
+    output-number : outputOf kinds allowance sc t .number ≡ 0
+    output-number = sym (by-space s kinds tier t is-early) ∙ is-number
 
-    read-back : ReadBack (traceOf allowance sc .events) (unused t) (outputOf allowance sc t)
+    read-back : ReadBack (traceOf kinds allowance sc .events) (unused t) (outputOf kinds allowance sc t)
     unfolding outputOf
-    read-back = reads-back (traceOf allowance sc .events) (unused t) refl refl refl scene-well-formed output-number
+    read-back = reads-back (traceOf kinds allowance sc .events) (unused t) refl refl refl scene-well-formed output-number
 
-    pub scene-features : featuresAt (buffersAfter s tier t .features) (buffersAfter s tier t .positions) 0 0 (answerOf s tier t .features) ≡ featuresIn (traceOf allowance sc .events)
+    pub scene-features : featuresAt (buffersAfter s kinds tier t .features) (buffersAfter s kinds tier t .positions) 0 0 (answerOf s kinds tier t .features) ≡ featuresIn (traceOf kinds allowance sc .events)
     scene-features = rw (buffers-is, answer-is) (read-back .features)
 
-    pub formed-read : AllWellFormed (featuresAt (buffersAfter s tier t .features) (buffersAfter s tier t .positions) 0 0 (answerOf s tier t .features))
+    pub formed-read : AllWellFormed (featuresAt (buffersAfter s kinds tier t .features) (buffersAfter s kinds tier t .positions) 0 0 (answerOf s kinds tier t .features))
     formed-read = rw scene-features scene-well-formed
 
-    pub scene-warnings : warningsAt (buffersAfter s tier t .warnings) 0 (answerOf s tier t .warnings) ≡ warningsIn (traceOf allowance sc .events)
+    pub scene-warnings : warningsAt (buffersAfter s kinds tier t .warnings) 0 (answerOf s kinds tier t .warnings) ≡ warningsIn (traceOf kinds allowance sc .events)
     scene-warnings = rw (buffers-is, answer-is) (read-back .warnings)
 
-    pub scene-six : anyOfKind 6 (warningsAt (buffersAfter s tier t .warnings) 0 (answerOf s tier t .warnings)) ≡ fellShort (drawsIn (traceOf allowance sc .events))
-    scene-six = ap (anyOfKind 6) scene-warnings ∙ warning-is sc allowance ∙ hit-is sc allowance
+    pub scene-six : anyOfKind 6 (warningsAt (buffersAfter s kinds tier t .warnings) 0 (answerOf s kinds tier t .warnings)) ≡ fellShort (drawsIn (traceOf kinds allowance sc .events))
+    scene-six = ap (anyOfKind 6) scene-warnings ∙ warning-is sc kinds allowance ∙ hit-is sc kinds allowance
 
     -- ---- the counts, and what stands behind what is used
-    pub scene-counts : (answerOf s tier t .positions ≡ length (positionsIn (featuresIn (traceOf allowance sc .events)))) × (answerOf s tier t .features ≡ length (featuresIn (traceOf allowance sc .events)))
-        × (answerOf s tier t .warnings ≡ length (warningsIn (traceOf allowance sc .events)))
+    pub scene-counts : (answerOf s kinds tier t .positions ≡ length (positionsIn (featuresIn (traceOf kinds allowance sc .events)))) × (answerOf s kinds tier t .features ≡ length (featuresIn (traceOf kinds allowance sc .events)))
+        × (answerOf s kinds tier t .warnings ≡ length (warningsIn (traceOf kinds allowance sc .events)))
     scene-counts = rw answer-is (omega (arith, read-back .usedPositions), omega (arith, read-back .usedFeatures), omega (arith, read-back .usedWarnings))
 
-    pub scene-tails : (drop (2 * answerOf s tier t .positions) (buffersAfter s tier t .positions) ≡ drop (2 * answerOf s tier t .positions) (t .positions))
-        × (drop (6 * answerOf s tier t .features) (buffersAfter s tier t .features) ≡ drop (6 * answerOf s tier t .features) (t .features))
-        × (drop (2 * answerOf s tier t .warnings) (buffersAfter s tier t .warnings) ≡ drop (2 * answerOf s tier t .warnings) (t .warnings))
+    pub scene-tails : (drop (2 * answerOf s kinds tier t .positions) (buffersAfter s kinds tier t .positions) ≡ drop (2 * answerOf s kinds tier t .positions) (t .positions))
+        × (drop (6 * answerOf s kinds tier t .features) (buffersAfter s kinds tier t .features) ≡ drop (6 * answerOf s kinds tier t .features) (t .features))
+        × (drop (2 * answerOf s kinds tier t .warnings) (buffersAfter s kinds tier t .warnings) ≡ drop (2 * answerOf s kinds tier t .warnings) (t .warnings))
     scene-tails =
-        let p : 2 * (outputOf allowance sc t .usedPositions / 2) ≡ outputOf allowance sc t .usedPositions = omega (arith, read-back .usedPositions) in
-        let f : 6 * (outputOf allowance sc t .usedFeatures / 6) ≡ outputOf allowance sc t .usedFeatures = omega (arith, read-back .usedFeatures) in
-        let w : 2 * (outputOf allowance sc t .usedWarnings / 2) ≡ outputOf allowance sc t .usedWarnings = omega (arith, read-back .usedWarnings) in
+        let p : 2 * (outputOf kinds allowance sc t .usedPositions / 2) ≡ outputOf kinds allowance sc t .usedPositions = omega (arith, read-back .usedPositions) in
+        let f : 6 * (outputOf kinds allowance sc t .usedFeatures / 6) ≡ outputOf kinds allowance sc t .usedFeatures = omega (arith, read-back .usedFeatures) in
+        let w : 2 * (outputOf kinds allowance sc t .usedWarnings / 2) ≡ outputOf kinds allowance sc t .usedWarnings = omega (arith, read-back .usedWarnings) in
         rw (buffers-is, answer-is, p, f, w) (read-back .tailPositions, read-back .tailFeatures, read-back .tailWarnings)

@@ -46,6 +46,10 @@ module _ (kinds : List ℕ) (k : ℕ) (so : anyAbove kinds ≡ anyAbove (drop k 
 
 -- ---- condition 20, test by test
 module _ (kinds : List ℕ) where
+  pub refused-table : unusable kinds ≡ true → firstOf (ofKindTable kinds) ≡ 20
+  unfolding firstOf ofKindTable
+  refused-table h = rw h
+
   pub other-length : (length kinds ≡ 11 → ⊥) → 20 ≡ firstOf (ofKindTable kinds)
   unfolding firstOf ofKindTable unusable
   other-length h = rw (ne-eqb (length kinds) 11 h) refl

@@ -3,6 +3,7 @@ use mathlib.Core.Path.{_≡_, refl}
 use mathlib.Core.Bool.{cond}
 use mathlib.Core.List.{List, [], _∷_}
 use Prim.Native.Nat.{ℕ}
+use Rattle.kind_table.specs.KindTable.{builtIn}
 use Rattle.scene.specs.Scene as scene
 use Rattle.densify.specs.Densify as densify
 use Rattle.strokes.specs.Strokes as strokes
@@ -15,9 +16,9 @@ abbrev told : List densify.GrantedDraw → List ℕ
 told [] = []
 told (d ∷ ds) = d .want ∷ d .floor ∷ d .granted ∷ cond (d .cut) 1 0 ∷ told ds
 
--- those of a scene from an allowance
+-- those of a scene by the built-in kind table from an allowance
 abbrev drawn-from : ℕ → List ℕ → List ℕ
-drawn-from allowance records = told (strokes.drawsIn (geopic.traceOf allowance (scene.sceneOf records) .events))
+drawn-from allowance records = told (strokes.drawsIn (geopic.traceOf builtIn allowance (scene.sceneOf records) .events))
 
 pub draws-2000000 : drawn-from 2000000 every-producer ≡ all from-2000000
 unfolding everything

@@ -1,4 +1,4 @@
--- Document 01's reference sheet: the host's call on its stream in the larger tier, as `place` makes it, computed from the definitions. Beside it the entry tier, and two refused calls: one for want of room, one early.
+-- Document 01's reference sheet: the host's call on its stream with the built-in kind table in the larger tier, as `place` makes it, computed from the definitions. Beside it the entry tier, a table by which boxes are not drawn, and refused calls: one for want of room, one early, and one for its table.
 use mathlib.Core.Path.{_≡_, refl}
 use mathlib.Core.Bool.{Bool, true, false, _&&_}
 use mathlib.Core.List.{List, [], _∷_, _++_}
@@ -9,6 +9,7 @@ use lib.Ieee.{Float, binary64, ofBits, ofInt, neg, mul, eq}
 use Rattle.float.specs.Functions.{roundOf}
 use Rattle.projection.specs.Projection.{billion}
 use Rattle.stream.specs.Blocks.{wordSum}
+use Rattle.kind_table.specs.KindTable.{builtIn}
 use Rattle.register.specs.Register as register
 use Rattle.geopic.specs.Geopic.{Buffers, refusal, answerOf, buffersAfter}
 use Rattle.reference.specs.Laws.Everything.{everything}
@@ -66,32 +67,42 @@ ring = m ∷ m ∷ o ∷ m ∷ p ∷ m ∷ p ∷ o ∷ p ∷ p ∷ o ∷ p ∷ m
 
 pub sheet :
     -- R 0 0, 9 positions, 1 feature line, B 1999988 0
-    (answerOf stream 1 lent ≡ record { number = 0; method = 0; controls = 0; spent = 0; positions = 9; features = 1; warnings = 0; left = 1999988 })
+    (answerOf stream builtIn 1 lent ≡ record { number = 0; method = 0; controls = 0; spent = 0; positions = 9; features = 1; warnings = 0; left = 1999988 })
     -- work is cleared
-    × (buffersAfter stream 1 lent .work ≡ replicate 32 o)
+    × (buffersAfter stream builtIn 1 lent .work ≡ replicate 32 o)
     -- the P lines, and the rest of the slice as it was
-    × (agree (take 18 (buffersAfter stream 1 lent .positions)) ring ≡ true)
-    × (drop 18 (buffersAfter stream 1 lent .positions) ≡ replicate 14 (whole 12))
+    × (agree (take 18 (buffersAfter stream builtIn 1 lent .positions)) ring ≡ true)
+    × (drop 18 (buffersAfter stream builtIn 1 lent .positions) ≡ replicate 14 (whole 12))
     -- F 0 2 0 0 0 9, and the rest of the slice as it was
-    × (buffersAfter stream 1 lent .features ≡ 0 ∷ 2 ∷ 0 ∷ 0 ∷ 0 ∷ 9 ∷ replicate 6 13)
+    × (buffersAfter stream builtIn 1 lent .features ≡ 0 ∷ 2 ∷ 0 ∷ 0 ∷ 0 ∷ 9 ∷ replicate 6 13)
     -- no W line, and the slice as it was
-    × (buffersAfter stream 1 lent .warnings ≡ replicate 4 14)
+    × (buffersAfter stream builtIn 1 lent .warnings ≡ replicate 4 14)
 unfolding everything
 sheet = (refl, refl, refl, refl, refl, refl)
 
 -- in the entry tier: the same but for what is left
-pub entry-sheet : answerOf stream 0 lent ≡ record { number = 0; method = 0; controls = 0; spent = 0; positions = 9; features = 1; warnings = 0; left = 19988 }
+pub entry-sheet : answerOf stream builtIn 0 lent ≡ record { number = 0; method = 0; controls = 0; spent = 0; positions = 9; features = 1; warnings = 0; left = 19988 }
 unfolding everything
 entry-sheet = refl
 
 -- with a word too few for the feature line: 17, and every slice is cleared
 pub no-room :
-    (answerOf stream 1 (buffers-with 5) ≡ refusal 17)
-    × (buffersAfter stream 1 (buffers-with 5) ≡ record { work = replicate 32 o; positions = replicate 32 o; features = replicate 5 0; warnings = replicate 4 0 })
+    (answerOf stream builtIn 1 (buffers-with 5) ≡ refusal 17)
+    × (buffersAfter stream builtIn 1 (buffers-with 5) ≡ record { work = replicate 32 o; positions = replicate 32 o; features = replicate 5 0; warnings = replicate 4 0 })
 unfolding everything
 no-room = (refl, refl)
 
 -- without a frame: 7, and every slice is as it was
-pub no-frame : (answerOf (stream-with []) 1 lent ≡ refusal 7) × (buffersAfter (stream-with []) 1 lent ≡ lent)
+pub no-frame : (answerOf (stream-with []) builtIn 1 lent ≡ refusal 7) × (buffersAfter (stream-with []) builtIn 1 lent ≡ lent)
 unfolding everything
 no-frame = (refl, refl)
+
+-- by a table whose entry for box is 2: no feature, nothing drawn
+pub no-boxes : answerOf stream (2 ∷ drop 1 builtIn) 1 lent ≡ record { number = 0; method = 0; controls = 0; spent = 0; positions = 0; features = 0; warnings = 0; left = 2000000 }
+unfolding everything
+no-boxes = refl
+
+-- with a table whose entry for block is 0, and no stream at all: 20, and every slice is as it was
+pub no-table : (answerOf [] (replicate 11 0) 1 lent ≡ refusal 20) × (buffersAfter [] (replicate 11 0) 1 lent ≡ lent)
+unfolding everything
+no-table = (refl, refl)
