@@ -1,5 +1,5 @@
-"""The fixed list: streams and the oracle's answers, under the sizes of
-`place`.
+"""The fixed list: streams and the oracle's answers, under the sizes, the kind
+table and the tier of `place`.
 
 An entry is three parts: a line `case NAME`; a line `stream` with the stream's
 bytes, compressed by zlib, in base64; and a line `answer COUNT SUM` with the

@@ -24,6 +24,7 @@ pub fn table_case(seed: u64) -> Case {
     built_in(seed).with(|c| c.kinds = table(&mut seeded(seed ^ TABLES)))
 }
 
+/// The case under the built-in kind table.
 fn built_in(seed: u64) -> Case {
     let mut r = seeded(seed);
     let step = step(&mut seeded(seed ^ STEPS));
@@ -44,7 +45,7 @@ fn built_in(seed: u64) -> Case {
 /// what it was.
 const TABLES: u64 = 0xd04b_8a37_5ec9_126f;
 
-/// The built-in one for about four cases of five, seldom one that is refused.
+/// The built-in table for about four cases of five, seldom one that is refused.
 fn kinds(r: &mut Random) -> Vec<u8> {
     match r.below(80) {
         0 => unfit_table(r),
@@ -53,13 +54,13 @@ fn kinds(r: &mut Random) -> Vec<u8> {
     }
 }
 
-/// Any that fits.
+/// Any table that fits.
 pub fn table(r: &mut Random) -> Vec<u8> {
     let entry = |kind| if kind == BLOCK_KIND { 2 } else { r.below(3) as u8 };
     (BOX..=BLOCK_KIND).map(entry).collect()
 }
 
-/// Of another length, with an entry above 2, or with a block that is drawn.
+/// A table of another length, with an entry above 2, or with a block that is drawn.
 fn unfit_table(r: &mut Random) -> Vec<u8> {
     let mut table = table(r);
     match r.below(3) {

@@ -63,7 +63,8 @@ impl Answer {
     }
 }
 
-/// Texts and dots on the screen, blocks not drawn, the rest geographic.
+/// The built-in kind table: texts and dots on the screen, blocks not drawn, the
+/// rest geographic.
 pub const BUILT_IN: [u8; 11] = [0, 0, 0, 0, 0, 0, 0, 1, 1, 0, 2];
 
 /// Whether refusal 20 lets a kind table through.

@@ -373,8 +373,8 @@ fn draw_items(
     }
 }
 
-// Every item of the scene, all of which stand from a position on, by the kind table; then the warning that the allowance
-// was spent.
+// Every item of the scene, all of which stand from a position on, by the kind table; then the warning that the
+// allowance was spent.
 pub fn convert(
     s: &[u8],
     kinds: &[u8],

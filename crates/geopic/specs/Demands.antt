@@ -39,7 +39,7 @@ use Rattle.convert.specs.Laws.Kinds.{hidden-goes-on, two-goes-on, same-shape, p
 use Rattle.geopic.specs.Geopic.{ctxOf, traceOf, Buffers, early, conditions, answerOf, clear, buffersAfter}
 use Rattle.geopic.specs.Laws.Conditions.{number-is, number-none, none-number}
 use Rattle.geopic.specs.Laws.Calls.{untouched, cleared, table-refused}
-use Rattle.geopic.specs.Laws.Scenes.{left-is, hit-is, answer-is, formed-read, scene-geo, scene-features, scene-warnings, scene-counts, scene-tails, scene-step, scene-claim, scene-grants, scene-left, scene-spent, scene-six}
+use Rattle.geopic.specs.Laws.Scenes.{drawn-left, drawn-hit, answer-is, formed-read, scene-geo, scene-features, scene-warnings, scene-counts, scene-tails, scene-step, scene-claim, scene-grants, scene-left, scene-spent, scene-six}
 use Rattle.geopic.specs.Laws.Tiers.{scene-keeps, spent-six, same-features, same-buffers, same-answer, no-less-left}
 
 -- 3, its first sentence. The claim holds of any list of draws from any allowance.
@@ -50,7 +50,7 @@ demand-3-any allowance ds = claim allowance ds
 pub demand-3-scene : (kinds : List ℕ) (allowance : ℕ) (sc : Scene) →
     let draws = drawsIn (traceOf kinds allowance sc .events) in
     Claim allowance (drawsOf draws) × Granted (fresh allowance) draws × (traceOf kinds allowance sc .after .left ≡ leftAfter allowance (drawsOf draws)) × (traceOf kinds allowance sc .after .hit ≡ fellShort draws)
-demand-3-scene kinds allowance sc = (scene-claim sc kinds allowance, scene-grants sc kinds allowance, left-is sc kinds allowance, hit-is sc kinds allowance)
+demand-3-scene kinds allowance sc = (scene-claim sc kinds allowance, scene-grants sc kinds allowance, drawn-left sc kinds allowance, drawn-hit sc kinds allowance)
 
 module _ (s kinds : List ℕ) (tier : ℕ) (t : Buffers) where
   abbrev sc : Scene
@@ -155,7 +155,7 @@ change-viii-tiers = (allowance-entry, λ tier some. allowance-larger tier some)
 -- A scene that is drawn from an allowance without falling short comes to the same from any larger one: the same draws with the same grants, needs of work, features with their positions, and warnings; and no less is left.
 pub change-viii-any : (sc : Scene) (kinds : List ℕ) (x y : ℕ) → x ≤ y → traceOf kinds x sc .after .hit ≡ false →
     (traceOf kinds y sc .events ≡ traceOf kinds x sc .events) × (traceOf kinds y sc .after .hit ≡ false) × (traceOf kinds x sc .after .left ≤ traceOf kinds y sc .after .left)
-change-viii-any sc kinds x y l h = let same = scene-keeps sc kinds x y l (sym (hit-is sc kinds x) ∙ h) in (same .events, same .after .hit ∙ h, same .after .left)
+change-viii-any sc kinds x y l h = let same = scene-keeps sc kinds x y l (sym (drawn-hit sc kinds x) ∙ h) in (same .events, same .after .hit ∙ h, same .after .left)
 
 -- Warning 6 stands exactly if the mark is set.
 pub change-viii-mark : (s kinds : List ℕ) (tier : ℕ) (t : Buffers) → answerOf s kinds tier t .number ≡ 0

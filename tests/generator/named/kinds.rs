@@ -137,22 +137,25 @@ pub fn scenes(set: &mut Set) {
     }
 }
 
-/// An eater, then an item of the kind, then one that has what they left.
+/// An eater and two items behind it: where the kind is not drawn, the entry tier
+/// has enough for the rest.
 pub fn allowance(set: &mut Set) {
     let arrow = Item::new(ARROW).points(&[[0.0, 0.0], [30.0, 0.0]]);
     let circle = Item::new(CIRCLE).at(0.0, 0.0).r(1.0);
+    let large = Item::new(CIRCLE).at(0.0, 0.0).r(700.0);
     let ellipse = Item::new(ELLIPSE).at(0.0, 0.0).size(2.0, 1.0);
     let rounded = sharp(0.0, 0.0, 2.0, 2.0).rad(0.5);
     let spline = Item::new(SPLINE).part(curve(0, false, [0.0, 0.0], &[WILD]));
     let brace = Item::new(BRACE).part(curve(0, true, [0.0, 0.0], &[WILD]));
     for (what, kind, inches, items) in [
-        ("eater-before-arrow", LINE, 20_010.0, [&arrow, &arrow]),
-        ("circle-before-ellipse", CIRCLE, 19_960.0, [&circle, &ellipse]),
-        ("circle-before-rounded-box", CIRCLE, 19_960.0, [&circle, &rounded]),
-        ("box-before-circle", BOX, 19_960.0, [&rounded, &circle]),
-        ("spline-before-brace", SPLINE, 19_900.0, [&spline, &brace]),
-        ("brace-before-spline", BRACE, 19_900.0, [&brace, &spline]),
-        ("arrow-before-circle", ARROW, 19_960.0, [&arrow, &circle]),
+        ("eater-before-arrows", LINE, 20_010.0, [&arrow, &arrow]),
+        ("circle-before-ellipse", CIRCLE, 19_850.0, [&circle, &ellipse]),
+        ("large-circle-before-ellipse", CIRCLE, 19_850.0, [&large, &ellipse]),
+        ("circle-before-rounded-box", CIRCLE, 19_880.0, [&circle, &rounded]),
+        ("box-before-circle", BOX, 19_850.0, [&rounded, &circle]),
+        ("spline-before-brace", SPLINE, 19_700.0, [&spline, &brace]),
+        ("brace-before-spline", BRACE, 19_700.0, [&brace, &spline]),
+        ("arrow-before-circle", ARROW, 19_850.0, [&arrow, &circle]),
     ] {
         let doc = Doc::anchored().item(eater(inches));
         let doc = items.into_iter().cloned().fold(doc, Doc::item);

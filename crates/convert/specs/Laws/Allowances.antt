@@ -25,11 +25,11 @@ pub record SameTrace (t u : Trace) : Type 0 where
   pub after : NoLess (t .after) (u .after)
 
 -- whatever the first comes to without falling short, the second comes to too
-abbrev KeepsTrace : Trace → Trace → Type 0
-KeepsTrace t u = Enough (drawsIn (t .events)) → SameTrace t u
+abbrev SameWhereEnough : Trace → Trace → Type 0
+SameWhereEnough t u = Enough (drawsIn (t .events)) → SameTrace t u
 
 abbrev pub TraceKeepsFrom : (Budget → Trace) → Type 0
-TraceKeepsFrom f = (a b : Budget) → NoLess a b → KeepsTrace (f a) (f b)
+TraceKeepsFrom f = (a b : Budget) → NoLess a b → SameWhereEnough (f a) (f b)
 
 -- ---- what a trace is made of
 still-keeps : (es : List Event) → TraceKeepsFrom (λ (b : Budget). record { events = es; after = b })
@@ -38,7 +38,7 @@ still-keeps es a b n h = record { events = refl; after = n }
 enough-both : (es fs : List Event) → Enough (drawsIn (es ++ fs)) → Enough (drawsIn es) × Enough (drawsIn fs)
 enough-both es fs h = enough-append (drawsIn es) (drawsIn fs) (subst Enough (draws-append es fs) h)
 
-then-keeps : {t u : Trace} {f : Budget → Trace} → KeepsTrace t u → TraceKeepsFrom f → KeepsTrace (andThenTrace t f) (andThenTrace u f)
+then-keeps : {t u : Trace} {f : Budget → Trace} → SameWhereEnough t u → TraceKeepsFrom f → SameWhereEnough (andThenTrace t f) (andThenTrace u f)
 then-keeps {t} {u} {f} k g h =
     let e = enough-both (t .events) (f (t .after) .events) h in
     let first = k (e .0) in
@@ -47,14 +47,14 @@ then-keeps {t} {u} {f} k g h =
 
 -- a producer's draws, then what its points come to
 made-keeps : {m n : Made} (f : List Point → Budget → Trace) → Keeps m n → ((ps : List Point) → TraceKeepsFrom (f ps))
-    → KeepsTrace (andThenTrace (drawsTrace m) (f (m .points))) (andThenTrace (drawsTrace n) (f (n .points)))
+    → SameWhereEnough (andThenTrace (drawsTrace m) (f (m .points))) (andThenTrace (drawsTrace n) (f (n .points)))
 made-keeps {m} {n} f k g h =
     let e = enough-both (map drew (m .draws)) (f (m .points) (m .after) .events) h in
     let first = k (subst Enough (drew-draws (m .draws)) (e .0)) in
     let second = g (m .points) (m .after) (n .after) (first .after) (e .1) in
     record { events = rw (first .points, first .draws, second .events); after = rw (first .points) (second .after) }
 
-pick-keeps : {t t′ u u′ : Trace} (c : Bool) → KeepsTrace t u → KeepsTrace t′ u′ → KeepsTrace (pickTrace c t t′) (pickTrace c u u′)
+pick-keeps : {t t′ u u′ : Trace} (c : Bool) → SameWhereEnough t u → SameWhereEnough t′ u′ → SameWhereEnough (pickTrace c t t′) (pickTrace c u u′)
 pick-keeps true j k h = j h
 pick-keeps false j k h = k h
 
@@ -106,7 +106,7 @@ module _ (cx : Ctx) where
         let closing = closedOutline outline in
         then-keeps (still-keeps (need (workOf closed ps ring closing) ∷ []) a b n) (shape-keeps closed ps ring closing) h
 
-    ring-keeps : {m n : Made} → Keeps m n → KeepsTrace (ringTrace cx p m) (ringTrace cx p n)
+    ring-keeps : {m n : Made} → Keeps m n → SameWhereEnough (ringTrace cx p m) (ringTrace cx p n)
     unfolding ringTrace
     ring-keeps k h =
         made-keeps (λ ps r. andThenTrace (oneEvent (need (length ps + 1)) r) (λ q. strokeOf cx p 2 0 ps q)) k

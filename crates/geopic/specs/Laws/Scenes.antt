@@ -139,13 +139,13 @@ module _ (sc : Scene) (kinds : List ℕ) (allowance : ℕ) where
   pub scene-grants : Granted (fresh allowance) (drawsIn (traceOf kinds allowance sc .events))
   scene-grants = rw draws-are (convert-replays (entryOf kinds) (ctxOf sc) (sc .items) (fresh allowance) .grants)
 
-  pub left-is : traceOf kinds allowance sc .after .left ≡ leftAfter allowance (drawsOf (drawsIn (traceOf kinds allowance sc .events)))
+  pub drawn-left : traceOf kinds allowance sc .after .left ≡ leftAfter allowance (drawsOf (drawsIn (traceOf kinds allowance sc .events)))
   unfolding traceOf
-  left-is = trace-left (convert-replays (entryOf kinds) (ctxOf sc) (sc .items) (fresh allowance)) ∙ ap (λ (ds : List GrantedDraw). leftAfter allowance (drawsOf ds)) (sym draws-are)
+  drawn-left = trace-left (convert-replays (entryOf kinds) (ctxOf sc) (sc .items) (fresh allowance)) ∙ ap (λ (ds : List GrantedDraw). leftAfter allowance (drawsOf ds)) (sym draws-are)
 
-  pub hit-is : traceOf kinds allowance sc .after .hit ≡ fellShort (drawsIn (traceOf kinds allowance sc .events))
+  pub drawn-hit : traceOf kinds allowance sc .after .hit ≡ fellShort (drawsIn (traceOf kinds allowance sc .events))
   unfolding traceOf
-  hit-is = trace-hit (convert-replays (entryOf kinds) (ctxOf sc) (sc .items) (fresh allowance)) ∙ ap fellShort (sym draws-are)
+  drawn-hit = trace-hit (convert-replays (entryOf kinds) (ctxOf sc) (sc .items) (fresh allowance)) ∙ ap fellShort (sym draws-are)
 
   warning-is : anyOfKind 6 (warningsIn (traceOf kinds allowance sc .events)) ≡ traceOf kinds allowance sc .after .hit
   unfolding traceOf
@@ -198,10 +198,10 @@ module _ (s : List ℕ) where
     answer-is = rw (eq-eqb (numberOf s kinds tier t) 0 is-number)
 
     pub scene-left : answerOf s kinds tier t .left ≡ leftAfter allowance (drawsOf (drawsIn (traceOf kinds allowance sc .events)))
-    scene-left = rw answer-is (left-is sc kinds allowance)
+    scene-left = rw answer-is (drawn-left sc kinds allowance)
 
     pub scene-spent : answerOf s kinds tier t .spent ≡ cond (fellShort (drawsIn (traceOf kinds allowance sc .events))) 1 0
-    scene-spent = rw (answer-is, hit-is sc kinds allowance)
+    scene-spent = rw (answer-is, drawn-hit sc kinds allowance)
 
     -- ---- the slices
     buffers-is : buffersAfter s kinds tier t ≡ record { work = clear f0 (length (t .work)); positions = outputOf kinds allowance sc t .positions; features = outputOf kinds allowance sc t .features; warnings = outputOf kinds allowance sc t .warnings }
@@ -225,7 +225,7 @@ module _ (s : List ℕ) where
     scene-warnings = rw (buffers-is, answer-is) (read-back .warnings)
 
     pub scene-six : anyOfKind 6 (warningsAt (buffersAfter s kinds tier t .warnings) 0 (answerOf s kinds tier t .warnings)) ≡ fellShort (drawsIn (traceOf kinds allowance sc .events))
-    scene-six = ap (anyOfKind 6) scene-warnings ∙ warning-is sc kinds allowance ∙ hit-is sc kinds allowance
+    scene-six = ap (anyOfKind 6) scene-warnings ∙ warning-is sc kinds allowance ∙ drawn-hit sc kinds allowance
 
     -- ---- the counts, and what stands behind what is used
     pub scene-counts : (answerOf s kinds tier t .positions ≡ length (positionsIn (featuresIn (traceOf kinds allowance sc .events)))) × (answerOf s kinds tier t .features ≡ length (featuresIn (traceOf kinds allowance sc .events)))

@@ -1,4 +1,3 @@
-use borrow.Author.Needs.{needs}
 use Rattle.kind_table.specs.KindTable.{notDrawn}
 use Rattle.kind_table.proofs.is_not_drawn.Statement.{statement}
 use Rattle.kind_table.proofs.is_not_drawn.Tie as tie

@@ -1,7 +1,7 @@
 -- The table's entries one by one, condition 20, and the built-in table beside the rule that stood in its place. Assumes nothing.
 use Prim.Native.Nat.{ℕ, zero, suc, _+_, _<_, _≤_}
-use mathlib.Core.Path.{_≡_, refl, sym, ap, _∙_}
-use mathlib.Core.Bool.{Bool, true, false, _||_, cond}
+use mathlib.Core.Path.{_≡_, refl, sym, _∙_}
+use mathlib.Core.Bool.{true, false, _||_, cond}
 use mathlib.Core.List.{List, [], _∷_}
 use native.Mathlib.Numerals.{add-one}
 use native.Mathlib.Omega.{arith}
@@ -11,7 +11,7 @@ use lib.Dec.{eqb}
 use borrow.Author.Tests.{lt-ltb, le-ltb, eq-eqb, ne-eqb}
 use Rattle.stream.specs.Conditions.{firstOf}
 use Rattle.stream.specs.Laws.Conditions.{Numbered}
-use Rattle.kind_table.specs.KindTable.{entryOf, notDrawn, onScreen, anyAbove, unusable, ofKindTable, builtIn}
+use Rattle.kind_table.specs.KindTable.{entryOf, anyAbove, unusable, ofKindTable, builtIn}
 
 pub table-numbered : (kinds : List ℕ) → Numbered (ofKindTable kinds)
 unfolding ofKindTable
@@ -77,6 +77,7 @@ built-in-usable = refl
 abbrev fixedRule : ℕ → ℕ
 fixedRule k = cond (eqb k 10) 2 (cond (eqb k 7 || eqb k 8) 1 0)
 
+-- what a rule says of the n kinds from k on
 abbrev entriesFrom : (ℕ → ℕ) → ℕ → ℕ → List ℕ
 entriesFrom rule k zero = []
 entriesFrom rule k (suc n) = rule k ∷ entriesFrom rule (suc k) n
