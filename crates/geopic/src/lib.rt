@@ -87,9 +87,9 @@ fn open_stream(s: &[u8], kinds: &[u8], kept: &mut [u32]) -> Opened
     requires { ⌜ length (now kept) ≡ 64 ⌝ }
     ensures { λ o. ⌜ Opens (now (s .entry)) (now (kinds .entry)) (now (kept .exit)) o ⌝ }
 {
-    let table = table_refusal(kinds);
-    if table != 0 {
-        return Opened::Refused(table);
+    let unusable = table_refusal(kinds);
+    if unusable != 0 {
+        return Opened::Refused(unusable);
     }
     let number = records::refusal(s);
     if number != 0 {
