@@ -203,7 +203,7 @@ pub change-vi-not-drawn : (entry : ℕ → ℕ) (cx : Ctx) (i : ℕ) (it : Drawn
     × (it .hidden ≡ true → itemsOf entry cx i (it ∷ its) b ≡ itemsOf entry cx (suc i) its b)
 change-vi-not-drawn entry cx i it its b = (two-goes-on entry cx i it its b, hidden-goes-on entry cx i it its b)
 
--- It still names its point: the registration is the same by every table.
+-- Whether it is drawn does not tell in the registration, which is of the scene alone (`registrationOf` takes no table): two calls that are accepted by different tables answer the same method and as many control points.
 pub change-vi-registration : (s kinds kinds′ : List ℕ) (tier tier′ : ℕ) (t t′ : Buffers) → answerOf s kinds tier t .number ≡ 0 → answerOf s kinds′ tier′ t′ .number ≡ 0 →
     (answerOf s kinds tier t .method ≡ answerOf s kinds′ tier′ t′ .method) × (answerOf s kinds tier t .controls ≡ answerOf s kinds′ tier′ t′ .controls)
 change-vi-registration s kinds kinds′ tier tier′ t t′ h h′ = rw (answer-is s kinds tier t h, answer-is s kinds′ tier′ t′ h′) (refl, refl)
