@@ -1,4 +1,5 @@
 // The vertex allowance that every producer of vertices draws from, after the source's densify.rs.
+#![tactic(auto)]
 ghost use Rattle.std.specs.Prelude.{◌≡◌, ◌-◌, min, max};
 ghost use Rattle.budget.specs.Budget.{allowance_of, fresh, take_of};
 
@@ -8,14 +9,14 @@ const ENTRY_VERTICES: usize = 20000;
 const MAX_VERTICES: usize = 2000000;
 
 // How many vertices are left, and whether a request had to be cut down.
-#[derive(Drop)]
+#[derive(Clone, Copy)]
 pub struct Budget {
     pub left: usize,
     pub hit: bool,
 }
 
 // A draw's grant, and the budget after it.
-#[derive(Drop)]
+#[derive(Clone, Copy)]
 pub struct Taken {
     pub granted: usize,
     pub budget: Budget,

@@ -1,4 +1,5 @@
 // Items to features, after the source's convert.rs.
+#![tactic(auto)]
 mod items;
 mod shapes;
 

@@ -10,7 +10,7 @@ use scene::Item;
 use strokes::Props;
 
 // A drawn shape with its centre, sizes and radii, or a list of points or paths.
-#[derive(Drop)]
+#[derive(Clone, Copy)]
 pub enum Shape {
     Box(f64, f64, f64, f64, f64),
     Ellipse(f64, f64, f64, f64),

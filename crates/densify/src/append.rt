@@ -7,7 +7,7 @@ ghost use Rattle.values.specs.Inner.Points.{point_in};
 use budget::Budget;
 
 // Where the next point goes, what is left of the budget, and whether everything had room.
-#[derive(Drop)]
+#[derive(Clone, Copy)]
 pub struct PointCursor {
     pub ok: bool,
     pub at: usize,

@@ -1,4 +1,5 @@
 // Points on the canvas, after the source's densify.rs.
+#![tactic(auto)]
 mod append;
 mod counts;
 mod cubic;

@@ -1,4 +1,5 @@
 // The elementary functions of document 01, for every f64.
+#![tactic(auto)]
 ghost use Rattle.std.specs.Prelude.{◌≡◌, T};
 ghost use Rattle.std.specs.Float.Ieee.Positive.{positive};
 ghost use Rattle.elementary.specs.Series.{series_of, even_of, odd_of, sine_table, cosine_table, logarithm_table, exponential_table, arctangent_table};
@@ -143,7 +144,7 @@ fn series(t: &[f64], v: f64) -> f64
 }
 
 // Two values that were worked out side by side.
-#[derive(Drop)]
+#[derive(Clone, Copy)]
 pub struct Both {
     pub first: f64,
     pub second: f64,
@@ -241,7 +242,7 @@ pub fn hypot(x: f64, y: f64) -> f64
 }
 
 // A quadrant, 0.0 to 3.0, and the angle that is left in it.
-#[derive(Drop)]
+#[derive(Clone, Copy)]
 struct Reduced {
     q: f64,
     u: f64,
@@ -304,7 +305,7 @@ pub fn cos(t: f64) -> f64
     cosine_at(p.q, p.u)
 }
 
-#[derive(Drop)]
+#[derive(Clone, Copy)]
 pub struct SinCos {
     pub sin: f64,
     pub cos: f64,

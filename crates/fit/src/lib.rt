@@ -1,4 +1,5 @@
 // The fit of a similarity to control points, in two rounds, after the source's register.rs with its frame Mercator.
+#![tactic(auto)]
 ghost use Rattle.std.specs.Prelude.{◌≡◌, ◌+◌, ◌*◌, ◌≤◌, length, take, drop};
 ghost use Rattle.fit.specs.Fit.{projected_of, no_sums, added, means_of, divided_by, no_moments, momented, moments_of};
 ghost use Rattle.fit.specs.Fit.{degenerate, fit_at, solved_of, round_of, fit_projected, fit_of};
@@ -9,7 +10,7 @@ use float::is_finite;
 use geodesy::{LonLat, Metres, mercator_forward, mercator_inverse};
 
 // A control point: a canvas point, and where it is on the Earth.
-#[derive(Drop)]
+#[derive(Clone, Copy)]
 pub struct Control {
     pub x: f64,
     pub y: f64,
@@ -18,7 +19,7 @@ pub struct Control {
 }
 
 // A control point with its position projected: east and north. Sums and means of these take this form too.
-#[derive(Drop)]
+#[derive(Clone, Copy)]
 pub struct ProjectedControl {
     pub x: f64,
     pub y: f64,
@@ -27,7 +28,7 @@ pub struct ProjectedControl {
 }
 
 // The source's num_a, num_b and den.
-#[derive(Drop)]
+#[derive(Clone, Copy)]
 pub struct Moments {
     pub a: f64,
     pub b: f64,
@@ -35,7 +36,7 @@ pub struct Moments {
 }
 
 // What a fit found; `some` is false where the points are degenerate.
-#[derive(Drop)]
+#[derive(Clone, Copy)]
 pub struct Fit {
     pub some: bool,
     pub lon: f64,

@@ -1,4 +1,5 @@
 // What Rust's f64 has as methods, and a finite pattern taken apart.
+#![tactic(auto)]
 ghost use Rattle.std.specs.Prelude.{◌≡◌, true, false, ◌+◌, ◌*◌, ◌<◌, ◌%◌, ◌^◌, ◌/◌};
 ghost use Rattle.std.specs.Float.Ieee.{is_nan};
 ghost use Rattle.std.specs.Float.Ieee.Scale.{finite};
@@ -74,7 +75,7 @@ pub fn rem_euclid_360(x: f64) -> f64
 }
 
 // The number m * 2^e.
-#[derive(Drop)]
+#[derive(Clone, Copy)]
 pub struct Decomposed {
     pub m: u64,
     pub e: u64,

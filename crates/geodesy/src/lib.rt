@@ -1,4 +1,5 @@
 // Web Mercator, EPSG:3857, after the source's geodesy.rs.
+#![tactic(auto)]
 ghost use Rattle.std.specs.Prelude.{◌≡◌};
 ghost use Rattle.geodesy.specs.Geodesy.{normalize_lon_of, mercator_forward_of, mercator_inverse_of};
 ghost use Rattle.geodesy.specs.Inner.Stages.{longitude_of, exp_ordinate_of, latitude_of};
@@ -15,14 +16,14 @@ const FRAC_PI_4: f64 = 0.7853981633974483;
 
 // A WGS84 position, in degrees.
 #[repr(C)]
-#[derive(Drop)]
+#[derive(Clone, Copy)]
 pub struct LonLat {
     pub lon: f64,
     pub lat: f64,
 }
 
 // A position on the projection's plane, in metres.
-#[derive(Drop)]
+#[derive(Clone, Copy)]
 pub struct Metres {
     pub x: f64,
     pub y: f64,

@@ -1,4 +1,5 @@
 // What is given out for each feature, after the source's geojson.rs: positions and a feature line.
+#![tactic(auto)]
 ghost use Rattle.std.specs.Prelude.{◌≡◌, ◌+◌, ◌≤◌, length, leb};
 ghost use Rattle.geojson.specs.Inner.Features.{FeatureWritten};
 
@@ -18,7 +19,7 @@ pub const SCREEN: u32 = 1;
 pub const FEATURE_WORDS: usize = 6;
 
 // A feature line. Part: 0, or 1 and the path's index. Count: its positions.
-#[derive(Drop)]
+#[derive(Clone, Copy)]
 pub struct Feature {
     pub item: u32,
     pub geometry: u32,

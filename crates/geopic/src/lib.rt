@@ -1,4 +1,5 @@
 // The host's call, after the source's lib.rs: a stream in, positions, feature lines and warnings out.
+#![tactic(auto)]
 ghost use Rattle.std.specs.Prelude.{◌≡◌, List, ℕ, Float, length};
 ghost use Rattle.stream.specs.Payload.{payload};
 ghost use Rattle.scene.specs.Scene.{scene_of};
@@ -18,7 +19,7 @@ use strokes::{Ctx, State};
 // `number` is 0, or the refusal's, with zero for everything else. Counts are whole positions, feature lines and
 // warnings.
 #[repr(C)]
-#[derive(Drop)]
+#[derive(Clone, Copy)]
 pub struct Answer {
     pub number: u32,
     pub method: u32,
@@ -32,7 +33,7 @@ pub struct Answer {
 
 // What a stream comes to before a slice is looked at: the number of its refusal, or its registration with what one walk
 // over the variables told.
-#[derive(Drop)]
+#[derive(Clone, Copy)]
 pub enum Opened {
     Refused(u32),
     Registered(Survey, Registration),

@@ -184,7 +184,7 @@ fn match_item(
 }
 
 // How many slots are used, and where the items are asked for: behind the places.
-#[derive(Drop)]
+#[derive(Clone, Copy)]
 pub struct MatchedPlaces {
     pub used: usize,
     pub end: usize,

@@ -24,7 +24,7 @@ pub const MARK: u32 = 33554432;
 const FIRST: u64 = 72057594037927936;
 
 // Whether the name was found, and where; where it belongs if not.
-#[derive(Drop)]
+#[derive(Clone, Copy)]
 pub struct Found {
     pub some: bool,
     pub at: usize,

@@ -1,4 +1,5 @@
 // Canvas points to the Earth, after the source's register.rs with its frame Mercator.
+#![tactic(auto)]
 ghost use Rattle.std.specs.Prelude.{◌≡◌};
 ghost use Rattle.projection.specs.Projection.{projection_of, to_lon_lat_by, round9_of, geo_by};
 ghost use Rattle.projection.specs.Inner.Stages.{plane_position_of, plane_stage_of, rounded_latitude_of};
@@ -15,7 +16,7 @@ pub use project::project_points;
 // A canvas point p goes to the anchor's plane: p less the origin, times the scale, turned so that the canvas's y axis
 // points to the bearing.
 #[repr(C)]
-#[derive(Drop)]
+#[derive(Clone, Copy)]
 pub struct Registration {
     // the anchor, in degrees
     pub lon: f64,
@@ -32,7 +33,7 @@ pub struct Registration {
 }
 
 // A registration, with what is the same for every point worked out once.
-#[derive(Drop)]
+#[derive(Clone, Copy)]
 pub struct Projection {
     pub registration: Registration,
     // of the bearing

@@ -14,7 +14,7 @@ use float::same_value;
 use geodesy::{exp_ordinate, exp_ordinate_both};
 
 // The last stages of a latitude: two halvings of the exponential's arc tangent, and the rest.
-#[derive(Drop)]
+#[derive(Clone, Copy)]
 pub enum Stage {
     First,
     Second,

@@ -1,4 +1,5 @@
 // The records of a stream.
+#![tactic(auto)]
 mod floats;
 mod names;
 mod numbers;

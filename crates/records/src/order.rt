@@ -14,7 +14,7 @@ use crate::numbers::{
 use crate::records::{Record, Step, next_record, wide};
 
 // What the records so far leave to know.
-#[derive(Drop)]
+#[derive(Clone, Copy)]
 pub struct State {
     // the last tag, 0 before the first record, and the last option
     pub last: u8,
@@ -26,7 +26,7 @@ pub struct State {
     pub roles: u8,
 }
 
-#[derive(Drop)]
+#[derive(Clone, Copy)]
 pub enum OrderStep {
     InOrder(State),
     Broken,

@@ -15,7 +15,7 @@ use crate::numbers::{
 use stream::{byte, remaining, u16_at, u64_at};
 
 // A record. Names, floats and pairs stay in the stream, at places that the fields here settle.
-#[derive(Drop)]
+#[derive(Clone, Copy)]
 pub enum Record {
     Rescale,
     // an option: which
@@ -46,7 +46,7 @@ pub enum Record {
 }
 
 // What stands at a place: a record and how many bytes it takes, the end, or neither.
-#[derive(Drop)]
+#[derive(Clone, Copy)]
 pub enum Step {
     Got(Record, usize),
     End,

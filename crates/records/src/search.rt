@@ -13,7 +13,7 @@ use crate::numbers::{
 use crate::records::{Record, Step, next_record};
 
 // Where a search stands at a record: it is one asked for, it is passed over, or none can follow.
-#[derive(Drop)]
+#[derive(Clone, Copy)]
 enum SearchStep {
     Matches,
     Skip,
@@ -22,7 +22,7 @@ enum SearchStep {
 
 // What a search found: whether a record, where it stands in the payload, and where the one after it. Where `some` is
 // false, `at` is where the search ended, and `next` is free.
-#[derive(Drop)]
+#[derive(Clone, Copy)]
 pub struct Hit {
     pub some: bool,
     pub at: usize,

@@ -40,7 +40,7 @@ const MAX_LATITUDE: f64 = 85.06;
 const MAX_LONGITUDE: f64 = 180.0;
 
 // How many control points there are.
-#[derive(Drop)]
+#[derive(Clone, Copy)]
 pub struct Tally {
     // TOO_MANY_CONTROLS for more than MAX_CONTROLS
     pub n: usize,
@@ -89,7 +89,7 @@ fn more_of(lons: bool) -> u64
 }
 
 // How many entries a batch has, how many mentions it is, and where the next begins.
-#[derive(Drop)]
+#[derive(Clone, Copy)]
 pub struct FilledBatch {
     pub n: usize,
     pub count: usize,

@@ -10,7 +10,7 @@ ghost use Rattle.register.specs.Inner.Survey.{Agrees, Declares};
 use scene::{OptionalFloat, OptionalPoint};
 
 // The variables geo_frame, geo_px and so on.
-#[derive(Drop)]
+#[derive(Clone, Copy)]
 pub struct Geo {
     pub frame: OptionalFloat,
     pub px: OptionalFloat,
@@ -20,7 +20,7 @@ pub struct Geo {
     pub lat: OptionalFloat,
 }
 
-#[derive(Drop)]
+#[derive(Clone, Copy)]
 pub struct Declared {
     // the frame is Mercator
     pub mercator: bool,

@@ -12,7 +12,7 @@ use scene::{OptionalFloat, name_is, next_feature, next_variable};
 
 // Where the next name is looked for, how many host features or variables come before it, and the name of the last
 // variable.
-#[derive(Drop)]
+#[derive(Clone, Copy)]
 pub struct Cursor {
     pub q: usize,
     pub i: usize,
@@ -21,7 +21,7 @@ pub struct Cursor {
 }
 
 // Where `some` is false the other fields are free, except `next`.
-#[derive(Drop)]
+#[derive(Clone, Copy)]
 pub struct Mention {
     pub some: bool,
     pub at: usize,

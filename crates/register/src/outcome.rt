@@ -44,7 +44,7 @@ const REFUSAL_MAX_SCALE: u32 = 14;
 
 // 0 and the registration, or the number of the first condition that holds and zeros.
 #[repr(C)]
-#[derive(Drop)]
+#[derive(Clone, Copy)]
 pub struct Outcome {
     pub number: u32,
     pub registration: Registration,

@@ -9,7 +9,7 @@ use crate::declared::{Declared, Geo, read_declared};
 use crate::mentions::is_lon;
 use scene::{OptionalFloat, Variable, name_is, next_name, next_variable};
 
-#[derive(Drop)]
+#[derive(Clone, Copy)]
 pub struct Survey {
     pub declared: Declared,
     // how many names there are to be looked up, of host features and `<L>_lon` variables, and how many of these
@@ -50,7 +50,7 @@ fn record_geo(s: &[u8], g: Geo, v: Variable) -> Geo
     }
 }
 
-#[derive(Drop)]
+#[derive(Clone, Copy)]
 struct FeatureCount {
     count: usize,
     // where variables are asked for: behind the host features

@@ -32,7 +32,7 @@ const WARNING_OVERRIDDEN: u32 = 3;
 const WARNING_IGNORED: u32 = 4;
 
 // What the walk over the host features comes to: how many there are, and how many of them are control points.
-#[derive(Drop)]
+#[derive(Clone, Copy)]
 pub struct FeatureWarnings {
     pub warned: WarningCursor,
     pub count: usize,

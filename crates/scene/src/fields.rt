@@ -12,14 +12,14 @@ use values::Point;
 // A number, or a point, that may be absent: `some` says whether it is there. Where it is false the other fields are
 // free.
 #[repr(C)]
-#[derive(Drop)]
+#[derive(Clone, Copy)]
 pub struct OptionalFloat {
     pub some: bool,
     pub value: f64,
 }
 
 #[repr(C)]
-#[derive(Drop)]
+#[derive(Clone, Copy)]
 pub struct OptionalPoint {
     pub some: bool,
     pub x: f64,

@@ -17,7 +17,7 @@ use records::{NO_KEY, ROLE_DRAWN, TAG_ITEM, TAG_PLACE, find, wide16};
 use values::Point;
 
 // Where in the source a label is defined. Of two equal keys the first stays.
-#[derive(Drop)]
+#[derive(Clone, Copy)]
 pub struct Key {
     pub top: bool,
     pub line: u32,
@@ -26,7 +26,7 @@ pub struct Key {
 }
 
 // The best definition of a label so far, and its point. Where `some` is false the other fields are free.
-#[derive(Drop)]
+#[derive(Clone, Copy)]
 pub struct Best {
     pub some: bool,
     pub key: Key,
@@ -35,7 +35,7 @@ pub struct Best {
 }
 
 // The best of the places, and where the items are asked for: behind the places.
-#[derive(Drop)]
+#[derive(Clone, Copy)]
 pub struct BestPlace {
     pub best: Best,
     pub end: usize,

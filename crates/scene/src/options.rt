@@ -13,7 +13,7 @@ use stream::byte;
 
 // The frame that the options name. Where `some` is false, `frame` is free.
 #[repr(C)]
-#[derive(Drop)]
+#[derive(Clone, Copy)]
 pub struct FrameOption {
     pub some: bool,
     // 0 enu, 1 Mercator

@@ -43,7 +43,7 @@ const HAS_RAD: u8 = 16;
 // and takes `len` bytes. Where `some` is false the other fields are free, except `next` of a FeatureName or a Variable:
 // records of greater tags stand from there on.
 #[repr(C)]
-#[derive(Drop)]
+#[derive(Clone, Copy)]
 pub struct Feature {
     pub some: bool,
     pub at: usize,
@@ -53,7 +53,7 @@ pub struct Feature {
     pub next: usize,
 }
 
-#[derive(Drop)]
+#[derive(Clone, Copy)]
 pub struct FeatureName {
     pub some: bool,
     pub at: usize,
@@ -62,7 +62,7 @@ pub struct FeatureName {
 }
 
 #[repr(C)]
-#[derive(Drop)]
+#[derive(Clone, Copy)]
 pub struct Variable {
     pub some: bool,
     pub at: usize,
@@ -72,7 +72,7 @@ pub struct Variable {
 }
 
 #[repr(C)]
-#[derive(Drop)]
+#[derive(Clone, Copy)]
 pub struct Place {
     pub some: bool,
     pub at: usize,
@@ -87,7 +87,7 @@ pub struct Place {
 
 // An item's label stands at `label`, none where `len` is 0. Its points and paths are asked for from `next` on.
 #[repr(C)]
-#[derive(Drop)]
+#[derive(Clone, Copy)]
 pub struct Item {
     pub some: bool,
     pub kind: u8,
@@ -110,7 +110,7 @@ pub struct Item {
 
 // Points that follow an item: they stand at `at`, for `point_at`.
 #[repr(C)]
-#[derive(Drop)]
+#[derive(Clone, Copy)]
 pub struct Points {
     pub some: bool,
     pub at: usize,
@@ -120,7 +120,7 @@ pub struct Points {
 // A curve starts at the point at `start` and has three points at `at` for each of its cubics; any other path has its
 // points there.
 #[repr(C)]
-#[derive(Drop)]
+#[derive(Clone, Copy)]
 pub struct Path {
     pub some: bool,
     pub closed: bool,

@@ -1,4 +1,5 @@
 // The blocks of a stream, and what stands at a place of their payload.
+#![tactic(auto)]
 ghost use Rattle.std.specs.Prelude.{◌≡◌, ◌+◌, ◌*◌, ◌<◌, ◌≤◌, true, length, slice_index};
 ghost use Rattle.stream.specs.Numbers.{u16_at, u32_at, u64_at, float_at};
 ghost use Rattle.stream.specs.Blocks.{checked};
@@ -20,7 +21,7 @@ const WORDS: usize = 127;
 const MAX_BLOCKS: usize = 65536;
 
 // What the blocks of a stream are found to be.
-#[derive(Drop)]
+#[derive(Clone, Copy)]
 pub enum Blocks {
     // so many whole blocks, each with a right check
     Valid(usize),
@@ -31,14 +32,14 @@ pub enum Blocks {
 }
 
 // Whether bytes stand side by side in a part, and where the first of them stands, be it so or not.
-#[derive(Drop)]
+#[derive(Clone, Copy)]
 pub struct Contiguous {
     pub some: bool,
     pub at: usize,
 }
 
 // A float that was read. A NaN or an infinity has no value here: reading comes before condition 4.
-#[derive(Drop)]
+#[derive(Clone, Copy)]
 pub enum Float64 {
     Finite(f64),
     NotFinite,

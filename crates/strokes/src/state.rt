@@ -22,7 +22,7 @@ pub const WARNING_MISSING_GEOMETRY: u32 = 5;
 pub const WARNING_ALLOWANCE_SPENT: u32 = 6;
 
 // What is the same for every item: the projection, the longest step in metres, and the tolerance for curves in inches.
-#[derive(Drop)]
+#[derive(Clone, Copy)]
 pub struct Ctx {
     pub projection: Projection,
     pub step: f64,
@@ -30,7 +30,7 @@ pub struct Ctx {
 }
 
 // What a feature line says of its item; `fill` asks for a separate fill of an open shape.
-#[derive(Drop)]
+#[derive(Clone, Copy)]
 pub struct Props {
     pub item: u32,
     pub placement: u32,
@@ -39,7 +39,7 @@ pub struct Props {
 }
 
 // How much of each slice is used, in floats and words. `number` is 0, or tells what lacked room.
-#[derive(Drop)]
+#[derive(Clone, Copy)]
 pub struct State {
     pub number: u8,
     pub positions: usize,

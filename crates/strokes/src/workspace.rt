@@ -13,7 +13,7 @@ use scene::{Path, Points};
 
 // Where a shape's points end, where they end once closed, and where the closed outline behind them ends. Not `ok` where
 // they and one point more lack room.
-#[derive(Drop)]
+#[derive(Clone, Copy)]
 pub struct Workspace {
     pub ok: bool,
     pub points: usize,

@@ -18,7 +18,7 @@ use scene::Path;
 
 // Whether the points had room, where they end, and the budget after them.
 #[repr(C)]
-#[derive(Drop)]
+#[derive(Clone, Copy)]
 pub struct Drawing {
     pub ok: bool,
     pub at: usize,
@@ -28,7 +28,7 @@ pub struct Drawing {
 
 // A draw's grant, and the budget after it.
 #[repr(C)]
-#[derive(Drop)]
+#[derive(Clone, Copy)]
 pub struct Grant {
     pub granted: usize,
     pub left: usize,

@@ -1,4 +1,5 @@
 // The module's parts as C symbols, for the comparisons and the benchmarks.
+#![tactic(auto)]
 mod densify_calls;
 mod leaves;
 mod register_calls;

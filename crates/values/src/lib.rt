@@ -1,10 +1,11 @@
 // What several crates share: points, and warnings in a lent slice.
+#![tactic(auto)]
 ghost use Rattle.std.specs.Prelude.{◌≡◌, ◌≤◌, length};
 ghost use Rattle.values.specs.Inner.Warnings.{pushed};
 
 // A point of the canvas, in inches, or a position: longitude as x, latitude as y.
 #[repr(C)]
-#[derive(Drop)]
+#[derive(Clone, Copy)]
 pub struct Point {
     pub x: f64,
     pub y: f64,
@@ -12,7 +13,7 @@ pub struct Point {
 
 // How far a slice of warnings is used, in numbers, and whether everything fitted.
 #[repr(C)]
-#[derive(Drop)]
+#[derive(Clone, Copy)]
 pub struct WarningCursor {
     pub ok: bool,
     pub used: usize,
