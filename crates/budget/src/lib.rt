@@ -1,5 +1,6 @@
 // The vertex allowance that every producer of vertices draws from, after the source's densify.rs.
 #![tactic(auto)]
+
 ghost use Rattle.std.specs.Prelude.{◌≡◌, ◌-◌, min, max};
 ghost use Rattle.budget.specs.Budget.{allowance_of, fresh, take_of};
 

@@ -1,5 +1,6 @@
 // What is given out for each feature, after the source's geojson.rs: positions and a feature line.
 #![tactic(auto)]
+
 ghost use Rattle.std.specs.Prelude.{◌≡◌, ◌+◌, ◌≤◌, length, leb};
 ghost use Rattle.geojson.specs.Inner.Features.{FeatureWritten};
 

@@ -1,5 +1,6 @@
 // The blocks of a stream, and what stands at a place of their payload.
 #![tactic(auto)]
+
 ghost use Rattle.std.specs.Prelude.{◌≡◌, ◌+◌, ◌*◌, ◌<◌, ◌≤◌, true, length, slice_index};
 ghost use Rattle.stream.specs.Numbers.{u16_at, u32_at, u64_at, float_at};
 ghost use Rattle.stream.specs.Blocks.{checked};

@@ -1,0 +1,17 @@
+use Rattle.std.proofs.Common.{◌≡◌, ◌-◌, ◌*◌, arith, rules}
+use Rattle.stream.specs.Blocks.{word_sum, checked}
+use Rattle.stream.proofs.BlockChecks.{word_sum-more}
+use Rattle.stream.proofs.check.Goals as goal
+
+pub loop-k-init : goal.loop-k-init
+unfolding word_sum
+loop-k-init c = search rules
+
+pub loop-k-preserved : goal.loop-k-preserved
+loop-k-preserved c = let at = c.before.before.before in
+    omega (arith, word_sum-more at.args.s.now (512 * at.args.i) at.loop-k.k)
+
+pub returns : goal.returns
+unfolding checked
+returns c = let e : c.loop-k.k ≡ 127 = omega arith in
+    cc
