@@ -1,5 +1,6 @@
 // The records of a stream.
 #![tactic(auto)]
+
 mod floats;
 mod names;
 mod numbers;

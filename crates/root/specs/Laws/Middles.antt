@@ -153,7 +153,7 @@ is_nearest x p f y q g =
     let R = rooted x p f in
     let S = R.shape in
     let U = in_units y q g in
-    nearer x y (root_of x) R.units (U.q * 2 ^ U.i) ((S.p + 1) / 2 * 2 ^ S.j) R.value U.type_size R.root (numbers_below S U) (numbers_above S U)
+    nearer x y (root_of x) R.units (U.q * 2 ^ U.i) ((S.p + 1) / 2 * 2 ^ S.j) R.value U.size_of R.root (numbers_below S U) (numbers_above S U)
 
 three : (u v : ℕ) → (u ≡ v) ⊎ ((u < v) ⊎ (v < u))
 three u v = go (leb u v) (leb→le u v) (nleb→lt u v)
@@ -185,9 +185,9 @@ is-only x z p f q g h M =
     let v = U.q * 2 ^ U.i in
     let s : T (plain r) = plain_of_value r t (2 ^ 1074) R.root in
     elim (three v t) [
-      | inl e ↦ same_value z r false t (2 ^ 1074) (pow_pos 1074) g h (subst (λ (n : ℕ). HasValue z false n (2 ^ 1074)) e U.type_size) R.root
+      | inl e ↦ same_value z r false t (2 ^ 1074) (pow_pos 1074) g h (subst (λ (n : ℕ). HasValue z false n (2 ^ 1074)) e U.size_of) R.root
       | inr w ↦ elim w [
-        | inl l ↦ (let o = units→lt z r q s v t U.type_size R.root l in absurd (one_side x z r ((is_nearest x p f z q g).0 o) ((M r s h).1 o)))
-        | inr l ↦ (let o = units→lt r z s q t v R.root U.type_size l in absurd (one_side x r z ((M r s h).0 o) ((is_nearest x p f z q g).1 o)))
+        | inl l ↦ (let o = units→lt z r q s v t U.size_of R.root l in absurd (one_side x z r ((is_nearest x p f z q g).0 o) ((M r s h).1 o)))
+        | inr l ↦ (let o = units→lt r z s q t v R.root U.size_of l in absurd (one_side x r z ((M r s h).0 o) ((is_nearest x p f z q g).1 o)))
       ]
     ]
