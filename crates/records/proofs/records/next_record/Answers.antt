@@ -45,4 +45,4 @@ unfolding by_tag
 returns-in-8 c = record_is _ (omega arith) (sym c.byte.ensures ∙ c.in-8.is) c.read_path.ensures
 
 pub returns-in_default : goal.returns-in_default
-returns-in_default c = record_is _ (omega arith) (sym c.byte.ensures) (tag_other _ _ (none_below _ 9 c.in_default.rest))
+returns-in_default c = record_is _ (omega arith) (sym c.byte.ensures) (tag_other _ _ (none_below _ 9 c.in_default.in_default-own.rest))

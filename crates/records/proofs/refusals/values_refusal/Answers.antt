@@ -28,11 +28,11 @@ unfolding rescale_in rest
 returns-then-is_not_above-2 c =
     let flat : not_above (flatten_in (payload c.args.s.now)) ≡ false = asked not_above c.flatten.ensures c.is_not_above.ensures c.if-is_not_above.false in
     let stepped : outside_bounds (step_in (payload c.args.s.now)) ≡ false = asked outside_bounds c.sheet_step.ensures c.is_outside_bounds.ensures c.if-is_outside_bounds.false in
-    by_rescale _ flat (asked not_above c.float.ensures c.is_not_above-2.ensures c.if-is_not_above-2.true)
+    by_rescale _ flat stepped (asked not_above c.float.ensures c.is_not_above-2.ensures c.if-is_not_above-2.true)
 
 pub returns : goal.returns
 unfolding rescale_in rest
 returns c =
     let flat : not_above (flatten_in (payload c.args.s.now)) ≡ false = asked not_above c.flatten.ensures c.is_not_above.ensures c.if-is_not_above.false in
     let stepped : outside_bounds (step_in (payload c.args.s.now)) ≡ false = asked outside_bounds c.sheet_step.ensures c.is_outside_bounds.ensures c.if-is_outside_bounds.false in
-    by_none _ flat (asked not_above c.float.ensures c.is_not_above-2.ensures c.if-is_not_above-2.false)
+    by_none _ flat stepped (asked not_above c.float.ensures c.is_not_above-2.ensures c.if-is_not_above-2.false)

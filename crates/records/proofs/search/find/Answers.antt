@@ -7,6 +7,7 @@ use lib.Dec.{T}
 use lib.ListN.{drop}
 use Rattle.stream.specs.Payload.{payload}
 use Rattle.stream.specs.Inner.Payload.{room}
+use Rattle.records.specs.declared.records.Record.{Record}
 use Rattle.records.specs.declared.records.Step.TheVariants.{Got}
 use Rattle.records.specs.declared.search.SearchStep.{SearchStep}
 use Rattle.records.specs.declared.search.SearchStep.TheVariants.{Skip}
@@ -16,67 +17,76 @@ use Rattle.records.specs.Inner.Hits.{records_at, RecordAt, hits_of, SkipsTo}
 use Rattle.records.specs.Laws.Walk.{got_room}
 use Rattle.records.specs.Laws.Search.{search_bad, search_end, search_got, search_over, here, not-greater, passed_over}
 use Rattle.records.proofs.search.find.Goals as goal
-use Rattle.records.proofs.search.find.Goals.{After-search_step, At-loop-p}
 
 -- nothing is found where no such record stands
 none : (l : List ℕ) (t k p q : ℕ) {found : List (List ℕ)} → p ≤ q → SkipsTo l t p q → found ≡ [] → (found ≡ hits_of l t k (record { some = false; at = q; next = q })) × ((false ≡ true → RecordAt l t k q q) × ((p ≤ q) × SkipsTo l t p q))
 unfolding hits_of
 none l t k p q h a e = (e, ((λ n. absurd (subst T (sym n) tt)), (h, a)))
 
-module _ (w : After-search_step) where
-  abbrev s : List ℕ
-  s = w.args.s.now
-
-  abbrev size : ℕ
-  size = w.in-Got.k
-
-  got : record_of (drop w.loop-p.q (payload s)) ≡ Got w.in-Got.r size
-  got = sym w.record_at.ensures ∙ w.in-Got.is
-
-  within : (1 ≤ size) × (w.loop-p.q + size ≤ room s)
-  within = got_room s w.loop-p.q got
-
-  turned : {x : SearchStep} → w.search_step.result ≡ x → search_step_of w.args.tag w.args.key w.in-Got.r ≡ x
-  turned h = sym w.search_step.ensures ∙ h
-
-  -- what a search finds from a position on
-  abbrev from : ℕ → List (List ℕ)
-  from p = records_at (payload s) p w.args.tag w.args.key
-
-  onward : {x : SearchStep} → w.search_step.result ≡ x → from w.args.p ≡ with_found x (drop w.loop-p.q (payload s)) (from (w.loop-p.q + size))
-  onward h = w.loop-p.invariant.1 ∙ rw (← turned h) (search_got (payload s) w.loop-p.q _ _ got)
+-- a record stands at the position
+module _ (s : List ℕ) (p q tag key : ℕ) (r : Record) (size : ℕ) (x : SearchStep)
+    (got : record_of (drop q (payload s)) ≡ Got r size) (turned : search_step_of tag key r ≡ x) where
+  onward : records_at (payload s) p tag key ≡ records_at (payload s) q tag key
+      → records_at (payload s) p tag key ≡ with_found x (drop q (payload s)) (records_at (payload s) (q + size) tag key)
+  onward e = e ∙ rw (← turned) (search_got (payload s) q _ _ got)
 
   -- it has no greater tag
-  later : w.search_step.result ≡ Skip → SkipsTo (payload s) w.args.tag w.args.p (w.loop-p.q + size)
-  later h t k a b = w.loop-p.invariant.2 t k a b ∙ passed_over (payload s) w.loop-p.q t k got (omega (arith, not-greater w.args.tag _ _ (turned h) (omega arith))) b
+  later : x ≡ Skip → SkipsTo (payload s) tag p q → SkipsTo (payload s) tag p (q + size)
+  later e before t k a b = before t k a b ∙ passed_over (payload s) q t k got (omega (arith, not-greater tag _ _ (turned ∙ e) (omega arith))) b
 
 pub loop-p-init : goal.loop-p-init
 loop-p-init c = (omega arith, refl, λ t k h m. refl)
 
 pub returns-then-is_search_over : goal.returns-then-is_search_over
-returns-then-is_search_over c = record { key_value = (none _ _ _ _ c.loop-p.q c.loop-p.invariant.0 c.loop-p.invariant.2 (c.loop-p.invariant.1 ∙ search_over _ c.loop-p.q _ _ c.tag_at.ensures (sym c.is_search_over.ensures ∙ c.if-is_search_over.true))).0; record_at = (none _ _ _ _ c.loop-p.q c.loop-p.invariant.0 c.loop-p.invariant.2 (c.loop-p.invariant.1 ∙ search_over _ c.loop-p.q _ _ c.tag_at.ensures (sym c.is_search_over.ensures ∙ c.if-is_search_over.true))).1.0; p_le_at = (none _ _ _ _ c.loop-p.q c.loop-p.invariant.0 c.loop-p.invariant.2 (c.loop-p.invariant.1 ∙ search_over _ c.loop-p.q _ _ c.tag_at.ensures (sym c.is_search_over.ensures ∙ c.if-is_search_over.true))).1.1.0; skips_to = (none _ _ _ _ c.loop-p.q c.loop-p.invariant.0 c.loop-p.invariant.2 (c.loop-p.invariant.1 ∙ search_over _ c.loop-p.q _ _ c.tag_at.ensures (sym c.is_search_over.ensures ∙ c.if-is_search_over.true))).1.1.1 }
+returns-then-is_search_over c = let made = none _ _ _ _ c.loop-p.q c.loop-p.invariant.0 c.loop-p.invariant.2 (c.loop-p.invariant.1 ∙ search_over _ c.loop-p.q _ _ c.tag_at.ensures (sym c.is_search_over.ensures ∙ c.if-is_search_over.true)) in record { key_value = made.0; record_at = made.1.0; p_le_at = made.1.1.0; skips_to = made.1.1.1 }
 
 pub returns-in-Bad : goal.returns-in-Bad
-returns-in-Bad c = record { key_value = (none _ _ _ _ c.loop-p.q c.loop-p.invariant.0 c.loop-p.invariant.2 (c.loop-p.invariant.1 ∙ search_bad _ c.loop-p.q _ _ (sym c.record_at.ensures ∙ c.in-Bad.is))).0; record_at = (none _ _ _ _ c.loop-p.q c.loop-p.invariant.0 c.loop-p.invariant.2 (c.loop-p.invariant.1 ∙ search_bad _ c.loop-p.q _ _ (sym c.record_at.ensures ∙ c.in-Bad.is))).1.0; p_le_at = (none _ _ _ _ c.loop-p.q c.loop-p.invariant.0 c.loop-p.invariant.2 (c.loop-p.invariant.1 ∙ search_bad _ c.loop-p.q _ _ (sym c.record_at.ensures ∙ c.in-Bad.is))).1.1.0; skips_to = (none _ _ _ _ c.loop-p.q c.loop-p.invariant.0 c.loop-p.invariant.2 (c.loop-p.invariant.1 ∙ search_bad _ c.loop-p.q _ _ (sym c.record_at.ensures ∙ c.in-Bad.is))).1.1.1 }
+returns-in-Bad c = let made = none _ _ _ _ c.loop-p.q c.loop-p.invariant.0 c.loop-p.invariant.2 (c.loop-p.invariant.1 ∙ search_bad _ c.loop-p.q _ _ (sym c.record_at.ensures ∙ c.in-Bad.is)) in record { key_value = made.0; record_at = made.1.0; p_le_at = made.1.1.0; skips_to = made.1.1.1 }
 
 pub returns-in-End : goal.returns-in-End
-returns-in-End c = record { key_value = (none _ _ _ _ c.loop-p.q c.loop-p.invariant.0 c.loop-p.invariant.2 (c.loop-p.invariant.1 ∙ search_end _ c.loop-p.q _ _ (sym c.record_at.ensures ∙ c.in-End.is))).0; record_at = (none _ _ _ _ c.loop-p.q c.loop-p.invariant.0 c.loop-p.invariant.2 (c.loop-p.invariant.1 ∙ search_end _ c.loop-p.q _ _ (sym c.record_at.ensures ∙ c.in-End.is))).1.0; p_le_at = (none _ _ _ _ c.loop-p.q c.loop-p.invariant.0 c.loop-p.invariant.2 (c.loop-p.invariant.1 ∙ search_end _ c.loop-p.q _ _ (sym c.record_at.ensures ∙ c.in-End.is))).1.1.0; skips_to = (none _ _ _ _ c.loop-p.q c.loop-p.invariant.0 c.loop-p.invariant.2 (c.loop-p.invariant.1 ∙ search_end _ c.loop-p.q _ _ (sym c.record_at.ensures ∙ c.in-End.is))).1.1.1 }
+returns-in-End c = let made = none _ _ _ _ c.loop-p.q c.loop-p.invariant.0 c.loop-p.invariant.2 (c.loop-p.invariant.1 ∙ search_end _ c.loop-p.q _ _ (sym c.record_at.ensures ∙ c.in-End.is)) in record { key_value = made.0; record_at = made.1.0; p_le_at = made.1.1.0; skips_to = made.1.1.1 }
 
 pub overflow_add-result : goal.overflow_add-result
-overflow_add-result c = omega (arith, within w)
+overflow_add-result c =
+    let got : record_of (drop c.loop-p.q (payload c.args.s.now)) ≡ Got c.in-Got.r c.in-Got.k = sym c.record_at.ensures ∙ c.in-Got.is in
+    let within : (1 ≤ c.in-Got.k) × (c.loop-p.q + c.in-Got.k ≤ room c.args.s.now) = got_room c.args.s.now c.loop-p.q got in
+    omega arith
 
 pub returns-in-Matches : goal.returns-in-Matches
 unfolding hits_of
-returns-in-Matches c = let asked = here _ _ _ (turned w c.in-Matches.is) in record { key_value = ((onward w c.in-Matches.is, ((λ h. record { is = c.in-Got.r; size = size w; got = got w; ends = refl; tag = asked.0; key = asked.1 }), ((at w).loop.invariant.0, (at w).loop.invariant.2)))).0; record_at = ((onward w c.in-Matches.is, ((λ h. record { is = c.in-Got.r; size = size w; got = got w; ends = refl; tag = asked.0; key = asked.1 }), ((at w).loop.invariant.0, (at w).loop.invariant.2)))).1.0; p_le_at = ((onward w c.in-Matches.is, ((λ h. record { is = c.in-Got.r; size = size w; got = got w; ends = refl; tag = asked.0; key = asked.1 }), ((at w).loop.invariant.0, (at w).loop.invariant.2)))).1.1.0; skips_to = ((onward w c.in-Matches.is, ((λ h. record { is = c.in-Got.r; size = size w; got = got w; ends = refl; tag = asked.0; key = asked.1 }), ((at w).loop.invariant.0, (at w).loop.invariant.2)))).1.1.1 }
+returns-in-Matches c =
+    let got : record_of (drop c.loop-p.q (payload c.args.s.now)) ≡ Got c.in-Got.r c.in-Got.k = sym c.record_at.ensures ∙ c.in-Got.is in
+    let asked = here _ _ _ (sym c.search_step.ensures ∙ c.in-Matches.is) in
+    record {
+      key_value = onward c.args.s.now c.args.p c.loop-p.q c.args.tag c.args.key c.in-Got.r c.in-Got.k _ got (sym c.search_step.ensures ∙ c.in-Matches.is) c.loop-p.invariant.1;
+      record_at = λ h. record { is = c.in-Got.r; size = c.in-Got.k; got = got; ends = refl; tag = asked.0; key = asked.1 };
+      p_le_at = c.loop-p.invariant.0;
+      skips_to = c.loop-p.invariant.2;
+    }
 
 pub returns-in-Over : goal.returns-in-Over
-returns-in-Over c = let a = at c.before.before in record { key_value = (none _ _ _ _ a.loop.q a.loop.inv.0 a.loop.inv.2 (onward c.before.before c.in-Over.is)).0; record_at = (none _ _ _ _ a.loop.q a.loop.inv.0 a.loop.inv.2 (onward c.before.before c.in-Over.is)).1.0; p_le_at = (none _ _ _ _ a.loop.q a.loop.inv.0 a.loop.inv.2 (onward c.before.before c.in-Over.is)).1.1.0; skips_to = (none _ _ _ _ a.loop.q a.loop.inv.0 a.loop.inv.2 (onward c.before.before c.in-Over.is)).1.1.1 }
+returns-in-Over c =
+    let got : record_of (drop c.loop-p.q (payload c.args.s.now)) ≡ Got c.in-Got.r c.in-Got.k = sym c.record_at.ensures ∙ c.in-Got.is in
+    let made = none _ _ _ _ c.loop-p.q c.loop-p.invariant.0 c.loop-p.invariant.2 (onward c.args.s.now c.args.p c.loop-p.q c.args.tag c.args.key c.in-Got.r c.in-Got.k _ got (sym c.search_step.ensures ∙ c.in-Over.is) c.loop-p.invariant.1) in
+    record { key_value = made.0; record_at = made.1.0; p_le_at = made.1.1.0; skips_to = made.1.1.1 }
 
 pub overflow_add-q : goal.overflow_add-q
-overflow_add-q c = omega (arith, within w)
+overflow_add-q c =
+    let got : record_of (drop c.loop-p.q (payload c.args.s.now)) ≡ Got c.in-Got.r c.in-Got.k = sym c.record_at.ensures ∙ c.in-Got.is in
+    let within : (1 ≤ c.in-Got.k) × (c.loop-p.q + c.in-Got.k ≤ room c.args.s.now) = got_room c.args.s.now c.loop-p.q got in
+    omega arith
 
 pub loop-p-smaller : goal.loop-p-smaller
-loop-p-smaller c = omega (arith, within w)
+loop-p-smaller c =
+    let got : record_of (drop c.loop-p.q (payload c.args.s.now)) ≡ Got c.in-Got.r c.in-Got.k = sym c.record_at.ensures ∙ c.in-Got.is in
+    let within : (1 ≤ c.in-Got.k) × (c.loop-p.q + c.in-Got.k ≤ room c.args.s.now) = got_room c.args.s.now c.loop-p.q got in
+    omega arith
 
 pub loop-p-preserved : goal.loop-p-preserved
-loop-p-preserved c = (omega (arith, (at w).loop.invariant.0), onward w c.in-Skip.is, later w c.in-Skip.is)
+loop-p-preserved c =
+    let got : record_of (drop c.loop-p.q (payload c.args.s.now)) ≡ Got c.in-Got.r c.in-Got.k = sym c.record_at.ensures ∙ c.in-Got.is in
+    let turned = sym c.search_step.ensures ∙ c.in-Skip.is in (
+      omega (arith, got_room c.args.s.now c.loop-p.q got),
+      onward c.args.s.now c.args.p c.loop-p.q c.args.tag c.args.key c.in-Got.r c.in-Got.k _ got (sym c.search_step.ensures ∙ c.in-Skip.is) c.loop-p.invariant.1,
+      later c.args.s.now c.args.p c.loop-p.q c.args.tag c.args.key c.in-Got.r c.in-Got.k _ got turned refl c.loop-p.invariant.2,
+    )

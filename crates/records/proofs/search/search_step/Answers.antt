@@ -1,11 +1,11 @@
 use borrow.Author.Tests.{eq-eqb, ne_eqb}
 use mathlib.Core.Path.{◌≡◌, refl, sym, ◌∙◌}
 use mathlib.Core.Bool.{false, ◌&&◌}
-use mathlib.Core.Logic.{⊎_elim}
 use lib.Dec.{eqb}
 use Rattle.records.specs.Walk.{tag_of}
 use Rattle.records.specs.Search.{key_of, search_step_of}
 use Rattle.records.proofs.search.search_step.Goals as goal
+use Rattle.records.proofs.search.search_step.Goals.{then-x-tag+else-key_of-key, else-x-tag}
 
 pub returns-then-key_of-key : goal.returns-then-key_of-key
 unfolding search_step_of
@@ -14,17 +14,17 @@ returns-then-key_of-key c = rw (eq-eqb _ _ (sym c.tag_of-x.ensures ∙ c.if-x-ta
 pub returns-then-ends_search : goal.returns-then-ends_search
 unfolding search_step_of
 returns-then-ends_search c =
-    let other : (eqb (tag_of c.args.r) c.args.tag && eqb (key_of c.args.r) c.args.key) ≡ false = ⊎_elim
-    (λ w. rw (eq-eqb _ _ (sym c.tag_of-x.ensures ∙ w.0.taken), ne_eqb _ _ (λ e. w.2.left (w.1.ensures ∙ e))) refl)
-    (λ w. rw (ne_eqb _ _ (λ e. w.left (c.tag_of-x.ensures ∙ e))) refl)
-    c.if-x-tag.branch in
+    let other : (eqb (tag_of c.args.r) c.args.tag && eqb (key_of c.args.r) c.args.key) ≡ false = elim c.if-x-tag.branch [
+      | then-x-tag+else-key_of-key w ↦ rw (eq-eqb _ _ (sym c.tag_of-x.ensures ∙ w.if-x-tag.true), ne_eqb _ _ (λ e. w.if-key_of-key.false (w.key_of.ensures ∙ e))) refl
+      | else-x-tag w ↦ rw (ne_eqb _ _ (λ e. w.if-x-tag.false (c.tag_of-x.ensures ∙ e))) refl
+    ] in
     rw (other, ← c.tag_of-x.ensures, ← c.ends_search.ensures, c.if-ends_search.true) refl
 
 pub returns : goal.returns
 unfolding search_step_of
 returns c =
-    let other : (eqb (tag_of c.args.r) c.args.tag && eqb (key_of c.args.r) c.args.key) ≡ false = ⊎_elim
-    (λ w. rw (eq-eqb _ _ (sym c.tag_of-x.ensures ∙ w.0.taken), ne_eqb _ _ (λ e. w.2.left (w.1.ensures ∙ e))) refl)
-    (λ w. rw (ne_eqb _ _ (λ e. w.left (c.tag_of-x.ensures ∙ e))) refl)
-    c.if-x-tag.branch in
+    let other : (eqb (tag_of c.args.r) c.args.tag && eqb (key_of c.args.r) c.args.key) ≡ false = elim c.if-x-tag.branch [
+      | then-x-tag+else-key_of-key w ↦ rw (eq-eqb _ _ (sym c.tag_of-x.ensures ∙ w.if-x-tag.true), ne_eqb _ _ (λ e. w.if-key_of-key.false (w.key_of.ensures ∙ e))) refl
+      | else-x-tag w ↦ rw (ne_eqb _ _ (λ e. w.if-x-tag.false (c.tag_of-x.ensures ∙ e))) refl
+    ] in
     rw (other, ← c.tag_of-x.ensures, ← c.ends_search.ensures, c.if-ends_search.false) refl
