@@ -1,5 +1,6 @@
 // The elementary functions of document 01, for every f64.
 #![tactic(auto)]
+
 ghost use Rattle.std.specs.Prelude.{◌≡◌, T};
 ghost use Rattle.std.specs.Float.Ieee.Positive.{positive};
 ghost use Rattle.elementary.specs.Series.{series_of, even_of, odd_of, sine_table, cosine_table, logarithm_table, exponential_table, arctangent_table};

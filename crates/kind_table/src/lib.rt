@@ -1,6 +1,7 @@
 // The kind table, which the host lends: for each kind of item whether it belongs on the map or on the screen, or is not
 // drawn.
 #![tactic(auto)]
+
 ghost use Rattle.std.specs.Prelude.{◌≡◌};
 ghost use Rattle.stream.specs.Conditions.{first_of};
 ghost use Rattle.kind_table.specs.KindTable.{entry_of, not_drawn, on_screen, any_above, of_kind_table};

@@ -1,6 +1,7 @@
 // The scene that a stream holds. A position is one of the payload; a question that starts at a position asks of the
 // records from there on.
 #![tactic(auto)]
+
 mod fields;
 mod labels;
 mod names;

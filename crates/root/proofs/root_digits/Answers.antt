@@ -1,8 +1,8 @@
 -- `root::root_digits` meets its contract: the cases by pattern, and then what `decompose`, `whole_root` and `count`
 -- give. Assumes nothing.
 use mathlib.Core.Path.{◌≡◌, refl, sym, ap, ◌∙◌, subst}
-use mathlib.Core.Bool.{false, not}
-use mathlib.Core.Logic.{inl, inr, ⊎_elim}
+use mathlib.Core.Bool.{true, false, not}
+use mathlib.Core.Logic.{inl, inr}
 use Prim.Native.Nat.{ℕ, ◌-◌, ◌%◌, ◌^◌, ◌≤◌, ◌<◌}
 use native.Mathlib.Omega.{arith}
 use lib.Dec.{T}
@@ -15,20 +15,18 @@ use Rattle.root.specs.Digits.{digits_of}
 use Rattle.root.specs.Inner.Halves.{Ends}
 use Rattle.root.specs.Laws.Patterns.{Own, None, Evened, at_zero, at_infinity, at_minus, m_in, p-lo, p-hi, pattern_read, pattern_no_nan, Told, pattern_digits}
 use Rattle.root.proofs.root_digits.Goals as goal
-use Rattle.root.proofs.root_digits.Goals.{After-decompose-p, After-struct_known-3-1, Joined-p-eq1, Start}
+use Rattle.root.proofs.root_digits.Goals.{then-p-eq1, else-p-eq1}
 
-module _ (c : Start) where
-  abbrev bits : ℕ
-  bits = to_bits binary64 c.args.x
+-- ---- what owning an `f64` tells: the format holds it, and so it is what its pattern says
+module _ (x : Float) (g : fits binary64 x ≡ true) where
+  held : T (fits binary64 x)
+  held = subst T (sym g) tt
 
-  held : T (fits binary64 c.args.x)
-  held = subst T (sym c.well_formed.0.1) tt
+  read : of_bits binary64 (to_bits binary64 x) ≡ x
+  read = of_bits-to_bits binary64 x held
 
-  read : of_bits binary64 bits ≡ c.args.x
-  read = of_bits-to_bits binary64 c.args.x held
-
-  wide : bits < 2 ^ 64
-  wide = to_bits-lt binary64 c.args.x held
+  wide : to_bits binary64 x < 2 ^ 64
+  wide = to_bits-lt binary64 x held
 
 -- ---- the cases that need no digits
 own_nan : (x : Float) → x ≡ nan → Own x
@@ -52,48 +50,62 @@ pub float_to_bits-b : goal.float_to_bits-b
 float_to_bits-b c = no_nan c.args.x c.if-x.false
 
 pub returns-then-b-eq0 : goal.returns-then-b-eq0
-returns-then-b-eq0 c = subst Own (read s) (at_zero (bits s) (wide s) c.if-b-eq0.true)
+returns-then-b-eq0 c =
+    let x = c.args.x in
+    let g = c.well_formed.0.1 in
+    subst Own (read x g) (at_zero (to_bits binary64 x) (wide x g) c.if-b-eq0.true)
 
 pub returns-then-b-gt-SIGN : goal.returns-then-b-gt-SIGN
-returns-then-b-gt-SIGN c = let v = subst None (read s) (at_minus (bits s) (wide s) c.if-b-gt-SIGN.true) in
+returns-then-b-gt-SIGN c =
+    let x = c.args.x in
+    let g = c.well_formed.0.1 in
+    let v = subst None (read x g) (at_minus (to_bits binary64 x) (wide x g) c.if-b-gt-SIGN.true) in
     (no_number ∙ v.0, v.1)
 
 pub returns-then-b-ge-INFINITY : goal.returns-then-b-ge-INFINITY
-returns-then-b-ge-INFINITY c = subst Own (read s) (at_infinity (bits s) (under (bits s) (wide s) c.if-b-eq0.false c.if-b-gt-SIGN.false) c.if-b-ge-INFINITY.true)
+returns-then-b-ge-INFINITY c =
+    let x = c.args.x in
+    let g = c.well_formed.0.1 in
+    subst Own (read x g) (at_infinity (to_bits binary64 x) (under (to_bits binary64 x) (wide x g) c.if-b-eq0.false c.if-b-gt-SIGN.false) c.if-b-ge-INFINITY.true)
   where
     under : (b : ℕ) → b < 2 ^ 64 → (b % 2 ^ 63 ≡ 0 → ⊥) → b ≤ 2 ^ 63 → b < 2 ^ 63
     under b h n l = omega arith
 
-module _ (c : Joined-p-eq1) where
-  way : Evened c.decompose-p.result.m c.decompose-p.result.e c.if-p-eq1.m
-  way = ⊎_elim (λ w. inl (w.0.taken, w.1)) (λ w. inr (w.0.left, w.1)) c.if-p-eq1.branch
-
 pub whole_root-w-requires : goal.whole_root-w-requires
-whole_root-w-requires c = m_in (cut c).decompose.ensures (way c)
-
-module _ (c : After-struct_known-3-1) where
-  root_in : (2 ^ 53 ≤ c.whole_root-w.result.root) × (c.whole_root-w.result.root < 2 ^ 54)
-  root_in =
-      let w = c.whole_root-w.ensures.0 in
-      (p-lo (cut j).decompose.ensures (way j) w, p-hi (cut j).decompose.ensures (way j) w)
+whole_root-w-requires c =
+    let way : Evened c.decompose-p.result.m c.decompose-p.result.e c.if-p-eq1.m =
+    elim c.if-p-eq1.branch [ then-p-eq1 w ↦ inl (w.if-p-eq1.true, w.m-is) | else-p-eq1 w ↦ inr (w.if-p-eq1.false, w.m-is) ] in
+    m_in c.decompose-p.ensures way
 
 pub overflow_add-root : goal.overflow_add-root
-overflow_add-root c = omega (arith, root_in c)
+overflow_add-root c =
+    let way : Evened c.decompose-p.result.m c.decompose-p.result.e c.if-p-eq1.m =
+    elim c.if-p-eq1.branch [ then-p-eq1 w ↦ inl (w.if-p-eq1.true, w.m-is) | else-p-eq1 w ↦ inr (w.if-p-eq1.false, w.m-is) ] in
+    omega (arith, p-hi c.decompose-p.ensures way c.whole_root-w.ensures.0)
 
 pub float_from_bits-root : goal.float_from_bits-root
-float_from_bits-root c = let j = joined c in
-    pattern_no_nan (cut j).decompose.ensures (way j) c.whole_root-w.ensures.0
+float_from_bits-root c =
+    let way : Evened c.decompose-p.result.m c.decompose-p.result.e c.if-p-eq1.m =
+    elim c.if-p-eq1.branch [ then-p-eq1 w ↦ inl (w.if-p-eq1.true, w.m-is) | else-p-eq1 w ↦ inr (w.if-p-eq1.false, w.m-is) ] in
+    pattern_no_nan c.decompose-p.ensures way c.whole_root-w.ensures.0
 
 pub count-digits-requires : goal.count-digits-requires
-count-digits-requires c = root_in c
+count-digits-requires c =
+    let way : Evened c.decompose-p.result.m c.decompose-p.result.e c.if-p-eq1.m =
+    elim c.if-p-eq1.branch [ then-p-eq1 w ↦ inl (w.if-p-eq1.true, w.m-is) | else-p-eq1 w ↦ inr (w.if-p-eq1.false, w.m-is) ] in
+    (p-lo c.decompose-p.ensures way c.whole_root-w.ensures.0, p-hi c.decompose-p.ensures way c.whole_root-w.ensures.0)
 
 pub returns : goal.returns
-returns c = let j = joined c.before in
+returns c =
+    let x = c.args.x in
+    let g = c.well_formed.0.1 in
+    let way : Evened c.decompose-p.result.m c.decompose-p.result.e c.if-p-eq1.m =
+    elim c.if-p-eq1.branch [ then-p-eq1 w ↦ inl (w.if-p-eq1.true, w.m-is) | else-p-eq1 w ↦ inr (w.if-p-eq1.false, w.m-is) ] in
     let w = c.whole_root-w.ensures in
-    let s = (cut j).decompose.ensures in
-    let under = (cut j).before.if4.left in (
-      pattern_read s (way j) w.0 (omega arith) under ∙ ap root_of (read (start j)),
-      counts c.whole_root-w.result.root w.1 c.count-digits.ensures (pattern_digits s (way j) w.0 (omega arith) under) ∙ ap digits_of (read (start j)),
+    let s = c.decompose-p.ensures in
+    let under = c.if-b-ge-INFINITY.false in (
+      pattern_read s way w.0 (omega arith) under ∙ ap root_of (read x g),
+      counts c.whole_root-w.result.root w.1 c.count-digits.ensures (pattern_digits s way w.0 (omega arith) under) ∙ ap digits_of (read x g),
     )
   where
     counts : {a w n d : ℕ} (r : ℕ) → Ends a r w → (w ≡ 27 → n ≡ 54 - count_trailing_zeros 54 r) × (w ≡ 54 → n ≡ 54) → Told a r d → n ≡ d
