@@ -1,5 +1,6 @@
 // Web Mercator, EPSG:3857, after the source's geodesy.rs.
 #![tactic(auto)]
+
 ghost use Rattle.std.specs.Prelude.{◌≡◌};
 ghost use Rattle.geodesy.specs.Geodesy.{normalize_lon_of, mercator_forward_of, mercator_inverse_of};
 ghost use Rattle.geodesy.specs.Inner.Stages.{longitude_of, exp_ordinate_of, latitude_of};

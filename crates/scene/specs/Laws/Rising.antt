@@ -4,7 +4,7 @@ use Rattle.std.specs.Prelude.{◌≡◌, ◌⊎◌, Bool, true, false, ◌&&◌,
 use Rattle.std.proofs.Math.Path.{refl}
 use Rattle.std.proofs.Common.{sym, ◌∙◌, true≢false, arith, ltb-true, eqb-true, lt-ltb, le-ltb, eq-eqb}
 use Rattle.std.proofs.Math.Logic.{inl, inr, ⊎_elim}
-use Rattle.std.proofs.Math.Bool.{and-false, or_true}
+use Rattle.std.proofs.Math.Bool.{and-false, or-true}
 use Rattle.std.proofs.lemmas.Bool.{false≢true}
 use Rattle.std.proofs.Math.Dec.{ltb}
 use Rattle.records.specs.declared.records.Record.{Record}
@@ -39,7 +39,7 @@ module _ (x y : ℕ) (xs ys : List ℕ) where
 
   pub before-next : x ≡ y → before xs ys ≡ true → before (x ∷ xs) (y ∷ ys) ≡ true
   unfolding before
-  before-next e h = rw (eq-eqb x y e, h) (or_true (ltb x y))
+  before-next e h = rw (eq-eqb x y e, h) (or-true (ltb x y))
 
   pub before_cases : before (x ∷ xs) (y ∷ ys) ≡ true → (x < y) ⊎ ((x ≡ y) × (before xs ys ≡ true))
   unfolding before
