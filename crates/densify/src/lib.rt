@@ -1,5 +1,6 @@
 // Points on the canvas, after the source's densify.rs.
 #![tactic(auto)]
+
 mod append;
 mod counts;
 mod cubic;

@@ -1,5 +1,6 @@
 // Names against labels: a batch of names as a table, and one walk over the labels for all of them.
 #![tactic(auto)]
+
 mod batch;
 mod table;
 mod words;

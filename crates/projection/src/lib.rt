@@ -1,5 +1,6 @@
 // Canvas points to the Earth, after the source's register.rs with its frame Mercator.
 #![tactic(auto)]
+
 ghost use Rattle.std.specs.Prelude.{◌≡◌};
 ghost use Rattle.projection.specs.Projection.{projection_of, to_lon_lat_by, round9_of, geo_by};
 ghost use Rattle.projection.specs.Inner.Stages.{plane_position_of, plane_stage_of, rounded_latitude_of};
