@@ -1,5 +1,6 @@
 // The fit of a similarity to control points, in two rounds, after the source's register.rs with its frame Mercator.
 #![tactic(auto)]
+
 ghost use Rattle.std.specs.Prelude.{◌≡◌, ◌+◌, ◌*◌, ◌≤◌, length, take, drop};
 ghost use Rattle.fit.specs.Fit.{projected_of, no_sums, added, means_of, divided_by, no_moments, momented, moments_of};
 ghost use Rattle.fit.specs.Fit.{degenerate, fit_at, solved_of, round_of, fit_projected, fit_of};

@@ -20,7 +20,9 @@ returns-then-n c = let n = c.args.n in
     rw (clamped-is n e t) (omega (arith, past_most n e t c.if-n.true))
 
 pub truncating_f64_to_u64-k-requires : goal.truncating_f64_to_u64-k-requires
-truncating_f64_to_u64-k-requires c = castable _ c.is_finite.ensures c.if-not-is_finite.false-raw (c.if-not-n.false) c.if-n.false
+truncating_f64_to_u64-k-requires c =
+    let made = castable _ c.is_finite.ensures c.if-not-is_finite.false-raw c.if-not-n.false c.if-n.false in
+    record { lower_bound = made.0; upper_bound = made.1 }
 
 pub returns-then-k-low : goal.returns-then-k-low
 returns-then-k-low c = rw (clamped-is c.args.n c.is_finite.ensures c.if-not-is_finite.false-raw) (omega arith)

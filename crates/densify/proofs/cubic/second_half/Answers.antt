@@ -10,4 +10,4 @@ behind (a ∷ b ∷ []) = refl
 behind (a ∷ b ∷ c ∷ h) = refl
 
 pub returns : goal.returns
-returns c = behind c.args.t1
+returns c = behind c.args.h

@@ -13,7 +13,7 @@ pub point_at-p-requires : goal.point_at-p-requires
 point_at-p-requires c = omega arith
 
 pub shape_of-work-then-not-d : goal.shape_of-work-then-not-d
-shape_of-work-then-not-d c = c.put_point-d.auto.1.1.1.0 ∙ c.loop-i.invariant.2
+shape_of-work-then-not-d c = c.put_point-d.auto.work ∙ c.loop-i.invariant.2
 
 pub returns-then-not-d : goal.returns-then-not-d
 returns-then-not-d c = let s = c.args in
@@ -30,7 +30,7 @@ loop-i-preserved c = let s = c.args in
     let fits : d.result.ok ≡ true = not-false _ c.if-not-d.false in (
       omega arith,
       next_in d.ensures fits,
-      d.auto.1.1.1.0 ∙ t.invariant.2,
+      d.auto.work ∙ t.invariant.2,
       points-next (payload s.s.now) s.from s.count t.i t.invariant.3 c.loop-i-test.true c.point_at-p.ensures d.ensures fits,
     )
 

@@ -19,7 +19,7 @@ pub point_at-end-requires : goal.point_at-end-requires
 point_at-end-requires c = omega arith
 
 pub shape_of-work-then-not-d : goal.shape_of-work-then-not-d
-shape_of-work-then-not-d c = c.flatten_cubic-d.auto.1.1.1.0 ∙ c.loop-i.invariant.2
+shape_of-work-then-not-d c = c.flatten_cubic-d.auto.work ∙ c.loop-i.invariant.2
 
 pub returns-then-not-d : goal.returns-then-not-d
 returns-then-not-d c = let s = c.args in
@@ -28,7 +28,7 @@ returns-then-not-d c = let s = c.args in
     let two = c.point_at-c2 in
     let three = c.point_at-end in
     let d = c.flatten_cubic-d in
-    cubics-short (payload s.s.now) s.from s.count t.i s.tol (record { x = t.px; y = t.py }) t.false t.invariant.3
+    cubics-short (payload s.s.now) s.from s.count t.i s.tol (record { x = t.px; y = t.py }) t.left t.invariant.3
     one.result two.result three.result c.loop-i-test.true one.ensures two.ensures three.ensures d.ensures (not-true _ c.if-not-d.true)
 
 pub loop-i-smaller : goal.loop-i-smaller
@@ -45,12 +45,12 @@ loop-i-preserved c = let s = c.args in
     let fits : d.result.ok ≡ true = not-false _ c.if-not-d.false in (
       omega arith,
       next_in d.ensures fits,
-      d.auto.1.1.1.0 ∙ t.invariant.2,
-      cubics-next (payload s.s.now) s.from s.count t.i s.tol (record { x = t.px; y = t.py }) t.false t.invariant.3
+      d.auto.work ∙ t.invariant.2,
+      cubics-next (payload s.s.now) s.from s.count t.i s.tol (record { x = t.px; y = t.py }) t.left t.invariant.3
           one.result two.result three.result more one.ensures two.ensures three.ensures d.ensures fits,
     )
 
 pub returns : goal.returns
 returns c = let s = c.args in
     let t = c.loop-i in
-    cubics_end (payload s.s.now) s.from s.count t.i s.tol (record { x = t.px; y = t.py }) t.false t.invariant.3 c.loop-i-test.false t.invariant.1
+    cubics_end (payload s.s.now) s.from s.count t.i s.tol (record { x = t.px; y = t.py }) t.left t.invariant.3 c.loop-i-test.false t.invariant.1

@@ -35,4 +35,4 @@ returns c = runs_done _ _ c.corner-d1.ensures (not-false _ c.if-not-d1.false)
     (runs_done _ _ c.corner-d3.ensures (not-false _ c.if-not-d3.false) c.corner.ensures))
 
 pub shape_of-work : goal.shape_of-work
-shape_of-work c = (returns-4 c).kept
+shape_of-work c = (returns c).kept

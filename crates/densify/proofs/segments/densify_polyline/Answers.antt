@@ -35,7 +35,7 @@ put_point-first-requires c = c.requires.2
 pub returns-then-not-first : goal.returns-then-not-first
 returns-then-not-first c =
     let first : let s = c.args in
-    Written s.out.now c.put_point-first.new.y.1.1.0 s.at (without_draws (point_of s.work.now s.from ∷ []) s.budget) c.put_point-first.result = c.put_point-first.ensures in
+    Written s.out.now c.put_point-first.new.work s.at (without_draws (point_of s.work.now s.from ∷ []) s.budget) c.put_point-first.result = c.put_point-first.ensures in
     let s = c.args in
     polyline-short s.step _ _ _ s.to _ (omega arith) first (not-true _ c.if-not-first.true)
 
@@ -48,7 +48,7 @@ overflow_add-i c = omega arith
 pub loop-i-init : goal.loop-i-init
 loop-i-init c =
     let first : let s = c.args in
-    Written s.out.now c.put_point-first.new.y.1.1.0 s.at (without_draws (point_of s.work.now s.from ∷ []) s.budget) c.put_point-first.result = c.put_point-first.ensures in
+    Written s.out.now c.put_point-first.new.work s.at (without_draws (point_of s.work.now s.from ∷ []) s.budget) c.put_point-first.result = c.put_point-first.ensures in
     (omega arith, next_in first (not-false _ c.if-not-first.false), λ w r h. h)
 
 pub overflow_sub-to-in-loop-i : goal.overflow_sub-to-in-loop-i
@@ -66,20 +66,20 @@ bounds-work-i-in-loop-i c = omega arith
 pub sample_segment-d-requires : goal.sample_segment-d-requires
 sample_segment-d-requires c =
     let drawn : let l = c.loop-i in let s = c.args in
-    c.take-taken.result ≡ take_of l.false (segment_want s.step s.scale (record { x = l.ax; y = l.ay }) (point_of s.work.now l.i)) 1 = rw c.segment_want-want.ensures at c.take-taken.ensures in
+    c.take-taken.result ≡ take_of l.left (segment_want s.step s.scale (record { x = l.ax; y = l.ay }) (point_of s.work.now l.i)) 1 = rw c.segment_want-want.ensures at c.take-taken.ensures in
     (grant_within _ _ _ _ _ drawn, c.loop-i.invariant.1)
 
 whole : {w : List Float} {r : PointCursor} (p : At-loop-i) → let s = p.args in
-    Written p.put_point-first.new.y.1.1.0 w p.put_point-first.result.at (onwards s.step s.scale s.work.now s.from s.to s.budget) r
+    Written p.put_point-first.new.work w p.put_point-first.result.at (onwards s.step s.scale s.work.now s.from s.to s.budget) r
     → Written s.out.now w s.at (densify_polyline_of s.step s.scale (points_in s.work.now s.from s.to) s.budget) r
 whole p h = polyline-done _ _ _ _ _ _ (omega arith) (first p.before.before.before.before.before) (not-false _ p.if-not-first.false) h
 
 pub returns-then-not-d : goal.returns-then-not-d
 returns-then-not-d c =
     let drawn : let l = c.loop-i in let s = c.args in
-    c.take-taken.result ≡ take_of l.false (segment_want s.step s.scale (record { x = l.ax; y = l.ay }) (point_of s.work.now l.i)) 1 = rw c.segment_want-want.ensures at c.take-taken.ensures in
+    c.take-taken.result ≡ take_of l.left (segment_want s.step s.scale (record { x = l.ax; y = l.ay }) (point_of s.work.now l.i)) 1 = rw c.segment_want-want.ensures at c.take-taken.ensures in
     let room : c.loop-i.i + 2 ≤ c.args.to = omega arith in
-    whole p (segment-short _ _ _ c.loop-i.i _ c.loop-i.false _ c.loop-i.invariant.2 room _ drawn c.sample_segment-d.ensures (not-true _ c.if-not-d.true))
+    whole p (segment-short _ _ _ c.loop-i.i _ c.loop-i.left _ c.loop-i.invariant.2 room _ drawn c.sample_segment-d.ensures (not-true _ c.if-not-d.true))
 
 pub shape_of-out-then-not-d : goal.shape_of-out-then-not-d
 shape_of-out-then-not-d c = (returns-3 c).kept
@@ -95,16 +95,16 @@ loop-i-smaller c = omega arith
 pub loop-i-preserved : goal.loop-i-preserved
 loop-i-preserved c =
     let drawn : let l = c.loop-i in let s = c.args in
-    c.take-taken.result ≡ take_of l.false (segment_want s.step s.scale (record { x = l.ax; y = l.ay }) (point_of s.work.now l.i)) 1 = rw c.segment_want-want.ensures at c.take-taken.ensures in
+    c.take-taken.result ≡ take_of l.left (segment_want s.step s.scale (record { x = l.ax; y = l.ay }) (point_of s.work.now l.i)) 1 = rw c.segment_want-want.ensures at c.take-taken.ensures in
     let room : c.loop-i.i + 2 ≤ c.args.to = omega arith in
     let fits = not-false _ c.if-not-d.false in (
       room,
       next_in c.sample_segment-d.ensures fits,
-      segment-next _ _ _ c.loop-i.i _ c.loop-i.false _ c.loop-i.invariant.2 room _ drawn c.sample_segment-d.ensures fits,
+      segment-next _ _ _ c.loop-i.i _ c.loop-i.left _ c.loop-i.invariant.2 room _ drawn c.sample_segment-d.ensures fits,
     )
 
 pub returns : goal.returns
-returns c = whole p (segments_end _ _ _ c.loop-i.i _ c.loop-i.false _ c.loop-i.invariant.2 (omega arith) c.loop-i.invariant.1)
+returns c = whole p (segments_end _ _ _ c.loop-i.i _ c.loop-i.left _ c.loop-i.invariant.2 (omega arith) c.loop-i.invariant.1)
 
 pub shape_of-out : goal.shape_of-out
 shape_of-out c = (returns-4 c).kept

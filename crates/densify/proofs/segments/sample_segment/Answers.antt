@@ -20,12 +20,12 @@ put_point-d-requires c = next_in c.loop-k.invariant.2 refl
 pub returns-then-not-d : goal.returns-then-not-d
 returns-then-not-d c =
     let one : let l = c.loop-k in
-    Written l.out c.put_point-d.new.y.1.1.0 l.next (without_draws (along_of (point_in c.args.a) (point_in c.args.b) l.k c.args.n ∷ []) c.args.budget) c.put_point-d.result = rw c.along-p.ensures at c.put_point-d.ensures in
+    Written l.out c.put_point-d.new.work l.next (without_draws (along_of (point_in c.args.a) (point_in c.args.b) l.k c.args.n ∷ []) c.args.budget) c.put_point-d.result = rw c.along-p.ensures at c.put_point-d.ensures in
     let l = c.loop-k in
     sample_short _ l.k l.invariant.0 l.invariant.2 one _ (omega arith) (not-true _ c.if-not-d.true)
 
 pub shape_of-out-then-not-d : goal.shape_of-out-then-not-d
-shape_of-out-then-not-d c = (returns c).kept
+shape_of-out-then-not-d c = (returns-then-not-d c).kept
 
 pub overflow_add-k : goal.overflow_add-k
 overflow_add-k c = omega arith
@@ -36,7 +36,7 @@ loop-k-smaller c = omega arith
 pub loop-k-preserved : goal.loop-k-preserved
 loop-k-preserved c =
     let one : let l = c.loop-k in
-    Written l.out c.put_point-d.new.y.1.1.0 l.next (without_draws (along_of (point_in c.args.a) (point_in c.args.b) l.k c.args.n ∷ []) c.args.budget) c.put_point-d.result = rw c.along-p.ensures at c.put_point-d.ensures in
+    Written l.out c.put_point-d.new.work l.next (without_draws (along_of (point_in c.args.a) (point_in c.args.b) l.k c.args.n ∷ []) c.args.budget) c.put_point-d.result = rw c.along-p.ensures at c.put_point-d.ensures in
     let l = c.loop-k in
     (omega arith, omega arith, sample_next _ l.k l.invariant.0 l.invariant.2 one (not-false _ c.if-not-d.false))
 

@@ -1,4 +1,0 @@
--- What the functions' proofs share.
-pub mod Again
-pub mod Lent
-pub mod Projecting
