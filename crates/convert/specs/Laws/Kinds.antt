@@ -1,6 +1,6 @@
 -- What the entry of a kind decides: whether an item is drawn, and where it belongs; not its shape.
 use Rattle.std.specs.Prelude.{ℕ, suc, ◌≡◌, refl, true, cond, ◌||◌, List, ◌∷◌, eqb}
-use Rattle.std.proofs.Math.Bool.{or_true}
+use Rattle.std.proofs.Math.Bool.{or-true}
 use Rattle.kind_table.specs.KindTable.{not_drawn, on_screen}
 use Rattle.scene.specs.Scene.{DrawnItem}
 use Rattle.budget.specs.declared.Budget.{Budget}
@@ -19,7 +19,7 @@ module _ (entry : ℕ → ℕ) (cx : Ctx) (i : ℕ) (it : DrawnItem) (its : List
 
   pub two_goes_on : entry it.kind ≡ 2 → items_of entry cx i (it ∷ its) b ≡ items_of entry cx (suc i) its b
   unfolding not_drawn
-  two_goes_on h = goes_on (rw (h, or_true))
+  two_goes_on h = goes_on (rw (h, or-true))
 
 pub same_shape : (it : DrawnItem) → shape_of 0 it ≡ shape_of 1 it
 unfolding shape_of not_drawn

@@ -3,7 +3,7 @@ use Rattle.std.specs.Prelude.{◌≡◌, ℕ, zero, suc, ◌+◌, ◌-◌, ◌*�
 use Rattle.std.proofs.Common.{eq-zero-or-pos, inl, inr, lt-ltb}
 use native.Mathlib.Omega.{arith}
 use Rattle.std.proofs.Math.Path.{refl}
-use Rattle.std.proofs.Math.Bool.{or_true}
+use Rattle.std.proofs.Math.Bool.{or-true}
 use Rattle.std.proofs.Math.ListN.{length-append}
 use Rattle.std.specs.Float.Ieee.{le}
 use Rattle.float.specs.Functions.{max_of}
@@ -77,7 +77,7 @@ module _ (tol : Float) where
   split_one : (fuel : ℕ) (c : Block) (b : Budget) → b.left < 2 → length (split_of fuel tol c b).points ≡ 1
   unfolding split_of leaf_of
   split_one zero c b h = refl
-  split_one (suc k) c b h = rw (lt-ltb b.left 2 h, or_true)
+  split_one (suc k) c b h = rw (lt-ltb b.left 2 h, or-true)
 
   pub split_halved : (fuel : ℕ) (c : Block) (b : Budget) → Halved fuel b (split_of fuel tol c b)
   unfolding split_of

@@ -18,7 +18,7 @@ pub returns : goal.returns
 unfolding leaf_of flats
 returns c =
     let marked : c.if-budget.marked ≡ c.args.budget.hit || (not c.args.flat && ltb c.args.budget.left 2) = let cut : c.if-not-flat.cut ≡ not c.args.flat && ltb c.args.budget.left 2 =
-    elim c.if-not-flat.branch [ then-not-flat w ↦ rw w.if-not-flat.true w.cut-is | else-not-flat w ↦ rw (not-false _ w.if-not-flat.false) w.cut-is ] in
+    elim c.if-not-flat.branch [ then-not-flat w ↦ rw w.if-not-flat.true w.cut-is | else-not-flat w ↦ rw w.if-not-flat.false-raw (w.cut-is ∙ w.if-not-flat.false-raw) ] in
     elim c.if-budget.branch [ then-budget w ↦ rw w.if-budget.true (w.marked-is ∙ w.if-budget.true) | else-budget w ↦ rw w.if-budget.false (w.marked-is ∙ cut) ] in
     written_all c.args.work.now c.args.at (leaf_of c.args.flat (point_in c.args.p) c.args.budget) _ _ (omega arith) refl refl
     (rw (c.take-t.ensures, marked))

@@ -1,33 +1,58 @@
-use Rattle.std.proofs.Common.{rules, ◌≡◌, ◌-◌, ◌≤◌, length, drop, ℕ, ◌+◌, ◌*◌, ◌<◌, ◌/◌, ◌%◌, Bool, true, false, nat_eq, nat_lt, List, [], ◌∷◌, ◌++◌, slice_index_or, slice_set, bit_and, bit_or, Fits, w8, w32, w64, Bor, MutBor}
-use Rattle.densify.specs.Densify.{dist_of, flat_of, mid_of, first_half, second_half, split_of, flatten_cubic_of}
+use Rattle.std.proofs.Common.{◌≡◌, ◌+◌, ◌-◌, ◌<◌, sym, ◌∙◌, arith}
+use borrow.Author.Tests.{not-true, not-false}
+use Rattle.budget.specs.declared.Budget.{Budget}
+use Rattle.densify.specs.Densify.{Made, and_then, first_half, second_half, split_of}
 use Rattle.densify.specs.Inner.Written.{block_in, Written}
-use Rattle.values.specs.Inner.Points.{point_in}
+use Rattle.densify.specs.Laws.Writing.{next_in, join_short, join_done}
+use Rattle.densify.proofs.Splits.{ends_deep, ends_flat, ends_left, halved, deeper}
 use Rattle.densify.proofs.cubic.+pieces.Goals as goal
 
--- src/cubic.rt:103:9
 pub returns-then-depth-ge-DEPTH : goal.returns-then-depth-ge-DEPTH
-returns-then-depth-ge-DEPTH t c = ?
+returns-then-depth-ge-DEPTH t c =
+    rw (ends_deep c.args.tol (block_in c.args.b) c.args.budget c.args.depth c.if-depth-ge-DEPTH.true, ← c.is_flat-flat.ensures) c.leaf.ensures
 
--- src/cubic.rt:106:9
 pub returns-then-flat : goal.returns-then-flat
-returns-then-flat t c = ?
+returns-then-flat t c =
+    let f = c.is_flat-flat.ensures in
+    rw (ends_flat c.args.tol (block_in c.args.b) c.args.budget (16 - c.args.depth) (sym f ∙ c.if-flat.true), ← f) c.leaf-then-flat.ensures
 
--- src/cubic.rt:109:9
 pub returns-then-left-lt2 : goal.returns-then-left-lt2
-returns-then-left-lt2 t c = ?
+returns-then-left-lt2 t c =
+    let f = c.is_flat-flat.ensures in
+    rw (ends_left c.args.tol (block_in c.args.b) c.args.budget (16 - c.args.depth) (sym f ∙ c.if-flat.false) c.if-left-lt2.true, ← f) c.leaf-then-left-lt2.ensures
 
--- src/cubic.rt:112:9
 pub pieces-one-requires : goal.pieces-one-requires
-pieces-one-requires t c = ?
+pieces-one-requires t c = (deeper c.decreases c.if-depth-ge-DEPTH.false, c.requires)
 
--- src/cubic.rt:114:9
 pub returns-then-not-one : goal.returns-then-not-one
-returns-then-not-one t c = ?
+returns-then-not-one t c =
+    let both : split_of (16 - c.args.depth) c.args.tol (block_in c.args.b) c.args.budget
+    ≡ and_then (split_of (16 - (c.args.depth + 1)) c.args.tol (first_half (block_in c.args.b)) c.args.budget)
+    (split_of (16 - (c.args.depth + 1)) c.args.tol (second_half (block_in c.args.b))) =
+    halved c.args.tol (block_in c.args.b) c.args.budget c.args.depth c.if-depth-ge-DEPTH.false
+    (sym c.is_flat-flat.ensures ∙ c.if-flat.false) c.if-left-lt2.false in
+    let one : Written c.args.work.now c.pieces-one.new.work c.args.at
+    (split_of (16 - (c.args.depth + 1)) c.args.tol (first_half (block_in c.args.b)) c.args.budget) c.pieces-one.result =
+    rw (c.first_half.ensures ∙ c.halves-h.ensures.0) at c.pieces-one.ensures in
+    rw both (join_short one (split_of (16 - (c.args.depth + 1)) c.args.tol (second_half (block_in c.args.b))) (not-true _ c.if-not-one.true))
 
--- src/cubic.rt:118:5
 pub pieces-requires : goal.pieces-requires
-pieces-requires t c = ?
+pieces-requires t c =
+    let one : Written c.args.work.now c.pieces-one.new.work c.args.at
+    (split_of (16 - (c.args.depth + 1)) c.args.tol (first_half (block_in c.args.b)) c.args.budget) c.pieces-one.result =
+    rw (c.first_half.ensures ∙ c.halves-h.ensures.0) at c.pieces-one.ensures in
+    (deeper c.decreases c.if-depth-ge-DEPTH.false, next_in one (not-false _ c.if-not-one.false))
 
--- src/cubic.rt:87:1
 pub returns : goal.returns
-returns t c = ?
+returns t c =
+    let both : split_of (16 - c.args.depth) c.args.tol (block_in c.args.b) c.args.budget
+    ≡ and_then (split_of (16 - (c.args.depth + 1)) c.args.tol (first_half (block_in c.args.b)) c.args.budget)
+    (split_of (16 - (c.args.depth + 1)) c.args.tol (second_half (block_in c.args.b))) =
+    halved c.args.tol (block_in c.args.b) c.args.budget c.args.depth c.if-depth-ge-DEPTH.false
+    (sym c.is_flat-flat.ensures ∙ c.if-flat.false) c.if-left-lt2.false in
+    let one : Written c.args.work.now c.pieces-one.new.work c.args.at
+    (split_of (16 - (c.args.depth + 1)) c.args.tol (first_half (block_in c.args.b)) c.args.budget) c.pieces-one.result =
+    rw (c.first_half.ensures ∙ c.halves-h.ensures.0) at c.pieces-one.ensures in
+    rw both
+    (join_done one (split_of (16 - (c.args.depth + 1)) c.args.tol (second_half (block_in c.args.b))) (not-false _ c.if-not-one.false)
+    (rw (c.second_half.ensures ∙ c.halves-h.ensures.1) at c.pieces.ensures))

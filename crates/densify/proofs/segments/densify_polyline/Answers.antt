@@ -10,7 +10,6 @@ use Rattle.values.specs.Points.{point_of}
 use Rattle.densify.specs.Laws.Writing.{written_none, next_in}
 use Rattle.densify.specs.Laws.Segments.{grant_within, polyline-none, onwards, segments_end, segment-short, segment-next, polyline-short, polyline-done}
 use Rattle.densify.proofs.segments.densify_polyline.Goals as goal
-use Rattle.densify.proofs.segments.densify_polyline.Goals.{At-loop-i}
 
 pub overflow_sub-to : goal.overflow_sub-to
 overflow_sub-to c = omega arith
@@ -40,7 +39,7 @@ returns-then-not-first c =
     polyline-short s.step _ _ _ s.to _ (omega arith) first (not-true _ c.if-not-first.true)
 
 pub shape_of-out-then-not-first : goal.shape_of-out-then-not-first
-shape_of-out-then-not-first c = (returns-2 c).kept
+shape_of-out-then-not-first c = (returns-then-not-first c).kept
 
 pub overflow_add-i : goal.overflow_add-i
 overflow_add-i c = omega arith
@@ -69,20 +68,16 @@ sample_segment-d-requires c =
     c.take-taken.result ≡ take_of l.left (segment_want s.step s.scale (record { x = l.ax; y = l.ay }) (point_of s.work.now l.i)) 1 = rw c.segment_want-want.ensures at c.take-taken.ensures in
     (grant_within _ _ _ _ _ drawn, c.loop-i.invariant.1)
 
-whole : {w : List Float} {r : PointCursor} (p : At-loop-i) → let s = p.args in
-    Written p.put_point-first.new.work w p.put_point-first.result.at (onwards s.step s.scale s.work.now s.from s.to s.budget) r
-    → Written s.out.now w s.at (densify_polyline_of s.step s.scale (points_in s.work.now s.from s.to) s.budget) r
-whole p h = polyline-done _ _ _ _ _ _ (omega arith) (first p.before.before.before.before.before) (not-false _ p.if-not-first.false) h
-
 pub returns-then-not-d : goal.returns-then-not-d
 returns-then-not-d c =
     let drawn : let l = c.loop-i in let s = c.args in
     c.take-taken.result ≡ take_of l.left (segment_want s.step s.scale (record { x = l.ax; y = l.ay }) (point_of s.work.now l.i)) 1 = rw c.segment_want-want.ensures at c.take-taken.ensures in
     let room : c.loop-i.i + 2 ≤ c.args.to = omega arith in
-    whole p (segment-short _ _ _ c.loop-i.i _ c.loop-i.left _ c.loop-i.invariant.2 room _ drawn c.sample_segment-d.ensures (not-true _ c.if-not-d.true))
+    let first : Written c.args.out.now c.put_point-first.new.work c.args.at (without_draws (point_of c.args.work.now c.args.from ∷ []) c.args.budget) c.put_point-first.result = c.put_point-first.ensures in
+    polyline-done _ _ _ _ _ _ (omega arith) first (not-false _ c.if-not-first.false) (segment-short _ _ _ c.loop-i.i _ c.loop-i.left _ c.loop-i.invariant.2 room _ drawn c.sample_segment-d.ensures (not-true _ c.if-not-d.true))
 
 pub shape_of-out-then-not-d : goal.shape_of-out-then-not-d
-shape_of-out-then-not-d c = (returns-3 c).kept
+shape_of-out-then-not-d c = (returns-then-not-d c).kept
 
 pub overflow_add-i-in-loop-i : goal.overflow_add-i-in-loop-i
 overflow_add-i-in-loop-i c =
@@ -104,7 +99,9 @@ loop-i-preserved c =
     )
 
 pub returns : goal.returns
-returns c = whole p (segments_end _ _ _ c.loop-i.i _ c.loop-i.left _ c.loop-i.invariant.2 (omega arith) c.loop-i.invariant.1)
+returns c =
+    let first : Written c.args.out.now c.put_point-first.new.work c.args.at (without_draws (point_of c.args.work.now c.args.from ∷ []) c.args.budget) c.put_point-first.result = c.put_point-first.ensures in
+    polyline-done _ _ _ _ _ _ (omega arith) first (not-false _ c.if-not-first.false) (segments_end _ _ _ c.loop-i.i _ c.loop-i.left _ c.loop-i.invariant.2 (omega arith) c.loop-i.invariant.1)
 
 pub shape_of-out : goal.shape_of-out
-shape_of-out c = (returns-4 c).kept
+shape_of-out c = (returns c).kept

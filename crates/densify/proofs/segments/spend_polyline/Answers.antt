@@ -46,7 +46,7 @@ loop-i-smaller c = omega arith
 pub loop-i-preserved : goal.loop-i-preserved
 loop-i-preserved c = let l = c.loop-i in
     let drawn = rw c.segment_want-want.ensures at c.take-taken.ensures in
-    (omega arith, l.invariant.1 ∙ spent-next _ _ _ l.i _ l.false _ (omega arith) drawn)
+    (omega arith, l.invariant.1 ∙ spent-next _ _ _ l.i _ l.left _ (omega arith) drawn)
 
 pub returns : goal.returns
 returns c = let l = c.loop-i in
