@@ -1,5 +1,6 @@
 // Lines, rings and points to features, after the source's convert.rs: densified, carried to the Earth, written.
 #![tactic(auto)]
+
 mod polylines;
 mod positions;
 mod state;
