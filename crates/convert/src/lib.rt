@@ -1,5 +1,6 @@
 // Items to features, after the source's convert.rs.
 #![tactic(auto)]
+
 mod items;
 mod shapes;
 
