@@ -1,7 +1,7 @@
 -- Names of a table that wait for their first mention: after one more name is known.
 use mathlib.Core.Path.{◌≡◌, refl, sym, ◌∙◌}
 use mathlib.Core.Logic.{◌⊎◌, inl, inr}
-use mathlib.Core.Bool.{Bool, true, false, ◌||◌, or_true, false≢true}
+use mathlib.Core.Bool.{Bool, true, false, ◌||◌, or-true, false≢true}
 use mathlib.Core.List.{List, [], ◌∷◌}
 use Prim.Native.Nat.{ℕ, ◌%◌, ◌≤◌, ◌<◌}
 use native.Mathlib.Omega.{arith}
@@ -84,7 +84,7 @@ module _ {more : ℕ} {l t t' : List ℕ} {n : ℕ} {x : List ℕ} {r : ℕ} (k 
         no_more : (i : ℕ) → i < n → mark_of (get_or t' i 0) ≡ 0
             → ((mark_of (get_or t' i 0) ≡ 0) × (same_bytes x (name_of more l (get_or t i 0)) ≡ true)) ⊎ ((get_or t' i 0 ≡ get_or t i 0) × (same_bytes x (name_of more l (get_or t i 0)) ≡ false))
             → (is_some (resolved sc (name_of more l (get_or t i 0))) ≡ false) ⊎ ((was (name_of more l (get_or t i 0)) || same_bytes x (name_of more l (get_or t i 0))) ≡ true)
-        no_more i h z (inl p) = inr (rw p.1 (or_true (was (name_of more l (get_or t i 0)))))
+        no_more i h z (inl p) = inr (rw p.1 (or-true (was (name_of more l (get_or t i 0)))))
         no_more i h z (inr p) = still (w.no_more i h (rw p.0 at z))
           where
             still : (is_some (resolved sc (name_of more l (get_or t i 0))) ≡ false) ⊎ (was (name_of more l (get_or t i 0)) ≡ true)

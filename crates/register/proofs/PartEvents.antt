@@ -36,7 +36,7 @@ pub events_cong : (sc : Scene) (again : ℕ) (was was' : List ℕ → Bool) (ms 
 unfolding events_of
 events_cong sc again was was' [] e = refl
 events_cong sc again was was' (m ∷ ms) e =
-    rw (e m.name) (ap (λ (x : List Event). event_with sc again (was' m.name) m m.lat ∷ x) (events_cong sc again _ _ ms (grown_cong was was' m.name m.lat e)))
+    rw (e m.name) (ap (λ (x : List Event). event_with sc again (was' m.name) m m.lat ∷ x) (events_cong sc again (grown_by was m.name m.lat) (grown_by was' m.name m.lat) ms (grown_cong was was' m.name m.lat e)))
 
 -- a name that is among the mentions was before, after them
 or_true : (a b : Bool) → b ≡ true → (a || b) ≡ true
@@ -46,7 +46,7 @@ or_true false b h = h
 was_stays : (was : List ℕ → Bool) (ms : List Mention) (y : List ℕ) → was y ≡ true → grown_all was ms y ≡ true
 unfolding grown_all
 was_stays was [] y h = h
-was_stays was (m ∷ ms) y h = was_stays _ ms y (one m.lat)
+was_stays was (m ∷ ms) y h = was_stays (grown_by was m.name m.lat) ms y (one m.lat)
   where
     one : (lat : Maybe Float) → grown_by was m.name lat y ≡ true
     one none = h

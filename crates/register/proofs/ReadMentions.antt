@@ -1,7 +1,7 @@
 -- Mentions one after another: what they come to, and a batch that is read.
 use mathlib.Core.Path.{◌≡◌, refl, sym, ap, ◌∙◌}
 use mathlib.Core.Logic.{◌⊎◌, inl, inr}
-use mathlib.Core.Bool.{Bool, true, false, not, ◌||◌, or_true, false≢true}
+use mathlib.Core.Bool.{Bool, true, false, not, ◌||◌, or-true, false≢true}
 use mathlib.Core.List.{List, [], ◌∷◌, ◌++◌, append_assoc, append-nil}
 use Prim.Native.Nat.{ℕ, zero, suc, ◌+◌, ◌-◌, ◌≤◌, ◌<◌}
 use native.Mathlib.Numerals.{add-one, unary_clauses}
@@ -278,7 +278,7 @@ module _ (m : Mention) (rest : List Mention) where
       by true c h = refl
       by false c h = absurd (false≢true h)
   among_taken x (y ∷ ms) (suc k) zero e h a = absurd (omega arith)
-  among_taken x (y ∷ ms) (suc k) (suc count) e h a = rw (among_taken x ms k count e (omega arith) a) (or_true (named x y y.lat))
+  among_taken x (y ∷ ms) (suc k) (suc count) e h a = rw (among_taken x ms k count e (omega arith) a) (or-true (named x y y.lat))
 
 module _ {A : Type 0} where
   pub next_of : (y : A) (ys xs : List A) (i : ℕ) → drop i xs ≡ y ∷ ys → (take (suc i) xs ≡ take i xs ++ y ∷ []) × (drop (suc i) xs ≡ ys) × (length (take i xs) ≡ i)

@@ -1,7 +1,7 @@
 -- Names of mentions become entries of a table, one mention after another.
 use mathlib.Core.Path.{◌≡◌, refl, sym, ap, ◌∙◌}
 use mathlib.Core.Logic.{◌⊎◌, inl, inr, ⊎_elim}
-use mathlib.Core.Bool.{Bool, true, false, ◌||◌, or-false, or_true, or_assoc, false≢true}
+use mathlib.Core.Bool.{Bool, true, false, ◌||◌, or-false, or-true, or_assoc, false≢true}
 use mathlib.Core.List.{List, [], ◌∷◌, ◌++◌}
 use Prim.Native.Nat.{ℕ, zero, suc, ◌+◌, ◌-◌, ◌≤◌, ◌<◌}
 use native.Mathlib.Numerals.{add-one}
@@ -198,4 +198,4 @@ module _ {s : List ℕ} {lons : Bool} {c at : Cursor} {n count : ℕ} {t starts 
           either : (x : List ℕ) → Contains (more_of lons) (payload s) t n x ⊎ (named x (mention_by (payload s) m) (mention_by (payload s) m).lat ≡ true)
               → (among x (take count (mentions_at (payload s) lons c)) || named x (mention_by (payload s) m) (mention_by (payload s) m).lat) ≡ true
           either x (inl i) = rw (h.only x i) refl
-          either x (inr p) = rw p (or_true (among x (take count (mentions_at (payload s) lons c))))
+          either x (inr p) = rw p (or-true (among x (take count (mentions_at (payload s) lons c))))

@@ -1,5 +1,6 @@
 // Registration, after the source's register.rs: control points and anchor, refusals 7 to 14, warnings 1 to 4.
 #![tactic(auto)]
+
 mod controls;
 mod declared;
 mod lat_lookup;
