@@ -1,5 +1,6 @@
 // The host's call, after the source's lib.rs: a stream in, positions, feature lines and warnings out.
 #![tactic(auto)]
+
 ghost use Rattle.std.specs.Prelude.{◌≡◌, List, ℕ, Float, length};
 ghost use Rattle.stream.specs.Payload.{payload};
 ghost use Rattle.scene.specs.Scene.{scene_of};
