@@ -209,8 +209,7 @@ fn place_registered(
 }
 
 // Places the scene of a stream on the Earth, by the host's kind table, for a panel of this tier.
-#[unsafe(no_mangle)]
-pub extern "C" fn geopic_place(
+pub fn geopic_place(
     s: &[u8],
     kinds: &[u8],
     tier: u32,

@@ -1,5 +1,6 @@
 // The module's parts as C symbols, for the comparisons and the benchmarks.
 #![tactic(auto)]
+
 mod densify_calls;
 mod leaves;
 mod register_calls;
