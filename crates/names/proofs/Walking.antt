@@ -11,7 +11,7 @@ use lib.ListN.{get_or}
 use Rattle.stream.specs.Payload.{payload}
 use Rattle.records.specs.declared.search.Hit.{Hit}
 use Rattle.values.specs.Maybe.{Maybe, none, some, is_some}
-use Rattle.scene.specs.Labels.{same_bytes, pick, Best, best_place, best_item, point_of, point_of_label}
+use Rattle.scene.specs.Labels.{pick, Best, best_place, best_item, point_of, point_of_label}
 use Rattle.scene.specs.Inner.Answers.{places_at, items_at}
 use Rattle.scene.specs.Laws.Found.{Answer, One}
 use Rattle.scene.specs.Laws.Folds.{Chosen, no_place, next_place, no_item, next-item}

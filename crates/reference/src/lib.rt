@@ -1,1 +1,3 @@
+#![tactic(auto)]
+
 // Nothing to run: document 01's table and reference sheet, computed from the definitions.

@@ -1,5 +1,6 @@
 // What several crates share: points, and warnings in a lent slice.
 #![tactic(auto)]
+
 ghost use Rattle.std.specs.Prelude.{◌≡◌, ◌≤◌, length};
 ghost use Rattle.values.specs.Inner.Warnings.{pushed};
 

@@ -1,4 +1,4 @@
-use Rattle.std.proofs.Common.{◌-◌, ◌<◌, ◌≤◌, length, sym, ◌∙◌, arith}
+use Rattle.std.proofs.Common.{◌<◌, ◌≤◌, length, sym, ◌∙◌, arith}
 use Rattle.float.specs.Laws.Horner.{horner-step}
 use Rattle.elementary.proofs.Horner.{empty, first, last}
 use Rattle.elementary.proofs.series.Goals as goal

@@ -1,5 +1,4 @@
-use lib.Ieee.{lt}
-use Rattle.fit.specs.Fit.{zero, fit_at}
+use Rattle.fit.specs.Fit.{fit_at}
 use Rattle.fit.proofs.fit_at.Goals as goal
 
 pub returns-then-not-is_finite : goal.returns-then-not-is_finite

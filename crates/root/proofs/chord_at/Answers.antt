@@ -3,7 +3,6 @@
 use mathlib.Core.Path.{◌≡◌}
 use Prim.Native.Nat.{ℕ, zero, suc, ◌+◌, ◌≤◌}
 use native.Mathlib.Omega.{arith}
-use Rattle.root.proofs.chord_at.Goals as goal
 
 -- i is none of 16 and the k - 1 numbers after it
 abbrev NoneOf : ℕ → ℕ → Type 0

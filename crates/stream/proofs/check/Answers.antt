@@ -1,4 +1,4 @@
-use Rattle.std.proofs.Common.{◌≡◌, ◌-◌, ◌*◌, arith, rules}
+use Rattle.std.proofs.Common.{◌≡◌, ◌*◌, arith, rules}
 use Rattle.stream.specs.Blocks.{word_sum, checked}
 use Rattle.stream.proofs.BlockChecks.{word_sum-more}
 use Rattle.stream.proofs.check.Goals as goal

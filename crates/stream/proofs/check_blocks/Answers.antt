@@ -1,4 +1,4 @@
-use Rattle.std.proofs.Common.{◌-◌, sym, ◌∙◌, arith, rules}
+use Rattle.std.proofs.Common.{sym, ◌∙◌, arith, rules}
 use Rattle.stream.specs.Blocks.{all_checked}
 use Rattle.stream.proofs.BlockChecks as judging
 use Rattle.stream.proofs.check_blocks.Goals as goal

@@ -1,5 +1,4 @@
 use borrow.Author.Tests.{not-false}
-use Prim.Native.Nat.{◌-◌}
 use native.Mathlib.Omega.{arith}
 use Rattle.stream.specs.Payload.{payload}
 use Rattle.stream.specs.Inner.Payload.{room}

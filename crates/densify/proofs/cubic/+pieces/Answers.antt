@@ -1,7 +1,6 @@
-use Rattle.std.proofs.Common.{◌≡◌, ◌+◌, ◌-◌, ◌<◌, sym, ◌∙◌, arith}
+use Rattle.std.proofs.Common.{◌≡◌, ◌+◌, ◌-◌, sym, ◌∙◌}
 use borrow.Author.Tests.{not-true, not-false}
-use Rattle.budget.specs.declared.Budget.{Budget}
-use Rattle.densify.specs.Densify.{Made, and_then, first_half, second_half, split_of}
+use Rattle.densify.specs.Densify.{and_then, first_half, second_half, split_of}
 use Rattle.densify.specs.Inner.Written.{block_in, Written}
 use Rattle.densify.specs.Laws.Writing.{next_in, join_short, join_done}
 use Rattle.densify.proofs.Splits.{ends_deep, ends_flat, ends_left, halved, deeper}

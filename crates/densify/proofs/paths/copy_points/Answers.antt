@@ -1,4 +1,4 @@
-use Rattle.std.proofs.Common.{◌≡◌, ◌-◌, true, refl, ◌∙◌, arith}
+use Rattle.std.proofs.Common.{◌≡◌, true, refl, ◌∙◌, arith}
 use native.Mathlib.Numerals.{unary_clauses}
 use Rattle.stream.specs.Payload.{payload}
 use Rattle.densify.specs.Laws.Writing.{next_in}

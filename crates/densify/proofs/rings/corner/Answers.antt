@@ -1,4 +1,4 @@
-use Rattle.std.proofs.Common.{◌≡◌, suc, ◌-◌, refl, arith}
+use Rattle.std.proofs.Common.{◌≡◌, suc, refl, arith}
 use borrow.Author.Tests.{not-true, not-false}
 use Rattle.densify.specs.Densify.{corner_point}
 use Rattle.densify.specs.Laws.Writing.{next_in}

@@ -1,4 +1,4 @@
-use Rattle.std.proofs.Common.{◌≡◌, ◌-◌, refl, arith}
+use Rattle.std.proofs.Common.{◌≡◌, refl, arith}
 use borrow.Author.Tests.{not-true, not-false}
 use Rattle.densify.specs.Densify.{ellipse_point}
 use Rattle.densify.specs.Laws.Writing.{next_in}

@@ -1,14 +1,11 @@
-use Rattle.std.proofs.Common.{◌≡◌, ◌+◌, ◌-◌, ◌<◌, ◌≤◌, List, [], ◌∷◌, arith}
-use lib.Ieee.{Float}
+use Rattle.std.proofs.Common.{◌≡◌, ◌+◌, ◌<◌, ◌≤◌, [], ◌∷◌, arith}
 use borrow.Author.Tests.{not-true, not-false}
 use Rattle.budget.specs.Budget.{take_of}
-use Rattle.densify.specs.declared.append.PointCursor.{PointCursor}
-use Rattle.densify.specs.Densify.{without_draws, segment_want, densify_polyline_of}
+use Rattle.densify.specs.Densify.{without_draws, segment_want}
 use Rattle.densify.specs.Inner.Written.{Written}
-use Rattle.values.specs.Inner.Points.{points_in}
 use Rattle.values.specs.Points.{point_of}
 use Rattle.densify.specs.Laws.Writing.{written_none, next_in}
-use Rattle.densify.specs.Laws.Segments.{grant_within, polyline-none, onwards, segments_end, segment-short, segment-next, polyline-short, polyline-done}
+use Rattle.densify.specs.Laws.Segments.{grant_within, polyline-none, segments_end, segment-short, segment-next, polyline-short, polyline-done}
 use Rattle.densify.proofs.segments.densify_polyline.Goals as goal
 
 pub overflow_sub-to : goal.overflow_sub-to

@@ -1,4 +1,4 @@
-use Rattle.std.proofs.Common.{◌+◌, ◌-◌, ◌<◌, ◌≤◌, refl, ◌∙◌, arith}
+use Rattle.std.proofs.Common.{◌+◌, ◌<◌, ◌≤◌, refl, ◌∙◌, arith}
 use Rattle.densify.specs.Laws.Segments.{polyline-none, polyline-first, segments_none, spent-next}
 use Rattle.densify.proofs.segments.spend_polyline.Goals as goal
 

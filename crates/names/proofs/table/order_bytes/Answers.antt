@@ -1,5 +1,4 @@
 use mathlib.Core.Path.{refl, sym, ◌∙◌}
-use Prim.Native.Nat.{◌-◌}
 use native.Mathlib.Omega.{arith}
 use Rattle.stream.specs.Laws.Payload.{rest-length}
 use Rattle.names.proofs.Orders.{bytes_end, byte_less, byte_more, byte_same}

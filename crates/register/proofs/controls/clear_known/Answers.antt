@@ -1,5 +1,4 @@
 use mathlib.Core.Path.{refl}
-use Prim.Native.Nat.{◌-◌}
 use borrow.Author.Rules.{rules}
 use borrow.Author.Tests.{not-true, not-false}
 use Rattle.register.proofs.Known.{forgets_none, forgets_all, forgets_ends, forgets_more, takeable, behind_taken}

@@ -1,4 +1,3 @@
-use borrow.Author.Rules.{rules}
 use Rattle.register.proofs.LonNames.{too_short, other_ending, lon_ending}
 use Rattle.register.proofs.mentions.is_lon.Goals as goal
 

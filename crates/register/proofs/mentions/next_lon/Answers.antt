@@ -3,7 +3,7 @@ use borrow.Author.Tests.{not-false}
 use mathlib.Core.Path.{◌≡◌, refl}
 use mathlib.Core.Bool.{Bool, true, false, not}
 use mathlib.Core.List.{List}
-use Prim.Native.Nat.{ℕ, ◌-◌, ◌≤◌}
+use Prim.Native.Nat.{ℕ, ◌≤◌}
 use native.Mathlib.Omega.{arith}
 use Rattle.stream.specs.Inner.Payload.{room}
 use Rattle.stream.specs.Payload.{payload}

@@ -1,9 +1,8 @@
 use borrow.Author.Tests.{not-true, not-false}
 use mathlib.Core.Path.{◌≡◌, ◌∙◌}
 use mathlib.Core.Logic.{inl, inr}
-use lib.Ieee.{lt}
 use Rattle.scene.specs.Scene.{Scene}
-use Rattle.register.specs.Register.{f0, scale_value, above0}
+use Rattle.register.specs.Register.{scale_value, above0}
 use Rattle.register.specs.Inner.Survey.{Declares}
 use Rattle.register.specs.Inner.Outcome.{declared_outcome}
 use Rattle.register.proofs.DeclaredValues.{or_given, Seen, seen, scaled, by_scale}

@@ -5,12 +5,9 @@ use mathlib.Core.Logic.{◌⊎◌, inl, inr}
 use mathlib.Core.Bool.{true, false}
 use native.Mathlib.Omega.{arith}
 use Rattle.stream.specs.Payload.{payload}
-use Rattle.scene.specs.Scene.{Scene, scene_of}
+use Rattle.scene.specs.Scene.{scene_of}
 use Rattle.scene.specs.Laws.Answers.{is-given, not-given}
-use Rattle.register.specs.declared.declared.Declared.{Declared}
 use Rattle.register.specs.Register.{within_limits}
-use Rattle.register.specs.Inner.Survey.{Declares}
-use Rattle.register.specs.Inner.Gathered.{Gathers}
 use Rattle.register.specs.Laws.Outcomes.{Passed, over, counted, all-kept, none_kept, one_kept, keeps, anchor_in, anchor_out, refused, not-mercator, beyond_limits, beyond_limits_anchor, too_many, by_fit, by_one, no_anchor, by_anchor}
 use Rattle.register.proofs.outcome.register.Goals as goal
 use Rattle.register.proofs.outcome.register.Goals.{then-a+else-not-is_within_limits, else-a}

@@ -1,4 +1,3 @@
-use borrow.Author.Rules.{rules}
 use Rattle.register.specs.Inner.Survey.{recorded_geo}
 use Rattle.register.proofs.survey.record_geo.Goals as goal
 

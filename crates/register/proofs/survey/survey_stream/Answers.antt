@@ -1,5 +1,4 @@
 use borrow.Author.Tests.{not-false}
-use Prim.Native.Nat.{◌-◌}
 use native.Mathlib.Omega.{arith}
 use Rattle.stream.specs.Laws.Payload.{payload-length}
 use Rattle.register.proofs.Surveys.{surveying, all-agree, surveyed, lon_surveyed, other_surveyed}

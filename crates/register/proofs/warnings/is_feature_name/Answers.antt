@@ -1,5 +1,4 @@
 use mathlib.Core.Path.{refl}
-use Prim.Native.Nat.{◌-◌}
 use native.Mathlib.Omega.{arith}
 use Rattle.register.proofs.KeptNumbers.{none_called, one_called, other_called}
 use Rattle.register.proofs.warnings.is_feature_name.Goals as goal

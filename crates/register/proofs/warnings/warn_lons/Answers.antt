@@ -1,6 +1,5 @@
 use borrow.Author.Tests.{not-false}
 use mathlib.Core.Path.{refl, sym, ◌∙◌}
-use Prim.Native.Nat.{◌-◌}
 use native.Mathlib.Omega.{arith}
 use Rattle.scene.specs.Laws.Rising.{variables_rising}
 use Rattle.values.specs.Laws.Warnings.{same_slice}

@@ -7,7 +7,6 @@ use borrow.Author.Tests.{not-true, not-false}
 use borrow.Rule.Slice.PartMut.{put_mid}
 use Rattle.values.specs.Inner.Points.{points_in}
 use Rattle.values.specs.Laws.Points.{flats-length}
-use Rattle.densify.specs.Densify.{Made}
 use Rattle.densify.specs.Inner.Written.{Written}
 use Rattle.densify.specs.Laws.Writing.{next_in}
 use Rattle.strokes.specs.Inner.Space.{most, longest, behind_at}

@@ -1,13 +1,11 @@
-use Prim.Native.Nat.{◌≤◌}
 use borrow.Author.Rules.{rules}
 use borrow.Author.Tests.{not-true, not-false}
-use Rattle.budget.specs.declared.Budget.{Budget}
 use Rattle.stream.specs.Payload.{payload}
 use Rattle.values.specs.Maybe.{none, some}
 use Rattle.densify.specs.Densify.{path_points_of}
 use Rattle.densify.specs.Inner.Written.{drawn_by}
 use Rattle.densify.specs.Laws.Writing.{next_in}
-use Rattle.strokes.specs.Inner.Space.{most, outline_by, LoadsPath, Small}
+use Rattle.strokes.specs.Inner.Space.{outline_by, LoadsPath, Small}
 use Rattle.strokes.specs.Laws.Loading.{end_in, outline_in, path-short, path_small}
 use Rattle.strokes.proofs.workspace.load_path.Goals as goal
 
