@@ -5,7 +5,7 @@ use Rattle.std.specs.Float.{fin, binary64}
 use Rattle.std.specs.Float.Ieee.{fits, round, lt}
 use Rattle.root.specs.Root.{scaled, sticky, root_of}
 use Rattle.root.specs.Digits.{digits_of, worked_out}
-use Rattle.root.specs.Laws.SingleDigits.{single_digits}
+use Rattle.root.proofs.Laws.SingleDigits.{single_digits}
 use Rattle.stream.specs.Conditions.{first_of, NoneHolds}
 use Rattle.stream.specs.Payload.{payload}
 use Rattle.stream.specs.declared.Float64.TheVariants.{Finite}

@@ -15,7 +15,8 @@ use Rattle.float.specs.Laws.Intervals.{Iv, iv, Between, in_finite}
 use Rattle.float.specs.Laws.Expressions.{Expr, var, lit, plus, less, times, over, bind}
 use Rattle.float.specs.Laws.Comparisons.{lt→le, neither}
 use Rattle.root.specs.Root.{root_of}
-use Rattle.root.specs.Laws.Root.{minus_one, root_two, unit_root}
+use Rattle.root.specs.Laws.Root.{minus_one, root_two}
+use Rattle.root.proofs.Laws.Root.{unit_root}
 use Rattle.elementary.specs.Constants as K
 use Rattle.elementary.specs.Series.{odd_of, arctangent_table}
 use Rattle.elementary.specs.Functions.{clamp_of, half_angle_of, atan_small, atan_nonneg, atan_of}

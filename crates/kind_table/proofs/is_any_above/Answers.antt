@@ -10,7 +10,7 @@ pub returns-then-kinds-k-gt-NOT_DRAWN : goal.returns-then-kinds-k-gt-NOT_DRAWN
 returns-then-kinds-k-gt-NOT_DRAWN c = above_here _ _ c.loop-k.invariant.2 c.loop-k-test.true c.if-kinds-k-gt-NOT_DRAWN.true
 
 pub loop-k-preserved : goal.loop-k-preserved
-loop-k-preserved c = (omega arith, refl, above-later _ _ c.loop-k.invariant.2 c.loop-k-test.true c.if-kinds-k-gt-NOT_DRAWN.false)
+loop-k-preserved c = (omega arith, refl, above-later _ _ c.loop-k.invariant.2 c.loop-k-test.true (omega arith))
 
 pub returns : goal.returns
 returns c = above-none c.args.kinds.now c.loop-k.k c.loop-k.invariant.2 (omega arith)

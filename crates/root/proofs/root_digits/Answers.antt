@@ -5,6 +5,7 @@ use mathlib.Core.Bool.{true, false, not}
 use mathlib.Core.Logic.{inl, inr}
 use Prim.Native.Nat.{ℕ, ◌-◌, ◌%◌, ◌^◌, ◌≤◌, ◌<◌}
 use native.Mathlib.Omega.{arith}
+use borrow.Author.Rules.{rules}
 use lib.Dec.{T}
 use lib.Count.{count_trailing_zeros}
 use lib.Ieee.{Float, nan, inf, fin, binary64, div, ne, fits, is_nan, of_bits, to_bits}
@@ -13,9 +14,9 @@ use lib.Ieee.Compare.{differs_from_itself}
 use Rattle.root.specs.Root.{root_of}
 use Rattle.root.specs.Digits.{digits_of}
 use Rattle.root.specs.Inner.Halves.{Ends}
-use Rattle.root.specs.Laws.Patterns.{Own, None, Evened, at_zero, at_infinity, at_minus, m_in, p-lo, p-hi, pattern_read, pattern_no_nan, Told, pattern_digits}
+use Rattle.root.specs.Laws.Patterns.{Own, None, at_zero, at_infinity, at_minus, m_in, p-lo, p-hi, pattern_no_nan, Told, pattern_digits}
+use Rattle.root.proofs.Laws.Patterns.{pattern_read}
 use Rattle.root.proofs.root_digits.Goals as goal
-use Rattle.root.proofs.root_digits.Goals.{then-p-eq1, else-p-eq1}
 
 -- ---- what owning an `f64` tells: the format holds it, and so it is what its pattern says
 module _ (x : Float) (g : fits binary64 x ≡ true) where
@@ -73,39 +74,29 @@ returns-then-b-ge-INFINITY c =
 
 pub whole_root-w-requires : goal.whole_root-w-requires
 whole_root-w-requires c =
-    let way : Evened c.decompose-p.result.m c.decompose-p.result.e c.if-p-eq1.m =
-    elim c.if-p-eq1.branch [ then-p-eq1 w ↦ inl (w.if-p-eq1.true, w.m-is) | else-p-eq1 w ↦ inr (w.if-p-eq1.false, w.m-is) ] in
-    m_in c.decompose-p.ensures way
+    m_in c.decompose-p.ensures (search rules)
 
 pub overflow_add-root : goal.overflow_add-root
 overflow_add-root c =
-    let way : Evened c.decompose-p.result.m c.decompose-p.result.e c.if-p-eq1.m =
-    elim c.if-p-eq1.branch [ then-p-eq1 w ↦ inl (w.if-p-eq1.true, w.m-is) | else-p-eq1 w ↦ inr (w.if-p-eq1.false, w.m-is) ] in
-    omega (arith, p-hi c.decompose-p.ensures way c.whole_root-w.ensures.0)
+    omega (arith, p-hi c.decompose-p.ensures (search rules) c.whole_root-w.ensures.0)
 
 pub float_from_bits-root : goal.float_from_bits-root
 float_from_bits-root c =
-    let way : Evened c.decompose-p.result.m c.decompose-p.result.e c.if-p-eq1.m =
-    elim c.if-p-eq1.branch [ then-p-eq1 w ↦ inl (w.if-p-eq1.true, w.m-is) | else-p-eq1 w ↦ inr (w.if-p-eq1.false, w.m-is) ] in
-    pattern_no_nan c.decompose-p.ensures way c.whole_root-w.ensures.0
+    pattern_no_nan c.decompose-p.ensures (search rules) c.whole_root-w.ensures.0
 
 pub count-digits-requires : goal.count-digits-requires
 count-digits-requires c =
-    let way : Evened c.decompose-p.result.m c.decompose-p.result.e c.if-p-eq1.m =
-    elim c.if-p-eq1.branch [ then-p-eq1 w ↦ inl (w.if-p-eq1.true, w.m-is) | else-p-eq1 w ↦ inr (w.if-p-eq1.false, w.m-is) ] in
-    (p-lo c.decompose-p.ensures way c.whole_root-w.ensures.0, p-hi c.decompose-p.ensures way c.whole_root-w.ensures.0)
+    (p-lo c.decompose-p.ensures (search rules) c.whole_root-w.ensures.0, p-hi c.decompose-p.ensures (search rules) c.whole_root-w.ensures.0)
 
 pub returns : goal.returns
 returns c =
     let x = c.args.x in
     let g = c.well_formed.0.1 in
-    let way : Evened c.decompose-p.result.m c.decompose-p.result.e c.if-p-eq1.m =
-    elim c.if-p-eq1.branch [ then-p-eq1 w ↦ inl (w.if-p-eq1.true, w.m-is) | else-p-eq1 w ↦ inr (w.if-p-eq1.false, w.m-is) ] in
     let w = c.whole_root-w.ensures in
     let s = c.decompose-p.ensures in
     let under = c.if-b-ge-INFINITY.false in (
-      pattern_read s way w.0 (omega arith) under ∙ ap root_of (read x g),
-      counts c.whole_root-w.result.root w.1 c.count-digits.ensures (pattern_digits s way w.0 (omega arith) under) ∙ ap digits_of (read x g),
+      pattern_read s (search rules) w.0 (omega arith) under ∙ ap root_of (read x g),
+      counts c.whole_root-w.result.root w.1 c.count-digits.ensures (pattern_digits s (search rules) w.0 (omega arith) under) ∙ ap digits_of (read x g),
     )
   where
     counts : {a w n d : ℕ} (r : ℕ) → Ends a r w → (w ≡ 27 → n ≡ 54 - count_trailing_zeros 54 r) × (w ≡ 54 → n ≡ 54) → Told a r d → n ≡ d

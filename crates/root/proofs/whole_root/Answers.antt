@@ -20,4 +20,4 @@ second_half-root-requires c = let v = c.first_half-p.ensures in
 
 pub returns : goal.returns
 returns c = let v = c.first_half-p.ensures in
-    (subst (λ (n : ℕ). IsRoot (n * 2 ^ 54) c.second_half-root.result) (sym v.is) c.second_half-root.ensures, ends-second c.second_half-root.result v c.if-p-eq0.false)
+    (subst (λ (n : ℕ). IsRoot (n * 2 ^ 54) c.second_half-root.result) (sym v.is) c.second_half-root.ensures, ends-second c.second_half-root.result v (λ e. omega arith))

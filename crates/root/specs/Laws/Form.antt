@@ -1,6 +1,6 @@
 -- The root in its normal form: for n = a * 4 ^ j with a even and a whole root p of 54 digits, `root_at n` is (p + 1) / 2
 -- * 2 ^ j of the format's smallest values, whose pattern is j * 2 ^ 52 + (p + 1) / 2. Assumes nothing.
-use Rattle.std.specs.Prelude.{◌≡◌, refl, ◌⊎◌, Bool, true, not, cond, T, leb, eqb, Float}
+use Rattle.std.specs.Prelude.{◌≡◌, refl, ◌⊎◌, Bool, true, not, cond, T, leb, eqb}
 use Rattle.std.proofs.Common.{sym, ◌∙◌, subst, inl, inr, le_trans, le_of_eq, le_of_lt, lt_of_lt_of_le, lt_of_le_of_lt, lt_irrefl, eq-or-lt_of_le, mul-pos, mul-le-mul_right, mul-lt-mul_of_pos_right, zero-lt-suc, le→leb, leb→le, eqb→eq, pow-add, pow_pos}
 use Rattle.std.proofs.Math.Path.{ap}
 use Rattle.std.proofs.Math.Bool.{false}
@@ -10,12 +10,11 @@ use native.Mathlib.Omega.{arith}
 use Rattle.std.proofs.Math.Dec.{is_le, compare_is_eq, nleb→lt}
 use Rattle.std.proofs.Math.Arith.{digits_div, digits_mod, lt→nleb, le→nltb}
 use Rattle.std.proofs.Math.Pow.{pow-lt}
-use Rattle.std.specs.Float.Ieee.{binary64, size, nearest, units, round, nan_bits, of_bits}
-use Rattle.std.specs.Float.Ieee.Fits.{round_is, round-fits}
-use Rattle.std.specs.Float.Ieee.Exact.{HasValue, units_val}
+use Rattle.std.specs.Float.Ieee.{binary64, size, nearest, units, round, nan_bits}
+use Rattle.std.specs.Float.Ieee.Fits.{round_is}
 use Rattle.std.specs.Float.Ieee.Nearest.{closest, closest_same}
 use Rattle.std.specs.Float.Ieee.Bits.{nan_bits_above}
-use Rattle.float.specs.Laws.Fields.{size-at, pattern_reads}
+use Rattle.float.specs.Laws.Fields.{size-at}
 use Rattle.root.specs.Root.{isqrt, sticky, root_at}
 use Rattle.root.specs.Laws.Whole.{IsRoot, isqrt_root, sq_le_root, sq_lt_back, odd_square}
 
@@ -151,7 +150,7 @@ module _ (a p j : ℕ) (A : IsRoot a p) (even : a % 2 ≡ 0) (lo : 2 ^ 53 ≤ p)
       rounded a p j (isqrt n) even lo hi (r-lo a p (2 ^ j) (isqrt n) (pow_pos j) A B) (r-hi a p (2 ^ j) (isqrt n) (pow_pos j) A B)
 
   module _ (fine : j < 1994) where
-    in_range_lem : (p + 1) / 2 * 2 ^ j < 2 ^ 2098
+    pub in_range_lem : (p + 1) / 2 * 2 ^ j < 2 ^ 2098
     in_range_lem = lt_of_le_of_lt (mul-le-mul_right (2 ^ j) (up p hi)) (lt_of_le_of_lt (le_of_eq (sym (pow-add 2 53 j))) (pow-lt (room j fine)))
       where
         up : (p : ℕ) → p < 2 ^ 54 → (p + 1) / 2 ≤ 2 ^ 53
@@ -159,13 +158,6 @@ module _ (a p j : ℕ) (A : IsRoot a p) (even : a % 2 ≡ 0) (lo : 2 ^ 53 ≤ p)
 
         room : (j : ℕ) → j < 1994 → 53 + j < 2098
         room j h = omega arith
-
-    pub root_value : HasValue (root_at (a * (2 ^ j * 2 ^ j))) false ((p + 1) / 2 * 2 ^ j) (2 ^ 1074)
-    root_value = subst (λ (v : Float). HasValue v false ((p + 1) / 2 * 2 ^ j) (2 ^ 1074)) (sym as_units) (units_val binary64 false ((p + 1) / 2) j in_range_lem)
-
-    pub root_read : of_bits binary64 (j * 2 ^ 52 + (p + 1) / 2) ≡ root_at (a * (2 ^ j * 2 ^ j))
-    unfolding root_at
-    root_read = ap (of_bits binary64) (omega arith) ∙ pattern_reads (root_at n) false ((p + 1) / 2) j (round-fits binary64 false (sticky (isqrt n) n) (2 ^ 1076)) (omega arith) (omega arith) root_value
 
 -- the pattern is at most that of the infinity
 pub root_no_nan : (j q : ℕ) → j < 1994 → q ≤ 2 ^ 53 → T (not (nan_bits binary64 (j * 2 ^ 52 + q)))

@@ -3,15 +3,13 @@
 use Rattle.std.specs.Prelude.{◌≡◌, refl, ◌⊎◌, Bool, true, false, not, ℕ, zero, suc, ◌+◌, ◌-◌, ◌*◌, ◌/◌, ◌%◌, ◌^◌, ◌≤◌, ◌<◌, T, leb, ltb, Float}
 use Rattle.std.proofs.Common.{sym, ap, ◌∙◌, subst, inl, inr, true≢false, le_of_eq, lt_of_lt_of_le, lt_of_le_of_lt, mul_assoc, mul-pos, mul-le-mul, mul-le-mul_right, mul-lt-mul_of_pos_right, lt_of_mul-lt-mul_right, eq-or-lt_of_le, arith, leb→le, ltb→lt, lt→ltb, pow_pos, pow_mono}
 use Rattle.std.proofs.Math.Dec.{nleb→lt}
-use Rattle.std.specs.Float.{nan, inf, fin, binary64}
-use Rattle.std.specs.Float.Ieee.{fits, lt}
+use Rattle.std.specs.Float.{nan, inf, fin}
+use Rattle.std.specs.Float.Ieee.{lt}
 use Rattle.std.specs.Float.Ieee.Exact.{HasValue}
-use Rattle.std.specs.Float.Ieee.Positive.{num, den, den_pos, positive, value→cross}
-use Rattle.float.specs.Laws.Exact.{same_value}
-use Rattle.root.specs.Root.{root_of}
+use Rattle.std.specs.Float.Ieee.Positive.{num, den, den_pos, value→cross}
 use Rattle.root.specs.Laws.Whole.{IsRoot, sq_lt, odd_square, pow_sum}
-use Rattle.root.specs.Laws.Nearest.{plain, MiddleBelow, MiddleAbove, Nearer, Nearest}
-use Rattle.root.specs.Laws.Shape.{InUnits, in_units, Shaped, rooted}
+use Rattle.root.specs.Laws.Nearest.{plain, MiddleBelow, MiddleAbove, Nearer}
+use Rattle.root.specs.Laws.Shape.{InUnits, Shaped}
 
 -- ---- in units: the root of a * w * w is P * w or little more or less, with P = (p + 1) / 2
 module _ (a p w : ℕ) (A : IsRoot a p) (even : a % 2 ≡ 0) (W : 0 < w) where
@@ -64,14 +62,14 @@ module _ {n : ℕ} {y : Float} (S : Shaped n) (U : InUnits y) where
           let l : 2 ^ (U.i + 1) ≤ w = pow_mono (omega (arith, g tt)) in
           inr (omega (arith, mul-lt-mul_of_pos_right U.short (pow_pos U.i), pow_sum U.i 1 (U.i + 1) refl))
 
-  numbers_below : v < z → (z + v) * (z + v) < n
+  pub numbers_below : v < z → (z + v) * (z + v) < n
   numbers_below h = lt_of_lt_of_le (go either) (le_of_eq (sym S.is))
     where
       go : ((k : ℕ) × (v ≡ k * w)) ⊎ (v < 2 ^ 52 * w) → (z + v) * (z + v) < S.a * (w * w)
       go (inl k) = rw k.1 (units_below S.a S.p w S.whole S.even (pow_pos S.j) k.0 (rw k.1 at h))
       go (inr l) = far_below S.a S.p w S.whole S.even (pow_pos S.j) S.lo v l
 
-  numbers_above : z < v → n < (z + v) * (z + v)
+  pub numbers_above : z < v → n < (z + v) * (z + v)
   numbers_above h = lt_of_le_of_lt (le_of_eq S.is) (go either)
     where
       go : ((k : ℕ) × (v ≡ k * w)) ⊎ (v < 2 ^ 52 * w) → S.a * (w * w) < (z + v) * (z + v)
@@ -133,7 +131,7 @@ plain_of_value (fin true m e) n c h = absurd (true≢false h.0)
 plain_of_value (fin false m e) n c h = tt
 
 module _ (x y z : Float) (u v t : ℕ) (X : HasValue x false u (2 ^ 1074)) (Y : HasValue y false v (2 ^ 1074)) (Z : HasValue z false t (2 ^ 1074)) where
-  nearer : (v < t → (t + v) * (t + v) < u * 2 ^ 1076) → (t < v → u * 2 ^ 1076 < (t + v) * (t + v)) → Nearer x y z
+  pub nearer : (v < t → (t + v) * (t + v) < u * 2 ^ 1076) → (t < v → u * 2 ^ 1076 < (t + v) * (t + v)) → Nearer x y z
   nearer h k =
       let ex = value→cross x u (2 ^ 1074) X in
       let ey = value→cross y v (2 ^ 1074) Y in
@@ -146,16 +144,7 @@ module _ (x y z : Float) (u v t : ℕ) (X : HasValue x false u (2 ^ 1074)) (Y : 
             (k (units_lt (num z) (den z) (num y) (den y) t v (2 ^ 1074) ez ey (pow_pos 1074) (den_pos z) (den_pos y) (lt→cross z y q p o))),
       )
 
--- ---- for a value above zero
-
-pub is_nearest : (x : Float) → T (positive x) → T (fits binary64 x) → Nearest x (root_of x)
-is_nearest x p f y q g =
-    let R = rooted x p f in
-    let S = R.shape in
-    let U = in_units y q g in
-    nearer x y (root_of x) R.units (U.q * 2 ^ U.i) ((S.p + 1) / 2 * 2 ^ S.j) R.value U.size_of R.root (numbers_below S U) (numbers_above S U)
-
-three : (u v : ℕ) → (u ≡ v) ⊎ ((u < v) ⊎ (v < u))
+pub three : (u v : ℕ) → (u ≡ v) ⊎ ((u < v) ⊎ (v < u))
 three u v = go (leb u v) (leb→le u v) (nleb→lt u v)
   where
     go : (b : Bool) → (T b → u ≤ v) → (T (not b) → v < u) → (u ≡ v) ⊎ ((u < v) ⊎ (v < u))
@@ -163,31 +152,14 @@ three u v = go (leb u v) (leb→le u v) (nleb→lt u v)
     go false a c = inr (inr (c tt))
 
 module _ (y z : Float) (p : T (plain y)) (q : T (plain z)) (v t : ℕ) (Y : HasValue y false v (2 ^ 1074)) (Z : HasValue z false t (2 ^ 1074)) where
-  units→lt : v < t → T (lt y z)
+  pub units→lt : v < t → T (lt y z)
   units→lt h =
       subst T (sym (lt_is y z p q))
       (lt→ltb (num y * den z) (num z * den y) (lt_units (num y) (den y) (num z) (den z) v t (2 ^ 1074) (value→cross y v (2 ^ 1074) Y) (value→cross z t (2 ^ 1074) Z) (pow_pos 1074) (den_pos y) (den_pos z) h))
 
 -- the middle of y and z is not both below and above
-one_side : (x y z : Float) → MiddleBelow y z x → MiddleAbove z y x → ⊥
+pub one_side : (x y z : Float) → MiddleBelow y z x → MiddleAbove z y x → ⊥
 one_side x y z = go (num x) (den x) (num y) (den y) (num z) (den z)
   where
     go : (nx dx ny dy nz dz : ℕ) → (ny * dz + nz * dy) * (ny * dz + nz * dy) * dx < 4 * nx * (dy * dz * (dy * dz)) → 4 * nx * (dz * dy * (dz * dy)) < (nz * dy + ny * dz) * (nz * dy + ny * dz) * dx → ⊥
     go nx dx ny dy nz dz h k = omega arith
-
--- whatever is nearest is `root_of x`
-pub is-only : (x z : Float) → T (positive x) → T (fits binary64 x) → T (plain z) → T (fits binary64 z) → T (fits binary64 (root_of x)) → Nearest x z → z ≡ root_of x
-is-only x z p f q g h M =
-    let r = root_of x in
-    let R = rooted x p f in
-    let t = (R.shape.p + 1) / 2 * 2 ^ R.shape.j in
-    let U = in_units z q g in
-    let v = U.q * 2 ^ U.i in
-    let s : T (plain r) = plain_of_value r t (2 ^ 1074) R.root in
-    elim (three v t) [
-      | inl e ↦ same_value z r false t (2 ^ 1074) (pow_pos 1074) g h (subst (λ (n : ℕ). HasValue z false n (2 ^ 1074)) e U.size_of) R.root
-      | inr w ↦ elim w [
-        | inl l ↦ (let o = units→lt z r q s v t U.size_of R.root l in absurd (one_side x z r ((is_nearest x p f z q g).0 o) ((M r s h).1 o)))
-        | inr l ↦ (let o = units→lt r z s q t v R.root U.size_of l in absurd (one_side x r z ((M r s h).0 o) ((is_nearest x p f z q g).1 o)))
-      ]
-    ]

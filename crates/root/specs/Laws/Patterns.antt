@@ -17,7 +17,7 @@ use Rattle.root.specs.Digits.{digits_at, digits_of}
 use Rattle.root.specs.Laws.Counted.{counted_exact, counted_other}
 use Rattle.root.specs.Root.{scaled, root_at, root_of}
 use Rattle.root.specs.Laws.Whole.{IsRoot, sq_le_root, sq_lt_back, pow_sum}
-use Rattle.root.specs.Laws.Form.{root_read, root_no_nan}
+use Rattle.root.specs.Laws.Form.{root_no_nan}
 
 -- ---- by a value's size
 not_none : (n d : ℕ) → 0 < n → 0 < d → 0 ≡ n * d → ⊥
@@ -118,7 +118,7 @@ abbrev pub Evened : ℕ → ℕ → ℕ → Type 0
 Evened m e m' = ((e % 2 ≡ 1) × (m' ≡ m * 2)) ⊎ ((e % 2 ≡ 1 → ⊥) × (m' ≡ m))
 
 -- 27 places of the root are set apart
-evened : (m e m' : ℕ) → 1024 ≤ e → Evened m e m' → m * 2 ^ e ≡ m' * 2 ^ 54 * (2 ^ (e / 2 - 27) * 2 ^ (e / 2 - 27))
+pub evened : (m e m' : ℕ) → 1024 ≤ e → Evened m e m' → m * 2 ^ e ≡ m' * 2 ^ 54 * (2 ^ (e / 2 - 27) * 2 ^ (e / 2 - 27))
 evened m e m' l w = go w ∙ sym (apart (e / 2) (omega arith))
   where
     apart : (h : ℕ) → 27 ≤ h → m' * 2 ^ 54 * (2 ^ (h - 27) * 2 ^ (h - 27)) ≡ m' * (2 ^ h * 2 ^ h)
@@ -148,17 +148,11 @@ module _ {b m e m' : ℕ} (S : Decomposition b m e) (w : Evened m e m') where
     pub p-hi : p < 2 ^ 54
     p-hi = sq_lt_back p (2 ^ 54) (lt_of_le_of_lt A.least (mul-lt-mul_of_pos_right m_in.1 (pow_pos 54)))
 
-    fine : e / 2 - 27 < 1994
+    pub fine : e / 2 - 27 < 1994
     fine = let h = S.high in omega arith
 
     pub pattern_no_nan : T (not (nan_bits binary64 ((e / 2 - 27) * 2 ^ 52 + (p + 1) / 2)))
     pattern_no_nan = let h = p-hi in root_no_nan (e / 2 - 27) ((p + 1) / 2) fine (omega arith)
-
-    pub pattern_read : 0 < b → b < 2047 * 2 ^ 52 → of_bits binary64 ((e / 2 - 27) * 2 ^ 52 + (p + 1) / 2) ≡ root_of (of_bits binary64 b)
-    pattern_read B F =
-        root_read (m' * 2 ^ 54) p (e / 2 - 27) A (omega arith) p-lo p-hi fine
-        ∙ ap root_at (sym (S.value ∙ evened m e m' S.low w))
-        ∙ sym (root_of_value (of_bits binary64 b) (units_at (b / 2 ^ 52) (b % 2 ^ 52)) (value_of_pattern b F) (some_units b B))
 
     as_form : 0 < b → b < 2047 * 2 ^ 52 → digits_of (of_bits binary64 b) ≡ digits_at (m' * 2 ^ 54 * (2 ^ (e / 2 - 27) * 2 ^ (e / 2 - 27)))
     as_form B F =

@@ -1,21 +1,19 @@
 -- Every value of the format that is finite and above zero has the form that `Form` speaks of. Assumes nothing.
 use Rattle.std.specs.Prelude.{◌≡◌, refl, true, false, ℕ, zero, suc, ◌+◌, ◌-◌, ◌*◌, ◌/◌, ◌%◌, ◌^◌, ◌≤◌, ◌<◌, ℤ, pos, negsuc, T, Float}
 use Rattle.std.proofs.Math.Path.{sym, ap}
-use Rattle.std.proofs.Common.{◌∙◌, subst, le_trans, le_of_eq, lt_of_lt_of_le, lt_of_le_of_lt, mul-one, mul_right_comm, mul-pos, mul-le-mul_right, mul-lt-mul_of_pos_right, zero-mul, lit<, pow-add, pow_pos, pow_mono, shl_lt}
+use Rattle.std.proofs.Common.{◌∙◌, le_trans, le_of_eq, lt_of_lt_of_le, lt_of_le_of_lt, mul-one, mul_right_comm, mul-pos, mul-le-mul_right, mul-lt-mul_of_pos_right, zero-mul, lit<, pow-add, pow_pos, pow_mono, shl_lt}
 use Rattle.std.proofs.Math.Nat.{mul_assoc, le_of_mul-le-mul_right, lt_of_mul-lt-mul_right, mul-mod_left}
 use native.Mathlib.Omega.{arith}
 use Rattle.std.specs.Float.{nan, inf, fin, binary64}
 use Rattle.std.specs.Float.Ieee.{up, down, size, fits}
 use Rattle.std.specs.Float.Ieee.Digits.{size-lt, size-le, size_reaches}
 use Rattle.std.specs.Float.Ieee.Exact.{HasValue}
-use Rattle.std.specs.Float.Ieee.Positive.{positive, value_pos, first_pos}
+use Rattle.std.specs.Float.Ieee.Positive.{positive}
 use Rattle.float.specs.Laws.Exact.{fits_top}
 use Rattle.float.specs.Laws.Remainder.{fits_digits}
-use Rattle.root.specs.Root.{isqrt, root_at, root_of}
+use Rattle.root.specs.Root.{isqrt, root_of}
 use Rattle.root.specs.Laws.Whole.{IsRoot, isqrt_root, sq_le_root, sq_lt_back, pow_sum, pow_lt_back}
 use Rattle.root.specs.Laws.Nearest.{plain}
-use Rattle.root.specs.Laws.Form.{root_value}
-use Rattle.root.specs.Laws.Patterns.{root_of_value}
 
 -- ---- a value in units of the smallest: q * 2 ^ i of them, with q of 53 digits at most
 pub record InUnits (v : Float) : Type 0 where
@@ -129,7 +127,7 @@ module _ (q i : ℕ) (Q : 0 < q) (S : q < 2 ^ 53) (F : q * 2 ^ i < 2 ^ 2098) whe
       let l = s-low in
       lt_of_mul-lt-mul_right w (lt_of_le_of_lt (le_of_eq (sym a-is)) (lt_of_lt_of_le (size-lt n) (le_trans (pow_mono (omega arith)) (le_of_eq (sym (places 108))))))
 
-  shaped : Shaped (q * 2 ^ i * 2 ^ 1076)
+  pub shaped : Shaped (q * 2 ^ i * 2 ^ 1076)
   unfolding n j
   shaped = record {
     a = a;
@@ -150,23 +148,8 @@ pub record Rooted (x : Float) : Type 0 where
   pub shape : Shaped (units * 2 ^ 1076)
   pub root : HasValue (root_of x) false ((shape.p + 1) / 2 * 2 ^ shape.j) (2 ^ 1074)
 
-positive_plain : (x : Float) → T (positive x) → T (plain x)
+pub positive_plain : (x : Float) → T (positive x) → T (plain x)
 positive_plain nan p = absurd p
 positive_plain (inf s) p = absurd p
 positive_plain (fin true m e) p = absurd p
 positive_plain (fin false m e) p = tt
-
-pub rooted : (x : Float) → T (positive x) → T (fits binary64 x) → Rooted x
-rooted x p f =
-    let v = in_units x (positive_plain x p) f in
-    let N : 0 < v.q * 2 ^ v.i = value_pos x (v.q * 2 ^ v.i) (2 ^ 1074) p (pow_pos 1074) v.size_of in
-    let S : Shaped (v.q * 2 ^ v.i * 2 ^ 1076) = shaped v.q v.i (first_pos v.q (2 ^ v.i) N) v.short v.finite in
-    record {
-      units = v.q * 2 ^ v.i;
-      value = v.size_of;
-      shape = S;
-      root =
-          subst (λ (z : Float). HasValue z false ((S.p + 1) / 2 * 2 ^ S.j) (2 ^ 1074))
-          (sym (root_of_value x (v.q * 2 ^ v.i) v.size_of N ∙ ap root_at S.is))
-          (root_value S.a S.p S.j S.whole S.even S.lo S.hi S.fine);
-    }

@@ -1,23 +1,20 @@
 -- Change iii to the letter: binary digits worked out one by one, from the highest, until nothing remains to be taken
 -- off, round to `root_of`, and their number is `digits_of`. Assumes nothing.
-use Rattle.std.specs.Prelude.{◌≡◌, refl, Bool, not, cond, ℤ, T, leb, eqb}
+use Rattle.std.specs.Prelude.{◌≡◌, refl, Bool, not, cond, T, leb, eqb}
 use Rattle.std.proofs.Math.Path.{sym, ap, ap₂, subst}
-use Rattle.std.proofs.Common.{◌∙◌, zero-add, suc-add, add-zero, mul_assoc, pow-suc, mul-pos, le_trans, le_of_eq, lt_irrefl, lt_of_lt_of_le, lt_of_le_of_lt, mul-le-mul, mul-le-mul_right, mul-lt-mul_of_pos_right, le_of_mul-le-mul_right, lt_of_mul-lt-mul_right, arith, leb→le, eqb→eq, le→leb, pow_pos, pow-add}
+use Rattle.std.proofs.Common.{◌∙◌, zero-add, suc-add, add-zero, mul_assoc, pow-suc, mul-pos, le_trans, le_of_eq, lt_irrefl, lt_of_lt_of_le, lt_of_le_of_lt, mul-le-mul, mul-le-mul_right, mul-lt-mul_of_pos_right, le_of_mul-le-mul_right, lt_of_mul-lt-mul_right, arith, leb→le, eqb→eq, pow_pos, pow-add}
 use Rattle.std.proofs.Math.Bool.{true, false}
 use Prim.Native.Nat.{ℕ, zero, suc, ◌+◌, ◌-◌, ◌*◌, ◌/◌, ◌%◌, ◌^◌, ◌≤◌, ◌<◌}
 use Rattle.std.proofs.Math.Nat.{mul-mul-mul_comm, eq_of_mul-eq-mul_right}
 use Rattle.std.proofs.Math.Dec.{nleb→lt, eqb_refl}
 use Rattle.std.specs.Int.Count.{count_trailing_zeros, under}
-use Rattle.std.specs.Float.{fin, binary64}
-use Rattle.std.specs.Float.Ieee.{size, round, fits}
+use Rattle.std.specs.Float.{binary64}
+use Rattle.std.specs.Float.Ieee.{size, round}
 use Rattle.std.specs.Float.Ieee.Digits.{size-lt, size-le}
-use Rattle.root.specs.Root.{scaled, sticky, root_at, root_of}
-use Rattle.root.specs.Digits.{digits_at, digits_of, work_from, worked_out}
+use Rattle.root.specs.Root.{sticky, root_at}
+use Rattle.root.specs.Digits.{digits_at, work_from, worked_out}
 use Rattle.root.specs.Laws.Whole.{IsRoot, root_unique, pow_lt_back}
 use Rattle.root.specs.Laws.Counted.{exact_root, zeros_shifted, counted_exact, counted_other}
-use Rattle.root.specs.Laws.Patterns.{scaled-is}
-use Rattle.root.specs.Laws.Form.{rounded, as_units}
-use Rattle.root.specs.Laws.Shape.{Shaped, Rooted, rooted}
 
 odd_zeros : (d s : ℕ) → s % 2 ≡ 1 → count_trailing_zeros d s ≡ 0
 unfolding count_trailing_zeros
@@ -200,30 +197,7 @@ module _ (a p j : ℕ) (A : IsRoot a p) (lo : 2 ^ 53 ≤ p) (hi : p < 2 ^ 54) wh
       go true e m = given.1 (e tt) ∙ sym (counted_exact a p j A lo hi (e tt))
       go false e m = given.2 (m tt) ∙ sym (counted_other a p j A lo hi (m tt))
 
-  pub rounds : a % 2 ≡ 0 → round binary64 false (sticky (p * 2 ^ j) (a * (2 ^ j * 2 ^ j))) (2 ^ 1076) ≡ root_at (a * (2 ^ j * 2 ^ j))
-  rounds even = rounded a p j (p * 2 ^ j) even lo hi (le_of_eq refl) (some (p * 2 ^ j) (pow_pos j)) ∙ sym (as_units a p j A even lo hi)
-    where
-      some : {w : ℕ} (x : ℕ) → 0 < w → x < x + w
-      some x h = omega arith
-
 -- ---- every f64 above zero
 -- what the digits of the root of n units of 2 ^ -2150 come to
-abbrev Worked : ℕ → Type 0
+abbrev pub Worked : ℕ → Type 0
 Worked n = (round binary64 false (sticky (worked_out n).0 n) (2 ^ 1076) ≡ root_at n) × ((worked_out n).1 ≡ digits_at n)
-
-worked : {n : ℕ} → Shaped n → Worked n
-worked s = subst Worked (sym s.is) (go (worked_out_lem s.a s.p s.j s.whole s.lo s.hi))
-  where
-    go : worked_out (s.a * (2 ^ s.j * 2 ^ s.j)) ≡ (s.p * 2 ^ s.j, digits_at (s.a * (2 ^ s.j * 2 ^ s.j))) → Worked (s.a * (2 ^ s.j * 2 ^ s.j))
-    go e = (
-      ap (λ (v : ℕ × ℕ). round binary64 false (sticky v.0 (s.a * (2 ^ s.j * 2 ^ s.j))) (2 ^ 1076)) e ∙ rounds s.a s.p s.j s.whole s.lo s.hi s.even,
-      ap (λ (v : ℕ × ℕ). v.1) e,
-    )
-
-pub single_digits : (m : ℕ) (e : ℤ) → T (fits binary64 (fin false (suc m) e)) →
-    (round binary64 false (sticky (worked_out (scaled (suc m) e)).0 (scaled (suc m) e)) (2 ^ 1076) ≡ root_of (fin false (suc m) e))
-    × ((worked_out (scaled (suc m) e)).1 ≡ digits_of (fin false (suc m) e))
-unfolding root_of digits_of
-single_digits m e F =
-    let r : Rooted (fin false (suc m) e) = rooted (fin false (suc m) e) (le→leb 1 (suc m) (omega arith)) F in
-    subst Worked (sym (scaled-is (suc m) e r.units r.value.1)) (worked r.shape)

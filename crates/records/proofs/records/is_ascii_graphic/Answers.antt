@@ -1,5 +1,6 @@
 use borrow.Author.Tests.{lt-leb, le-leb}
 use mathlib.Core.Path.{refl}
+use native.Mathlib.Omega.{arith}
 use Rattle.records.specs.Records.{ascii_graphic}
 use Rattle.records.proofs.records.is_ascii_graphic.Goals as goal
 
@@ -9,4 +10,4 @@ returns-then-x-lt33 c = rw (lt-leb 33 _ c.if-x-lt33.true) refl
 
 pub returns : goal.returns
 unfolding ascii_graphic
-returns c = rw (le-leb 33 _ c.if-x-lt33.false) refl
+returns c = rw (le-leb 33 c.args.x (omega arith)) refl
