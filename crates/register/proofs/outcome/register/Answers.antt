@@ -1,7 +1,7 @@
 use borrow.Author.Rules.{rules}
 use borrow.Author.Tests.{not-true, not-false}
 use mathlib.Core.Path.{◌≡◌, sym, ◌∙◌}
-use mathlib.Core.Logic.{◌⊎◌, inl, inr}
+use mathlib.Core.Logic.{◌⊎◌}
 use mathlib.Core.Bool.{true, false}
 use native.Mathlib.Omega.{arith}
 use Rattle.stream.specs.Payload.{payload}
@@ -10,7 +10,6 @@ use Rattle.scene.specs.Laws.Answers.{is-given, not-given}
 use Rattle.register.specs.Register.{within_limits}
 use Rattle.register.specs.Laws.Outcomes.{Passed, over, counted, all-kept, none_kept, one_kept, keeps, anchor_in, anchor_out, refused, not-mercator, beyond_limits, beyond_limits_anchor, too_many, by_fit, by_one, no_anchor, by_anchor}
 use Rattle.register.proofs.outcome.register.Goals as goal
-use Rattle.register.proofs.outcome.register.Goals.{then-a+else-not-is_within_limits, else-a}
 
 pub returns-then-not-d : goal.returns-then-not-d
 returns-then-not-d c = let made = refused 7 c.refuse.ensures (omega arith) (not-mercator (scene_of (payload c.args.s.now)) (sym c.requires.0.surveyed.declares.mercator ∙ not-true _ c.if-not-d.true)) in record { value = made.0; kept = made.1 }
@@ -41,7 +40,7 @@ returns-then-n-gt-MAX_CONTROLS c =
     let d = c.args.v.declared in
     let declares = c.requires.0.surveyed.declares in
     let h = c.gather-g.ensures in
-    let within : ((d.anchor.some ≡ true) × (within_limits d.anchor.x d.anchor.y ≡ true)) ⊎ (d.anchor.some ≡ false) = elim c.if-a.branch [ then-a+else-not-is_within_limits w ↦ inl (w.if-a.true, sym w.is_within_limits.ensures ∙ w.if-not-is_within_limits.false) | else-a w ↦ inr w.if-a.false ] in
+    let within : ((d.anchor.some ≡ true) × (within_limits d.anchor.x d.anchor.y ≡ true)) ⊎ (d.anchor.some ≡ false) = search rules in
     let passed : Passed sc = record { mercator = sym declares.mercator ∙ not-false _ c.if-not-d.false; all = sym h.within ∙ not-false _ c.if-not-g.false; anchor = anchor_in d.anchor _ declares.anchor within } in
     let made = refused 9 c.refuse-then-n-gt-MAX_CONTROLS.ensures (omega arith) (too_many passed (over h (omega arith))) in
     record { value = made.0; kept = made.1 }
@@ -52,7 +51,7 @@ returns-then-n-ge2 c =
     let d = c.args.v.declared in
     let declares = c.requires.0.surveyed.declares in
     let h = c.gather-g.ensures in
-    let within : ((d.anchor.some ≡ true) × (within_limits d.anchor.x d.anchor.y ≡ true)) ⊎ (d.anchor.some ≡ false) = elim c.if-a.branch [ then-a+else-not-is_within_limits w ↦ inl (w.if-a.true, sym w.is_within_limits.ensures ∙ w.if-not-is_within_limits.false) | else-a w ↦ inr w.if-a.false ] in
+    let within : ((d.anchor.some ≡ true) × (within_limits d.anchor.x d.anchor.y ≡ true)) ⊎ (d.anchor.some ≡ false) = search rules in
     let passed : Passed sc = record { mercator = sym declares.mercator ∙ not-false _ c.if-not-d.false; all = sym h.within ∙ not-false _ c.if-not-g.false; anchor = anchor_in d.anchor _ declares.anchor within } in
     let few = counted h (omega arith) in
     record { value = c.fit_controls.ensures ∙ rw (all-kept h (omega arith)) (by_fit passed (omega arith) (omega arith)); kept = λ z. keeps h (omega arith) }
@@ -63,7 +62,7 @@ returns-then-n-eq1 c =
     let d = c.args.v.declared in
     let declares = c.requires.0.surveyed.declares in
     let h = c.gather-g.ensures in
-    let within : ((d.anchor.some ≡ true) × (within_limits d.anchor.x d.anchor.y ≡ true)) ⊎ (d.anchor.some ≡ false) = elim c.if-a.branch [ then-a+else-not-is_within_limits w ↦ inl (w.if-a.true, sym w.is_within_limits.ensures ∙ w.if-not-is_within_limits.false) | else-a w ↦ inr w.if-a.false ] in
+    let within : ((d.anchor.some ≡ true) × (within_limits d.anchor.x d.anchor.y ≡ true)) ⊎ (d.anchor.some ≡ false) = search rules in
     let passed : Passed sc = record { mercator = sym declares.mercator ∙ not-false _ c.if-not-d.false; all = sym h.within ∙ not-false _ c.if-not-g.false; anchor = anchor_in d.anchor _ declares.anchor within } in
     record { value = rw (c.declare.ensures sc declares) (by_one passed _ (one_kept h c.control_at-c.ensures c.if-n-eq1.true)); kept = λ z. keeps h (omega arith) }
 
@@ -73,7 +72,7 @@ returns-then-not-a c =
     let d = c.args.v.declared in
     let declares = c.requires.0.surveyed.declares in
     let h = c.gather-g.ensures in
-    let within : ((d.anchor.some ≡ true) × (within_limits d.anchor.x d.anchor.y ≡ true)) ⊎ (d.anchor.some ≡ false) = elim c.if-a.branch [ then-a+else-not-is_within_limits w ↦ inl (w.if-a.true, sym w.is_within_limits.ensures ∙ w.if-not-is_within_limits.false) | else-a w ↦ inr w.if-a.false ] in
+    let within : ((d.anchor.some ≡ true) × (within_limits d.anchor.x d.anchor.y ≡ true)) ⊎ (d.anchor.some ≡ false) = search rules in
     let passed : Passed sc = record { mercator = sym declares.mercator ∙ not-false _ c.if-not-d.false; all = sym h.within ∙ not-false _ c.if-not-g.false; anchor = anchor_in d.anchor _ declares.anchor within } in
     let made = refused 10 c.refuse-then-not-a.ensures (omega arith) (no_anchor passed (none_kept h (omega arith)) (not-given d.anchor.some _ (sym declares.anchor) (not-true _ c.if-not-a.true))) in
     record { value = made.0; kept = made.1 }
@@ -84,6 +83,6 @@ returns c =
     let d = c.args.v.declared in
     let declares = c.requires.0.surveyed.declares in
     let h = c.gather-g.ensures in
-    let within : ((d.anchor.some ≡ true) × (within_limits d.anchor.x d.anchor.y ≡ true)) ⊎ (d.anchor.some ≡ false) = elim c.if-a.branch [ then-a+else-not-is_within_limits w ↦ inl (w.if-a.true, sym w.is_within_limits.ensures ∙ w.if-not-is_within_limits.false) | else-a w ↦ inr w.if-a.false ] in
+    let within : ((d.anchor.some ≡ true) × (within_limits d.anchor.x d.anchor.y ≡ true)) ⊎ (d.anchor.some ≡ false) = search rules in
     let passed : Passed sc = record { mercator = sym declares.mercator ∙ not-false _ c.if-not-d.false; all = sym h.within ∙ not-false _ c.if-not-g.false; anchor = anchor_in d.anchor _ declares.anchor within } in
     record { value = rw (c.declare-2.ensures sc declares) (by_anchor passed _ (none_kept h (omega arith)) (is-given d.anchor.some _ (sym declares.anchor) (not-false _ c.if-not-a.false))); kept = λ z. keeps h (omega arith) }

@@ -23,4 +23,4 @@ repeat_first_position-requires c = let room = c.requires (not-false _ c.if-not-d
 
 pub returns : goal.returns
 returns c q m one = let some = (c.requires (not-false _ c.if-not-d.false)).0 in
-    close-ring _ _ one (not-false _ c.if-not-d.false) c.project_points.ensures c.if-geometry-ne-POLYGON.false (omega arith) c.repeat_first_position.ensures
+    close-ring _ _ one (not-false _ c.if-not-d.false) c.project_points.ensures (omega arith) (omega arith) c.repeat_first_position.ensures
