@@ -1,7 +1,7 @@
 // The vertex allowance that every producer of vertices draws from, after the source's densify.rs.
 #![tactic(auto)]
 
-ghost use Rattle.std.specs.Prelude.{◌≡◌, ◌-◌, min, max};
+ghost use Rattle.std.specs.Prelude.{◌≡◌};
 ghost use Rattle.budget.specs.Budget.{allowance_of, fresh, take_of};
 
 // The vertices that one scene may draw: on a panel of the entry tier, and on any other.
@@ -23,26 +23,8 @@ pub struct Taken {
     pub budget: Budget,
 }
 
-fn lesser(a: usize, b: usize) -> usize
-    ensures { result ≡ min a b }
-{
-    if a < b { a } else { b }
-}
-
-fn greater(a: usize, b: usize) -> usize
-    ensures { result ≡ max a b }
-{
-    if a < b { b } else { a }
-}
-
-// The difference, 0 where it would be negative.
-fn saturating_sub(a: usize, b: usize) -> usize
-    ensures { result ≡ a - b }
-{
-    if b < a { a - b } else { 0 }
-}
-
 // The vertices that one scene may draw on a panel of this tier.
+#[tactic(auto, unfolding(crate::specs::Budget::allowance_of))]
 fn allowance(tier: u32) -> usize
     ensures { result ≡ allowance_of tier }
 {
@@ -65,18 +47,17 @@ impl Budget {
     }
 
     // Up to `wanted` vertices, never fewer than the smaller of `wanted` and `floor`.
+    #[tactic(auto, unfolding(crate::specs::Budget::grant_of, crate::specs::Budget::take_of))]
     pub fn take(self, wanted: usize, floor: usize) -> Taken
         ensures { result ≡ take_of self wanted floor }
     {
-        let left = self.left;
-        let n = lesser(wanted, greater(left, floor));
-        let after = Budget {
-            left: saturating_sub(left, n),
-            hit: self.hit || n < wanted,
-        };
+        let granted = wanted.min(self.left.max(floor));
         Taken {
-            granted: n,
-            budget: after,
+            granted,
+            budget: Budget {
+                left: self.left.saturating_sub(granted),
+                hit: self.hit || granted < wanted,
+            },
         }
     }
 }

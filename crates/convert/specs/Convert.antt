@@ -1,37 +1,37 @@
 -- The source's convert.rs, function by function: what each item of a scene draws, one item after the other.
-use Rattle.std.specs.Prelude.{ℕ, suc, Bool, true, false, ◌||◌, cond, List, [], ◌∷◌, length, eqb, ltb, Float}
+use Rattle.std.specs.Prelude.{ℕ, suc, Bool, true, false, ◌||◌, cond, List, [], ◌∷◌, length, eqb, ltb, Float, Option, None, Some, unwrap_or}
 use Rattle.std.specs.Float.{binary64}
 use Rattle.std.specs.Float.Ieee.{div}
 use Rattle.elementary.specs.Constants as K
 use Rattle.kind_table.specs.KindTable.{not_drawn, on_screen}
 use Rattle.scene.specs.Scene.{DrawnPath, DrawnItem}
 use Rattle.values.specs.declared.Point.{Point}
-use Rattle.values.specs.Maybe.{Maybe, none, some, or_value}
 use Rattle.budget.specs.declared.Budget.{Budget}
 use Rattle.densify.specs.Densify.{path_points_of, ellipse_ring_of, box_ring_of}
 use Rattle.convert.specs.declared.shapes.Shape.{Shape}
 use Rattle.convert.specs.declared.shapes.Shape.TheVariants.{Box, Ellipse, Circle, Dot, Points, Paths, Missing, Nothing}
+use Rattle.geojson.specs.declared.Placement.TheVariants.{Map, Screen}
 use Rattle.strokes.specs.declared.state.Ctx.{Ctx}
 use Rattle.strokes.specs.declared.state.Props.{Props}
 use Rattle.strokes.specs.Strokes.{warned, Trace, no_events, one_event, and_then_trace, pick_trace, draws_trace, missing, point_of, polyline_or_polygon_of, ring_trace}
 
 -- ---- shapes
-abbrev pub first_path : List DrawnPath → Maybe DrawnPath
-first_path [] = none
-first_path (p ∷ ps) = some p
+abbrev pub first_path : List DrawnPath → Option DrawnPath
+first_path [] = None
+first_path (p ∷ ps) = Some p
 
 abbrev pub later_paths : List DrawnPath → List DrawnPath
 later_paths [] = []
 later_paths (p ∷ ps) = ps
 
 -- an outline is flattened whether it is used or not
-unfoldable pub outline_of : Ctx → Props → Bool → List Point → Maybe DrawnPath → Budget → Trace
-outline_of cx p closed ps none b = polyline_or_polygon_of cx p closed ps none b
-outline_of cx p closed ps (some o) b =
+unfoldable pub outline_of : Ctx → Props → Bool → List Point → Option DrawnPath → Budget → Trace
+outline_of cx p closed ps None b = polyline_or_polygon_of cx p closed ps None b
+outline_of cx p closed ps (Some o) b =
     let m = path_points_of cx.flatten o b in
-    and_then_trace (draws_trace m) (λ r. polyline_or_polygon_of cx p closed ps (some m.points) r)
+    and_then_trace (draws_trace m) (λ r. polyline_or_polygon_of cx p closed ps (Some m.points) r)
 
-unfoldable pub path_of : Ctx → Props → DrawnPath → Maybe DrawnPath → Budget → Trace
+unfoldable pub path_of : Ctx → Props → DrawnPath → Option DrawnPath → Budget → Trace
 path_of cx p path outline b =
     let m = path_points_of cx.flatten path b in
     and_then_trace (draws_trace m) (λ r. outline_of cx p path.closed m.points outline r)
@@ -47,34 +47,34 @@ paths_of cx p many i (q ∷ qs) outlines b =
 
 -- ---- an item
 -- the kinds, by their position in KINDS: 0 box, 1 circle, 2 ellipse, 3 arc, 4 line, 5 arrow, 6 spline, 7 text, 8 dot, 9 brace, 10 block
-abbrev pub box_shape : Maybe Point → Maybe Float → Maybe Float → Float → Shape
-box_shape (some c) (some w) (some h) rad = Box c.x c.y w h rad
-box_shape (some c) (some w) none rad = Missing
-box_shape (some c) none h rad = Missing
-box_shape none w h rad = Missing
+abbrev pub box_shape : Option Point → Option Float → Option Float → Float → Shape
+box_shape (Some c) (Some w) (Some h) rad = Box c.x c.y w h rad
+box_shape (Some c) (Some w) None rad = Missing
+box_shape (Some c) None h rad = Missing
+box_shape None w h rad = Missing
 
-abbrev pub ellipse_shape : Maybe Point → Maybe Float → Maybe Float → Shape
-ellipse_shape (some c) (some w) (some h) = Ellipse c.x c.y w h
-ellipse_shape (some c) (some w) none = Missing
-ellipse_shape (some c) none h = Missing
-ellipse_shape none w h = Missing
+abbrev pub ellipse_shape : Option Point → Option Float → Option Float → Shape
+ellipse_shape (Some c) (Some w) (Some h) = Ellipse c.x c.y w h
+ellipse_shape (Some c) (Some w) None = Missing
+ellipse_shape (Some c) None h = Missing
+ellipse_shape None w h = Missing
 
-abbrev pub circle_shape : Maybe Point → Maybe Float → Shape
-circle_shape (some c) (some r) = Circle c.x c.y r
-circle_shape (some c) none = Missing
-circle_shape none r = Missing
+abbrev pub circle_shape : Option Point → Option Float → Shape
+circle_shape (Some c) (Some r) = Circle c.x c.y r
+circle_shape (Some c) None = Missing
+circle_shape None r = Missing
 
 -- a text and a dot draw their point
-abbrev pub dot_shape : Maybe Point → Shape
-dot_shape (some c) = Dot c.x c.y
-dot_shape none = Missing
+abbrev pub dot_shape : Option Point → Shape
+dot_shape (Some c) = Dot c.x c.y
+dot_shape None = Missing
 
 abbrev pub pick_shape : Bool → Shape → Shape → Shape
 pick_shape true a b = a
 pick_shape false a b = b
 
 unfoldable pub box_of : DrawnItem → Shape
-box_of it = box_shape it.at it.w it.h (or_value it.rad K.zero)
+box_of it = box_shape it.at it.w it.h (unwrap_or it.rad K.zero)
 
 unfoldable pub ellipse_of : DrawnItem → Shape
 ellipse_of it = ellipse_shape it.at it.w it.h
@@ -98,7 +98,7 @@ shape_of e it =
 
 -- its placement is by its class and the entry of its kind
 unfoldable pub props_of : ℕ → ℕ → DrawnItem → Props
-props_of e i it = record { item = i; placement = cond (on_screen it.screen e) 1 0; part = 0; fill = it.fill }
+props_of e i it = record { item = i; placement = cond (on_screen it.screen e) Screen Map; part = 0; fill = it.fill }
 
 abbrev pub at : Float → Float → Point
 at x y = record { x = x; y = y }
@@ -106,9 +106,9 @@ at x y = record { x = x; y = y }
 abbrev pub half : Float → Float
 half v = div binary64 v K.two
 
-unfoldable pub points_trace : Ctx → Props → Bool → Maybe (List Point) → Maybe (List Point) → Budget → Trace
-points_trace cx p closed none outline b = missing p.item b
-points_trace cx p closed (some ps) outline b = polyline_or_polygon_of cx p closed ps outline b
+unfoldable pub points_trace : Ctx → Props → Bool → Option (List Point) → Option (List Point) → Budget → Trace
+points_trace cx p closed None outline b = missing p.item b
+points_trace cx p closed (Some ps) outline b = polyline_or_polygon_of cx p closed ps outline b
 
 unfoldable pub paths_trace : Ctx → Props → List DrawnPath → List DrawnPath → Budget → Trace
 paths_trace cx p [] outlines b = missing p.item b

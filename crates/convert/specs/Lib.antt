@@ -1,3 +1,4 @@
 -- What items draw.
 pub mod Convert
+pub mod Inner
 pub mod Laws

@@ -1,5 +1,5 @@
 // Items, one after the other.
-ghost use Rattle.std.specs.Prelude.{◌≡◌, true, false, cond, [], ◌+◌, ◌<◌, length};
+ghost use Rattle.std.specs.Prelude.{◌≡◌, cond, ◌+◌, ◌<◌, length, Ok, IfSome};
 ghost use Rattle.stream.specs.Payload.{payload};
 ghost use Rattle.stream.specs.Inner.Payload.{room};
 ghost use Rattle.kind_table.specs.KindTable.{entry_of};
@@ -7,18 +7,21 @@ ghost use Rattle.scene.specs.Inner.Answers.{LabelsFrom, PathWithin, points_from,
 ghost use Rattle.scene.specs.Inner.Answers.{paths_by, items_at, item_by};
 ghost use Rattle.convert.specs.Convert.{points_trace, paths_of, paths_trace, with_part};
 ghost use Rattle.convert.specs.Convert.{item_of, items_of, convert_of};
+ghost use Rattle.convert.specs.Inner.Outlines.{outlines_from};
 ghost use Rattle.strokes.specs.Inner.Space.{output_by, Fits, Draws, DrawsQuietly};
 ghost use Rattle.strokes.specs.Inner.Space.{CanDraw, box_trace, ellipse_trace};
 
 use crate::shapes::{Shape, props_of, shape_of};
 use densify::{box_ring, ellipse_ring};
 use kind_table::entry_of;
+use records::PointsRole;
 use scene::{Item, Path, next_item, next_path, points_of};
 use strokes::{
-    Ctx, Props, State, WARNING_ALLOWANCE_SPENT, WARNING_MISSING_GEOMETRY, draw_ring, load_path,
-    load_points, point_feature, polyline_or_polygon, warn,
+    Ctx, Props, State, draw_ring, load_path, load_points, point_feature, polyline_or_polygon, warn,
 };
+use values::{Refusal, WarningKind};
 
+// A box, by its ring. A closure in place of this and `draw_ellipse` would be longer: each is its producer and one call.
 fn draw_box(
     cx: Ctx,
     p: Props,
@@ -31,7 +34,7 @@ fn draw_box(
     positions: &mut [f64],
     features: &mut [u32],
     st: State,
-) -> State
+) -> Result<State, Refusal>
     requires { CanDraw positions.old features.old st }
     ensures { DrawsQuietly (box_trace cx p x y w h rad st.budget)
         work.old positions.old features.old st
@@ -64,7 +67,7 @@ fn draw_ellipse(
     positions: &mut [f64],
     features: &mut [u32],
     st: State,
-) -> State
+) -> Result<State, Refusal>
     requires { CanDraw positions.old features.old st }
     ensures { DrawsQuietly (ellipse_trace cx p x y rx ry st.budget)
         work.old positions.old features.old st
@@ -97,41 +100,28 @@ fn draw_points(
     features: &mut [u32],
     warnings: &mut [u32],
     st: State,
-) -> State
-    requires { Fits (output_by (length work.old) positions.old features.old warnings.old st)
+) -> Result<State, Refusal>
+    requires { Fits (output_by (length work.old) positions.old features.old warnings.old (Ok st))
         st.budget }
     ensures { Draws (points_trace cx p closed (points_from (payload s.now) next 0)
         (points_from (payload s.now) next 1) st.budget)
         work.old positions.old features.old warnings.old st
         work.new positions.new features.new warnings.new result }
 {
-    let points = points_of(s, next, 0);
-    if !points.some {
-        return warn(warnings, st, WARNING_MISSING_GEOMETRY, p.item);
-    }
-    let outline = points_of(s, next, 1);
-    let l = load_points(s, closed, points, outline, st.budget, work);
+    let Some(points) = points_of(s, next, PointsRole::Drawn) else {
+        return warn(warnings, st, WarningKind::MissingGeometry, p.item);
+    };
+    let outline = points_of(s, next, PointsRole::Fill);
+    let l = load_points(s, closed, points, outline, st.budget, work)?;
     polyline_or_polygon(cx, p, closed, l, work, positions, features, warnings, st)
 }
 
-// The next fill path, none where none was left before.
-fn next_outline(s: &[u8], q: usize, more: bool) -> Path
-    ensures q_value { cond more (paths_from (payload s.now) q 1) []
-        ≡ paths_by (payload s.now) 1 result }
-    ensures path_within { result.some ≡ true → PathWithin (room s.now) q result }
+// The next fill path from q on, none where none was left before.
+fn next_outline(s: &[u8], q: Option<usize>) -> Option<Path>
+    ensures q_value { outlines_from (payload s.now) q ≡ paths_by (payload s.now) 1 result }
+    ensures path_within { IfSome result (λ o. IfSome q (λ p. PathWithin (room s.now) p o)) }
 {
-    if !more {
-        return Path {
-            some: false,
-            closed: false,
-            curve: false,
-            start: 0,
-            at: 0,
-            count: 0,
-            next: q,
-        };
-    }
-    next_path(s, q, 1)
+    q.and_then(|p| next_path(s, p, PointsRole::Fill))
 }
 
 // The part that a feature line tells of the i-th path: none where the item has one path alone.
@@ -139,16 +129,8 @@ fn part_of(p: Props, many: bool, i: usize) -> Props
     requires { i < 4294967295 }
     ensures { result ≡ with_part p (cond many (i + 1) 0) }
 {
-    let mut part = 0u32;
-    if many {
-        part = i as u32 + 1;
-    }
-    Props {
-        item: p.item,
-        placement: p.placement,
-        part,
-        fill: p.fill,
-    }
+    let part = if many { i as u32 + 1 } else { 0 };
+    Props { part, ..p }
 }
 
 // The paths that follow an item, each with the fill path of its index; `many` says that there is more than one.
@@ -163,9 +145,9 @@ fn draw_each(
     features: &mut [u32],
     warnings: &mut [u32],
     st: State,
-) -> State
+) -> Result<State, Refusal>
     requires { (room s.now < 4294967295)
-        × Fits (output_by (length work.old) positions.old features.old warnings.old st) st.budget }
+        × Fits (output_by (length work.old) positions.old features.old warnings.old (Ok st)) st.budget }
     ensures { Draws (paths_of cx p many 0 (paths_from (payload s.now) next 0)
         (paths_from (payload s.now) next 1) st.budget)
         work.old positions.old features.old warnings.old st
@@ -173,19 +155,12 @@ fn draw_each(
 {
     let mut state = st;
     let mut q = next;
-    let mut o = next;
-    let mut more = true;
+    let mut o = Some(next);
+    // The paths are followed by `next`, and counted for their parts.
     let mut i = 0usize;
-    loop {
-        if state.number != 0 {
-            return state;
-        }
-        let path = next_path(s, q, 0);
-        if !path.some {
-            return state;
-        }
-        let outline = next_outline(s, o, more);
-        let l = load_path(s, path, outline, cx.flatten, state.budget, work);
+    while let Some(path) = next_path(s, q, PointsRole::Drawn) {
+        let outline = next_outline(s, o);
+        let l = load_path(s, path, outline, cx.flatten, state.budget, work)?;
         let props = part_of(p, many, i);
         state = polyline_or_polygon(
             cx,
@@ -197,12 +172,12 @@ fn draw_each(
             features,
             warnings,
             state,
-        );
+        )?;
         q = path.next;
-        o = outline.next;
-        more = outline.some;
+        o = outline.map(|r| r.next);
         i += 1;
     }
+    Ok(state)
 }
 
 fn draw_paths(
@@ -215,30 +190,20 @@ fn draw_paths(
     features: &mut [u32],
     warnings: &mut [u32],
     st: State,
-) -> State
+) -> Result<State, Refusal>
     requires { (room s.now < 4294967295)
-        × Fits (output_by (length work.old) positions.old features.old warnings.old st) st.budget }
+        × Fits (output_by (length work.old) positions.old features.old warnings.old (Ok st)) st.budget }
     ensures { Draws (paths_trace cx p (paths_from (payload s.now) next 0)
         (paths_from (payload s.now) next 1) st.budget)
         work.old positions.old features.old warnings.old st
         work.new positions.new features.new warnings.new result }
 {
-    let first = next_path(s, next, 0);
-    if !first.some {
-        return warn(warnings, st, WARNING_MISSING_GEOMETRY, p.item);
-    }
-    let second = next_path(s, first.next, 0);
+    let Some(first) = next_path(s, next, PointsRole::Drawn) else {
+        return warn(warnings, st, WarningKind::MissingGeometry, p.item);
+    };
+    let many = next_path(s, first.next, PointsRole::Drawn).is_some();
     draw_each(
-        s,
-        cx,
-        p,
-        second.some,
-        next,
-        work,
-        positions,
-        features,
-        warnings,
-        st,
+        s, cx, p, many, next, work, positions, features, warnings, st,
     )
 }
 
@@ -254,9 +219,9 @@ fn draw_item(
     features: &mut [u32],
     warnings: &mut [u32],
     st: State,
-) -> State
+) -> Result<State, Refusal>
     requires { (room s.now < 4294967295)
-        × Fits (output_by (length work.old) positions.old features.old warnings.old st) st.budget }
+        × Fits (output_by (length work.old) positions.old features.old warnings.old (Ok st)) st.budget }
     ensures { Draws (item_of entry cx i (item_by (payload s.now) it) st.budget)
         work.old positions.old features.old warnings.old st
         work.new positions.new features.new warnings.new result }
@@ -284,8 +249,8 @@ fn draw_item(
             s, cx, p, it.closed, it.next, work, positions, features, warnings, st,
         ),
         Shape::Paths => draw_paths(s, cx, p, it.next, work, positions, features, warnings, st),
-        Shape::Missing => warn(warnings, st, WARNING_MISSING_GEOMETRY, i),
-        Shape::Nothing => st,
+        Shape::Missing => warn(warnings, st, WarningKind::MissingGeometry, i),
+        Shape::Nothing => Ok(st),
     }
 }
 
@@ -299,9 +264,9 @@ fn draw_items(
     features: &mut [u32],
     warnings: &mut [u32],
     st: State,
-) -> State
+) -> Result<State, Refusal>
     requires { (room s.now < 4294967295)
-        × Fits (output_by (length work.old) positions.old features.old warnings.old st) st.budget
+        × Fits (output_by (length work.old) positions.old features.old warnings.old (Ok st)) st.budget
         × LabelsFrom (payload s.now) from }
     ensures { Draws
         (items_of (entry_of kinds.now) cx 0 (items_at (payload s.now) 0) st.budget)
@@ -310,22 +275,17 @@ fn draw_items(
 {
     let mut state = st;
     let mut q = from;
+    // The items are followed by `next`, and counted for their feature lines.
     let mut i = 0usize;
-    loop {
-        if state.number != 0 {
-            return state;
-        }
-        let it = next_item(s, q);
-        if !it.some {
-            return state;
-        }
-        let entry = entry_of(kinds, it.kind);
+    while let Some(it) = next_item(s, q) {
+        let entry = entry_of(kinds, it.kind.number());
         state = draw_item(
             s, entry, cx, it, i as u32, work, positions, features, warnings, state,
-        );
+        )?;
         q = it.next;
         i += 1;
     }
+    Ok(state)
 }
 
 // Every item of the scene, all of which stand from a position on, by the kind table; then the warning that the
@@ -340,19 +300,18 @@ pub fn convert(
     features: &mut [u32],
     warnings: &mut [u32],
     st: State,
-) -> State
+) -> Result<State, Refusal>
     requires { (room s.now < 4294967295)
-        × Fits (output_by (length work.old) positions.old features.old warnings.old st) st.budget
+        × Fits (output_by (length work.old) positions.old features.old warnings.old (Ok st)) st.budget
         × LabelsFrom (payload s.now) from }
     ensures { Draws
         (convert_of (entry_of kinds.now) cx (items_at (payload s.now) 0) st.budget)
         work.old positions.old features.old warnings.old st
         work.new positions.new features.new warnings.new result }
 {
-    let r = draw_items(s, kinds, from, cx, work, positions, features, warnings, st);
-    let left = r.budget;
-    if !left.hit {
-        return r;
+    let r = draw_items(s, kinds, from, cx, work, positions, features, warnings, st)?;
+    if !r.budget.hit {
+        return Ok(r);
     }
-    warn(warnings, r, WARNING_ALLOWANCE_SPENT, 0)
+    warn(warnings, r, WarningKind::AllowanceSpent, 0)
 }

@@ -3,9 +3,9 @@ ghost use Rattle.std.specs.Prelude.{◌≡◌, List, ℕ};
 ghost use Rattle.scene.specs.Inner.Answers.{item_by};
 ghost use Rattle.convert.specs.Convert.{box_of, ellipse_of, circle_of, dot_of, shape_of, props_of};
 
-use geojson::SCREEN;
+use geojson::Placement;
 use kind_table::{is_not_drawn, is_on_screen};
-use records::{KIND_ARROW, KIND_BOX, KIND_CIRCLE, KIND_DOT, KIND_ELLIPSE, KIND_LINE, KIND_TEXT};
+use records::Kind;
 use scene::Item;
 use strokes::Props;
 
@@ -22,100 +22,74 @@ pub enum Shape {
     Nothing,
 }
 
+#[tactic(auto, unfolding(crate::specs::Convert::box_of, scene::specs::Inner::Answers::item_by))]
 fn box_of(it: Item) -> Shape
     ensures { (l : List ℕ) → result ≡ box_of (item_by l it) }
 {
-    if !it.at.some {
+    let (Some(c), Some(w), Some(h)) = (it.at, it.w, it.h) else {
         return Shape::Missing;
-    }
-    if !it.w.some {
-        return Shape::Missing;
-    }
-    if !it.h.some {
-        return Shape::Missing;
-    }
-    if !it.rad.some {
-        return Shape::Box(it.at.x, it.at.y, it.w.value, it.h.value, 0.0);
-    }
-    Shape::Box(it.at.x, it.at.y, it.w.value, it.h.value, it.rad.value)
+    };
+    Shape::Box(c.x, c.y, w, h, it.rad.unwrap_or(0.0))
 }
 
+#[tactic(auto, unfolding(crate::specs::Convert::ellipse_of, scene::specs::Inner::Answers::item_by))]
 fn ellipse_of(it: Item) -> Shape
     ensures { (l : List ℕ) → result ≡ ellipse_of (item_by l it) }
 {
-    if !it.at.some {
+    let (Some(c), Some(w), Some(h)) = (it.at, it.w, it.h) else {
         return Shape::Missing;
-    }
-    if !it.w.some {
-        return Shape::Missing;
-    }
-    if !it.h.some {
-        return Shape::Missing;
-    }
-    Shape::Ellipse(it.at.x, it.at.y, it.w.value, it.h.value)
+    };
+    Shape::Ellipse(c.x, c.y, w, h)
 }
 
+#[tactic(auto, unfolding(crate::specs::Convert::circle_of, scene::specs::Inner::Answers::item_by))]
 fn circle_of(it: Item) -> Shape
     ensures { (l : List ℕ) → result ≡ circle_of (item_by l it) }
 {
-    if !it.at.some {
+    let (Some(c), Some(r)) = (it.at, it.r) else {
         return Shape::Missing;
-    }
-    if !it.r.some {
-        return Shape::Missing;
-    }
-    Shape::Circle(it.at.x, it.at.y, it.r.value)
+    };
+    Shape::Circle(c.x, c.y, r)
 }
 
+#[tactic(auto, unfolding(crate::specs::Convert::dot_of, scene::specs::Inner::Answers::item_by))]
 fn dot_of(it: Item) -> Shape
     ensures { (l : List ℕ) → result ≡ dot_of (item_by l it) }
 {
-    if !it.at.some {
-        return Shape::Missing;
+    match it.at {
+        Some(c) => Shape::Dot(c.x, c.y),
+        None => Shape::Missing,
     }
-    Shape::Dot(it.at.x, it.at.y)
 }
 
 // By its kind, where the entry of its kind lets it be drawn.
+#[tactic(auto, unfolding(crate::specs::Convert::shape_of, scene::specs::Inner::Answers::item_by))]
 pub fn shape_of(it: Item, entry: u8) -> Shape
     ensures { (l : List ℕ) → result ≡ shape_of entry (item_by l it) }
 {
-    let k = it.kind;
     if is_not_drawn(it.hidden, entry) {
         return Shape::Nothing;
     }
-    if k == KIND_BOX {
-        return box_of(it);
+    match it.kind {
+        Kind::Box => box_of(it),
+        Kind::Circle => circle_of(it),
+        Kind::Ellipse => ellipse_of(it),
+        Kind::Text | Kind::Dot => dot_of(it),
+        Kind::Line | Kind::Arrow => Shape::Points,
+        Kind::Arc | Kind::Spline | Kind::Brace | Kind::Block => Shape::Paths,
     }
-    if k == KIND_CIRCLE {
-        return circle_of(it);
-    }
-    if k == KIND_ELLIPSE {
-        return ellipse_of(it);
-    }
-    if k == KIND_TEXT {
-        return dot_of(it);
-    }
-    if k == KIND_DOT {
-        return dot_of(it);
-    }
-    if k == KIND_LINE {
-        return Shape::Points;
-    }
-    if k == KIND_ARROW {
-        return Shape::Points;
-    }
-    Shape::Paths
 }
 
 // What its feature lines say of the i-th item, by the entry of its kind.
+#[tactic(auto, unfolding(crate::specs::Convert::props_of, scene::specs::Inner::Answers::item_by))]
 pub fn props_of(it: Item, i: u32, entry: u8) -> Props
     ensures { (l : List ℕ) → result ≡ props_of entry i (item_by l it) }
 {
-    let mut placement = 0u32;
-    if is_on_screen(it.screen, entry) {
-        placement = SCREEN;
-    }
+    let placement = if is_on_screen(it.screen, entry) {
+        Placement::Screen
+    } else {
+        Placement::Map
+    };
     Props {
         item: i,
         placement,

@@ -1,5 +1,5 @@
 -- The cases of `form_points` and `path_points_of`, as the code meets them. Assumes nothing.
-use Rattle.std.proofs.Common.{◌≡◌, ℕ, ◌+◌, ◌*◌, Bool, true, false, List, [], ◌∷◌}
+use Rattle.std.proofs.Common.{◌≡◌, ℕ, ◌+◌, ◌*◌, Bool, true, false, List, [], ◌∷◌, Option, Some, None}
 use native.Mathlib.Numerals.{unary_clauses}
 use lib.Ieee.{Float}
 use Rattle.budget.specs.declared.Budget.{Budget}
@@ -19,7 +19,7 @@ module _ (l : List ℕ) (p : Path) (tol : Float) (b : Budget) where
   form_line e = rw e
 
   -- a curve: its start, then its cubics
-  module _ {w w₁ : List Float} {at : ℕ} {r : PointCursor} {q : Point} (e : p.curve ≡ true) (start : q ≡ point_at l (p.start + 16 * 0)) (one : Written w w₁ at (without_draws (q ∷ []) b) r) where
+  module _ {q : Point} (e : p.curve ≡ true) (start : q ≡ point_at l (p.start + 16 * 0)) where
     abbrev cubics : Budget → Made
     cubics = cubics_of tol q (cubics_at l p.at p.count)
 
@@ -27,14 +27,14 @@ module _ (l : List ℕ) (p : Path) (tol : Float) (b : Budget) where
     unfolding form_points
     form_curve = rw (e, simp unary_clauses at start)
 
-    pub curve-short : r.ok ≡ false → Written w w₁ at (form_points tol (form_by l p) b) r
-    curve-short short = rw form_curve (join_short one cubics short)
+    pub curve-short : {w w₁ : List Float} {at : ℕ} → Written w w₁ at (without_draws (q ∷ []) b) None → Written w w₁ at (form_points tol (form_by l p) b) None
+    curve-short one = rw form_curve (join_short one cubics)
 
-    pub curve-done : {w₂ : List Float} {s : PointCursor} → r.ok ≡ true → Written w₁ w₂ r.at (cubics_of tol q (cubics_at l p.at p.count) r.budget) s
-        → Written w w₂ at (form_points tol (form_by l p) b) s
-    curve-done fits two = rw form_curve (join_done one cubics fits two)
+    pub curve-done : {w w₁ : List Float} {at : ℕ} {d : PointCursor} → Written w w₁ at (without_draws (q ∷ []) b) (Some d) → {w₂ : List Float} {s : Option PointCursor}
+        → Written w₁ w₂ d.at (cubics_of tol q (cubics_at l p.at p.count) d.budget) s → Written w w₂ at (form_points tol (form_by l p) b) s
+    curve-done one two = rw form_curve (join_done one cubics two)
 
 -- no room for the points: none for the ring
-pub path-short : {w w₁ : List Float} {at : ℕ} {m : Made} {r : PointCursor} (closed : Bool) → Written w w₁ at m r → r.ok ≡ false → Written w w₁ at (closed_if closed m) r
-path-short true one short = closed_short one short
-path-short false one short = one
+pub path-short : {w w₁ : List Float} {at : ℕ} {m : Made} (closed : Bool) → Written w w₁ at m None → Written w w₁ at (closed_if closed m) None
+path-short true one = closed_short one
+path-short false one = one

@@ -1,15 +1,12 @@
 -- The counts and cases of rings, as `ellipse_ring` and `box_ring` meet them. Assumes nothing.
-use Rattle.std.proofs.Common.{◌≡◌, ℕ, ◌*◌, ◌/◌, ◌≤◌, true, false, List, length, arith}
+use Rattle.std.proofs.Common.{◌≡◌, ℕ, ◌*◌, ◌/◌, ◌≤◌, true, false, arith}
 use lib.Ieee.{Float, binary64, div, le}
 use Rattle.elementary.specs.Constants as K
 use Rattle.budget.specs.declared.Budget.{Budget}
 use Rattle.budget.specs.declared.Taken.{Taken}
 use Rattle.budget.specs.Budget.{grant_of, take_of}
 use Rattle.values.specs.declared.Point.{Point}
-use Rattle.densify.specs.declared.append.PointCursor.{PointCursor}
-use Rattle.densify.specs.Densify.{Made, with_draw, close_ring_of, sharp_corners, rounded_corners, quarter_of, box_ring_of}
-use Rattle.densify.specs.Inner.Written.{Written}
-use Rattle.densify.specs.Laws.Writing.{next_in}
+use Rattle.densify.specs.Densify.{with_draw, close_ring_of, sharp_corners, rounded_corners, quarter_of, box_ring_of}
 use Rattle.densify.specs.Laws.Replay.{radius_of}
 use Rattle.densify.specs.Laws.Counts.{arc_within}
 
@@ -21,10 +18,6 @@ granted-most b want floor drawn = rw drawn (omega arith)
 pub quarter-most : (step scale r tol : Float) → quarter_of step scale r tol ≤ 1024
 unfolding quarter_of
 quarter-most step scale r tol = omega (arith, arc_within step scale r tol)
-
--- ---- what `close_ring` asks
-pub ring_in : {w w₁ : List Float} {at : ℕ} {m : Made} {r : PointCursor} → Written w w₁ at m r → r.ok ≡ true → (at ≤ r.at) × (r.at ≤ length w₁)
-ring_in one fits = (omega (arith, one.next fits), next_in one fits)
 
 -- ---- the two kinds of box
 module _ (step scale tol : Float) (c : Point) (w h rad : Float) (b : Budget) {r : Float} (e : r ≡ radius_of w h rad) where

@@ -19,13 +19,9 @@ module _ (tol : Float) (c : Block) (b : Budget) where
   ends_left zero bent few = refl
   ends_left (suc k) bent few = rw (bent, lt-ltb b.left 2 few)
 
-  pub halved : (depth : ℕ) → depth < 16 → flat_of tol c ≡ false → 2 ≤ b.left
-      → split_of (16 - depth) tol c b ≡ and_then (split_of (16 - (depth + 1)) tol (first_half c) b) (split_of (16 - (depth + 1)) tol (second_half c))
-  unfolding split_of
-  halved depth h bent more =
-      let fuel : 16 - depth ≡ suc (16 - (depth + 1)) = omega arith in
-      rw (fuel, bent, le-ltb b.left 2 more)
-
--- the measure of `pieces` falls at each call
-pub deeper : {d t : ℕ} → 16 - d ≡ t → d < 16 → 16 - (d + 1) < t
-deeper {d} {t} e h = omega arith
+pub halved : (tol : Float) (c : Block) (b : Budget) (depth : ℕ) → depth < 16 → flat_of tol c ≡ false → 2 ≤ b.left
+    → split_of (16 - depth) tol c b ≡ and_then (split_of (16 - (depth + 1)) tol (first_half c) b) (split_of (16 - (depth + 1)) tol (second_half c))
+unfolding split_of
+halved tol c b depth h bent more =
+    let fuel : 16 - depth ≡ suc (16 - (depth + 1)) = omega arith in
+    rw (fuel, bent, le-ltb b.left 2 more)

@@ -1,91 +1,88 @@
 // Points written into a lent slice, two floats each.
-ghost use Rattle.std.specs.Prelude.{◌≤◌, [], ◌∷◌, length};
-ghost use Rattle.densify.specs.Densify.{without_draws, leaf_of};
+ghost use Rattle.std.specs.Prelude.{◌≡◌, ℕ, ◌<◌, ◌≤◌, [], ◌∷◌, length};
+ghost use Rattle.densify.specs.Densify.{without_draws, leaf_of, round_to};
 ghost use Rattle.densify.specs.Inner.Written.{closing_in, Written};
+ghost use Rattle.values.specs.declared.Point.{Point};
 ghost use Rattle.values.specs.Inner.Points.{point_in};
 
 use budget::Budget;
 
-// Where the next point goes, what is left of the budget, and whether everything had room.
+// Where the next point goes, and what is left of the budget.
 #[derive(Clone, Copy)]
 pub struct PointCursor {
-    pub ok: bool,
     pub at: usize,
     pub budget: Budget,
 }
 
 // The end of a piece of a cubic: it draws one; a piece that is not flat with fewer than 2 left is cut short.
-pub fn leaf(flat: bool, p: [f64; 2], budget: Budget, work: &mut [f64], at: usize) -> PointCursor
+pub fn leaf(
+    flat: bool,
+    p: [f64; 2],
+    budget: Budget,
+    work: &mut [f64],
+    at: usize,
+) -> Option<PointCursor>
     requires { at ≤ length work.old }
     ensures { Written work.old work.new at (leaf_of flat (point_in p) budget) result }
 {
-    let left = budget.left;
-    let cut = !flat && left < 2;
+    let cut = !flat && budget.left < 2;
     let marked = Budget {
-        left,
         hit: budget.hit || cut,
+        ..budget
     };
-    let t = marked.take(1, 1);
-    let after = t.budget;
-    if work.len() - at < 2 {
-        return PointCursor {
-            ok: false,
-            at,
-            budget: after,
-        };
-    }
-    work[at] = p[0];
-    work[at + 1] = p[1];
-    PointCursor {
-        ok: true,
-        at: at + 2,
-        budget: after,
-    }
+    put_point(p[0], p[1], marked.take(1, 1).budget, work, at)
 }
 
-// One point more; it draws nothing.
-pub fn put_point(x: f64, y: f64, budget: Budget, work: &mut [f64], at: usize) -> PointCursor
+// One point more, where it has room; it draws nothing.
+pub fn put_point(x: f64, y: f64, budget: Budget, work: &mut [f64], at: usize) -> Option<PointCursor>
     requires { at ≤ length work.old }
     ensures { Written work.old work.new at
         (without_draws (record { x = x; y = y } ∷ []) budget) result }
 {
     if work.len() - at < 2 {
-        return PointCursor {
-            ok: false,
-            at,
-            budget,
-        };
+        return None;
     }
     work[at] = x;
     work[at + 1] = y;
-    PointCursor {
-        ok: true,
-        at: at + 2,
-        budget,
+    Some(PointCursor { at: at + 2, budget })
+}
+
+// n points more, each as `f` makes it of its number.
+pub fn put_points<F: Fn(usize) -> [f64; 2]>(
+    n: usize,
+    f: F,
+    budget: Budget,
+    work: &mut [f64],
+    at: usize,
+) -> Option<PointCursor>
+    requires callable { (k : ℕ) → k < n → F.pre f k }
+    requires within { at ≤ length work.old }
+    ensures { (g : ℕ → Point) → ((k : ℕ) (p : _) → k < n → F.post f k p → point_in p ≡ g k)
+        → Written work.old work.new at (without_draws (round_to g n) budget) result }
+{
+    let mut next = at;
+    for k in 0..n {
+        let p = f(k);
+        next = put_point(p[0], p[1], budget, work, next)?.at;
     }
+    Some(PointCursor { at: next, budget })
 }
 
 // Makes a ring of the points that stand from `from` to `at`: the first once more, unless the last equals it. By value:
 // -0.0 equals 0.0.
-pub fn close_ring(budget: Budget, work: &mut [f64], from: usize, at: usize) -> PointCursor
+pub fn close_ring(budget: Budget, work: &mut [f64], from: usize, at: usize) -> Option<PointCursor>
     requires { (from ≤ at) × (at ≤ length work.old) }
     ensures { Written work.old work.new at
         (without_draws (closing_in work.old from at) budget) result }
 {
-    let open = PointCursor {
-        ok: true,
-        at,
-        budget,
-    };
+    let open = PointCursor { at, budget };
     if at - from < 2 {
-        return open;
+        return Some(open);
     }
     let x = work[from];
     let y = work[from + 1];
-    if x == work[at - 2] {
-        if y == work[at - 1] {
-            return open;
-        }
+    if x == work[at - 2] && y == work[at - 1] {
+        return Some(open);
     }
     put_point(x, y, budget, work, at)
 }

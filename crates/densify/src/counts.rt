@@ -4,6 +4,7 @@ ghost use Rattle.densify.specs.Densify.{clamped, segment_parts, by_tolerance, ar
 
 use elementary::acos;
 use float::{abs, ceil, is_finite, max};
+use std::num::saturating_f64_to_usize;
 
 const PI: f64 = 3.141592653589793;
 
@@ -19,30 +20,19 @@ const MAX_RING_VERTICES: usize = 4096;
 const FEWEST_BY_TOLERANCE: f64 = 32.0;
 
 // The whole part of n as a count, held to low .. high; high for what is not finite.
+#[tactic(auto, unfolding(crate::specs::Densify::clamped))]
 fn clamp(n: f64, low: usize, high: usize) -> usize
-    requires { (1 ≤ low) × (low ≤ high) × (high ≤ 1048576) }
+    requires { low ≤ high }
     ensures { result ≡ clamped low high n }
 {
     if !is_finite(n) {
         return high;
     }
-    if !(1.0 <= n) {
-        return low;
-    }
-    if 1048576.0 <= n {
-        return high;
-    }
-    let k = std::num::truncating_f64_to_u64(n) as usize;
-    if k < low {
-        return low;
-    }
-    if k > high {
-        return high;
-    }
-    k
+    saturating_f64_to_usize(n).clamp(low, high)
 }
 
 // The parts of a segment so many metres long.
+#[tactic(auto, unfolding(crate::specs::Densify::segment_parts))]
 pub fn segment_parts(step: f64, metres: f64) -> usize
     ensures { result ≡ segment_parts step metres }
 {
@@ -53,19 +43,19 @@ pub fn segment_parts(step: f64, metres: f64) -> usize
 }
 
 // So many that the sagitta stays within `tol`.
+#[tactic(auto, unfolding(crate::specs::Densify::by_tolerance))]
 fn by_tolerance(r: f64, tol: f64) -> f64
     ensures { result ≡ by_tolerance r tol }
 {
-    if !(tol < r) {
-        return FEWEST_BY_TOLERANCE;
+    if tol < r && 0.0 < tol {
+        ceil(PI / acos(1.0 - tol / r))
+    } else {
+        FEWEST_BY_TOLERANCE
     }
-    if !(0.0 < tol) {
-        return FEWEST_BY_TOLERANCE;
-    }
-    ceil(PI / acos(1.0 - tol / r))
 }
 
 // The vertices of a full circle of this radius on the canvas.
+#[tactic(auto, unfolding(crate::specs::Densify::arc_vertices_of))]
 pub fn arc_vertices(step: f64, scale: f64, radius: f64, tol: f64) -> usize
     ensures { result ≡ arc_vertices_of step scale radius tol }
 {

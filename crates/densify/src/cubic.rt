@@ -1,5 +1,5 @@
 // A cubic split until it is flat.
-ghost use Rattle.std.specs.Prelude.{◌≡◌, ◌-◌, ◌≤◌, length, drop};
+ghost use Rattle.std.specs.Prelude.{◌≡◌, ◌-◌, ◌≤◌, length};
 ghost use Rattle.densify.specs.Densify.{dist_of, flat_of, mid_of, first_half, second_half, split_of, flatten_cubic_of};
 ghost use Rattle.densify.specs.Inner.Written.{block_in, Written};
 ghost use Rattle.values.specs.Inner.Points.{point_in};
@@ -15,6 +15,7 @@ const DEPTH: usize = 16;
 // No tolerance is below a billionth of an inch.
 const MIN_TOLERANCE: f64 = 0.000000001;
 
+#[tactic(auto, unfolding(crate::specs::Densify::mid_of))]
 fn mid(a: [f64; 2], b: [f64; 2]) -> [f64; 2]
     ensures { point_in result ≡ mid_of (point_in a) (point_in b) }
 {
@@ -22,11 +23,11 @@ fn mid(a: [f64; 2], b: [f64; 2]) -> [f64; 2]
 }
 
 // The distance of p from the chord.
+#[tactic(auto, unfolding(crate::specs::Densify::dist_of))]
 fn dist(b: [[f64; 2]; 4], p: [f64; 2]) -> f64
     ensures { result ≡ dist_of (block_in b) (point_in p) }
 {
-    let a = b[0];
-    let e = b[3];
+    let [a, _, _, e] = b;
     let vx = e[0] - a[0];
     let vy = e[1] - a[1];
     let px = p[0] - a[0];
@@ -38,49 +39,26 @@ fn dist(b: [[f64; 2]; 4], p: [f64; 2]) -> f64
     abs(px * vy - py * vx) / len
 }
 
+#[tactic(auto, unfolding(crate::specs::Densify::flat_of))]
 fn is_flat(b: [[f64; 2]; 4], tol: f64) -> bool
     ensures { result ≡ flat_of tol (block_in b) }
 {
-    let c1 = b[1];
-    let c2 = b[2];
-    max(dist(b, c1), dist(b, c2)) <= tol
+    max(dist(b, b[1]), dist(b, b[2])) <= tol
 }
 
 // De Casteljau's points of both halves, which share the middle one.
-fn halves(b: [[f64; 2]; 4]) -> [[f64; 2]; 7]
-    ensures { (block_in result ≡ first_half (block_in b)) × (block_in (drop 3 result) ≡ second_half (block_in b)) }
+#[tactic(auto, unfolding(crate::specs::Densify::first_half, crate::specs::Densify::second_half))]
+fn halves(b: [[f64; 2]; 4]) -> ([[f64; 2]; 4], [[f64; 2]; 4])
+    ensures { (block_in result.0 ≡ first_half (block_in b)) × (block_in result.1 ≡ second_half (block_in b)) }
 {
-    let p0 = b[0];
-    let c1 = b[1];
-    let c2 = b[2];
-    let p3 = b[3];
+    let [p0, c1, c2, p3] = b;
     let p01 = mid(p0, c1);
     let p12 = mid(c1, c2);
     let p23 = mid(c2, p3);
     let p012 = mid(p01, p12);
     let p123 = mid(p12, p23);
     let m = mid(p012, p123);
-    [p0, p01, p012, m, p123, p23, p3]
-}
-
-fn first_half(h: [[f64; 2]; 7]) -> [[f64; 2]; 4]
-    ensures { block_in result ≡ block_in h }
-{
-    let p0 = h[0];
-    let c1 = h[1];
-    let c2 = h[2];
-    let p3 = h[3];
-    [p0, c1, c2, p3]
-}
-
-fn second_half(h: [[f64; 2]; 7]) -> [[f64; 2]; 4]
-    ensures { block_in result ≡ block_in (drop 3 h) }
-{
-    let p0 = h[3];
-    let c1 = h[4];
-    let c2 = h[5];
-    let p3 = h[6];
-    [p0, c1, c2, p3]
+    ([p0, p01, p012, m], [m, p123, p23, p3])
 }
 
 // Both halves are one level deeper.
@@ -91,41 +69,29 @@ fn pieces(
     budget: Budget,
     work: &mut [f64],
     at: usize,
-) -> PointCursor
+) -> Option<PointCursor>
     requires { at ≤ length work.old }
     ensures { Written work.old work.new at
         (split_of (16 - depth) tol (block_in b) budget) result }
 {
     let flat = is_flat(b, tol);
-    let left = budget.left;
-    let end = b[3];
-    if depth >= DEPTH {
-        return leaf(flat, end, budget, work, at);
+    if depth >= DEPTH || flat || budget.left < 2 {
+        return leaf(flat, b[3], budget, work, at);
     }
-    if flat {
-        return leaf(flat, end, budget, work, at);
-    }
-    if left < 2 {
-        return leaf(flat, end, budget, work, at);
-    }
-    let h = halves(b);
-    let one = pieces(first_half(h), tol, depth + 1, budget, work, at);
-    if !one.ok {
-        return one;
-    }
-    let next = one.at;
-    let rest = one.budget;
-    pieces(second_half(h), tol, depth + 1, rest, work, next)
+    let (first, second) = halves(b);
+    let one = pieces(first, tol, depth + 1, budget, work, at)?;
+    pieces(second, tol, depth + 1, one.budget, work, one.at)
 }
 
 // A cubic flattened to within `tol`, a billionth at least: the points behind its start.
+#[tactic(auto, unfolding(crate::specs::Densify::flatten_cubic_of))]
 pub fn flatten_cubic(
     b: [[f64; 2]; 4],
     tol: f64,
     budget: Budget,
     work: &mut [f64],
     at: usize,
-) -> PointCursor
+) -> Option<PointCursor>
     requires { at ≤ length work.old }
     ensures { Written work.old work.new at (flatten_cubic_of tol (block_in b) budget) result }
 {

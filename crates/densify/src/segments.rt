@@ -4,12 +4,13 @@ ghost use Rattle.densify.specs.Densify.{without_draws, segment_want, along_of, s
 ghost use Rattle.densify.specs.Inner.Written.{Written};
 ghost use Rattle.values.specs.Inner.Points.{point_in, points_in};
 
-use crate::append::{PointCursor, put_point};
+use crate::append::{PointCursor, put_point, put_points};
 use crate::counts::segment_parts;
 use budget::Budget;
 use elementary::hypot;
 
 // How many vertices a segment wants: one for each of its parts.
+#[tactic(auto, unfolding(crate::specs::Densify::segment_want))]
 pub fn segment_want(step: f64, scale: f64, a: [f64; 2], b: [f64; 2]) -> usize
     ensures { result ≡ segment_want step scale (point_in a) (point_in b) }
 {
@@ -18,6 +19,7 @@ pub fn segment_want(step: f64, scale: f64, a: [f64; 2], b: [f64; 2]) -> usize
 }
 
 // The k-th of n points of the way from a to b.
+#[tactic(auto, unfolding(crate::specs::Densify::along_of))]
 pub fn along(a: [f64; 2], b: [f64; 2], k: usize, n: usize) -> [f64; 2]
     requires { (k < 4294967296) × (n < 4294967296) }
     ensures { point_in result ≡ along_of (point_in a) (point_in b) k n }
@@ -34,27 +36,21 @@ fn sample_segment(
     budget: Budget,
     out: &mut [f64],
     at: usize,
-) -> PointCursor
+) -> Option<PointCursor>
     requires { (n < 4294967295) × (at ≤ length out.old) }
     ensures { Written out.old out.new at
         (without_draws (samples_to (λ k. along_of (point_in a) (point_in b) k n) n) budget) result }
 {
-    let mut next = at;
-    let mut k = 1usize;
-    while k <= n {
-        let p = along(a, b, k, n);
-        let d = put_point(p[0], p[1], budget, out, next);
-        if !d.ok {
-            return d;
-        }
-        next = d.at;
-        k += 1;
-    }
-    PointCursor {
-        ok: true,
-        at: next,
+    put_points(
+        n,
+        |k|
+            requires { (k < n) × (n < 4294967295) }
+            ensures { point_in result ≡ along_of (point_in a) (point_in b) (k + 1) n }
+        { along(a, b, k + 1, n) },
         budget,
-    }
+        out,
+        at,
+    )
 }
 
 // The polyline whose points stand in `work` from `from` to `to`, densified to this step, on the canvas: each point is
@@ -68,50 +64,28 @@ pub fn densify_polyline(
     budget: Budget,
     out: &mut [f64],
     at: usize,
-) -> PointCursor
+) -> Option<PointCursor>
     requires { (from ≤ to) × (to ≤ length work.now) × (at ≤ length out.old) }
     ensures { Written out.old out.new at
         (densify_polyline_of step scale (points_in work.now from to) budget) result }
 {
     if to - from < 2 {
-        return PointCursor {
-            ok: true,
-            at,
-            budget,
-        };
+        return Some(PointCursor { at, budget });
     }
-    let mut ax = work[from];
-    let mut ay = work[from + 1];
-    let first = put_point(ax, ay, budget, out, at);
-    if !first.ok {
-        return first;
+    let mut a = [work[from], work[from + 1]];
+    let mut done = put_point(a[0], a[1], budget, out, at)?;
+    for k in 1..(to - from) / 2 {
+        let i = from + 2 * k;
+        let b = [work[i], work[i + 1]];
+        let t = done.budget.take(segment_want(step, scale, a, b), 1);
+        done = sample_segment(a, b, t.granted, t.budget, out, done.at)?;
+        a = b;
     }
-    let mut left = budget;
-    let mut next = first.at;
-    let mut i = from + 2;
-    while to - i >= 2 {
-        let bx = work[i];
-        let by = work[i + 1];
-        let want = segment_want(step, scale, [ax, ay], [bx, by]);
-        let taken = left.take(want, 1);
-        left = taken.budget;
-        let d = sample_segment([ax, ay], [bx, by], taken.granted, left, out, next);
-        if !d.ok {
-            return d;
-        }
-        next = d.at;
-        ax = bx;
-        ay = by;
-        i += 2;
-    }
-    PointCursor {
-        ok: true,
-        at: next,
-        budget: left,
-    }
+    Some(done)
 }
 
-// What such a polyline leaves of the budget where its positions are not written.
+// What such a polyline leaves of the budget where its positions are not written. A loop of its own: of a closure that
+// writes, the other's clause would have to follow the slice that it holds.
 pub fn spend_polyline(
     step: f64,
     scale: f64,
@@ -126,19 +100,13 @@ pub fn spend_polyline(
     if to - from < 2 {
         return budget;
     }
-    let mut ax = work[from];
-    let mut ay = work[from + 1];
+    let mut a = [work[from], work[from + 1]];
     let mut left = budget;
-    let mut i = from + 2;
-    while to - i >= 2 {
-        let bx = work[i];
-        let by = work[i + 1];
-        let want = segment_want(step, scale, [ax, ay], [bx, by]);
-        let taken = left.take(want, 1);
-        left = taken.budget;
-        ax = bx;
-        ay = by;
-        i += 2;
+    for k in 1..(to - from) / 2 {
+        let i = from + 2 * k;
+        let b = [work[i], work[i + 1]];
+        left = left.take(segment_want(step, scale, a, b), 1).budget;
+        a = b;
     }
     left
 }

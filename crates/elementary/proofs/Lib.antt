@@ -1,4 +1,5 @@
 -- What the functions' proofs share.
+pub mod Clamp
 pub mod Exponential
 pub mod Horner
 pub mod Quarters

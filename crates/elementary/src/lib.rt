@@ -1,25 +1,14 @@
 // The elementary functions of document 01, for every f64.
 #![tactic(auto)]
 
-ghost use Rattle.std.specs.Prelude.{◌≡◌, T};
+ghost use Rattle.std.specs.Prelude.{◌≡◌, T, map, [], ◌∷◌};
 ghost use Rattle.std.specs.Float.Ieee.Positive.{positive};
 ghost use Rattle.elementary.specs.Series.{series_of, even_of, odd_of, sine_table, cosine_table, logarithm_table, exponential_table, arctangent_table};
 ghost use Rattle.elementary.specs.Inner.Stages.{atan_first, atan_second, quadrupled, atan_third};
-ghost use Rattle.elementary.specs.Functions.{clamp_of, to_radians_of, to_degrees_of, hypot_of, rem_tau_of, quadrant_of, rest_of, sine_at, cosine_at, sin_of, cos_of, tan_of, ln_at, ln_of, two_to, exp_of, half_angle_of, atan_small, atan_nonneg, atan_of, angle_of, half_plane_of, atan2_of, acos_of};
+ghost use Rattle.elementary.specs.Functions.{to_radians_of, to_degrees_of, hypot_of, rem_tau_of, quadrant_of, rest_of, sine_at, cosine_at, sin_of, cos_of, tan_of, ln_at, ln_of, two_to, exp_of, half_angle_of, atan_small, atan_nonneg, atan_of, angle_of, half_plane_of, atan2_of, acos_of};
 ghost use Rattle.elementary.specs.Inner.Powers.{Small};
 
-const PI: f64 = 3.141592653589793;
-
-const FRAC_PI_2: f64 = 1.5707963267948966;
-
-const TAU: f64 = 6.283185307179586;
-
-const LN_2: f64 = 0.6931471805599453;
-
-// PI / 180 and 180 / PI.
-const RADIANS_PER_DEGREE: f64 = 0.017453292519943295;
-
-const DEGREES_PER_RADIAN: f64 = 57.29577951308232;
+use std::f64::consts::{FRAC_PI_2, LN_2, PI, TAU};
 
 // The largest argument of the exponential, and with a minus sign the least: others are clamped to these.
 const EXP_LIMIT: f64 = 700.0;
@@ -128,112 +117,72 @@ const ARCTANGENT: [f64; 12] = [
     1.0,
 ];
 
-// A series by Horner, from the highest term.
-fn series(t: &[f64], v: f64) -> f64
-    ensures { result ≡ series_of t.now v }
+// A series by Horner, from the highest term, at N values side by side: a term waits for the one before it, and not for
+// the other values.
+fn series<const N: usize>(t: &[f64], v: [f64; N]) -> [f64; N]
+    ensures { result ≡ map (series_of t.now) v.entry }
 {
-    if t.len() == 0 {
-        return 0.0;
-    }
-    let mut acc = t[0];
-    let mut i = 1;
-    while i < t.len() {
-        acc = acc * v + t[i];
-        i += 1;
+    let Some((first, rest)) = t.split_first() else {
+        return [0.0; N];
+    };
+    let mut acc = [*first; N];
+    for c in rest {
+        for k in 0..N {
+            acc[k] = acc[k] * v[k] + *c;
+        }
     }
     acc
-}
-
-// Two values that were worked out side by side.
-#[derive(Clone, Copy)]
-pub struct Both {
-    pub first: f64,
-    pub second: f64,
-}
-
-// A series at two values, side by side: a term waits for the one before it, and not for the other value.
-fn series_both(t: &[f64], v: f64, w: f64) -> Both
-    ensures { (result.first ≡ series_of t.now v) × (result.second ≡ series_of t.now w) }
-{
-    if t.len() == 0 {
-        return Both {
-            first: 0.0,
-            second: 0.0,
-        };
-    }
-    let mut first = t[0];
-    let mut second = t[0];
-    let mut i = 1;
-    while i < t.len() {
-        first = first * v + t[i];
-        second = second * w + t[i];
-        i += 1;
-    }
-    Both { first, second }
 }
 
 fn sine_series(u: f64) -> f64
     ensures { result ≡ odd_of sine_table u }
 {
     let t = SINE;
-    series(&t, u * u) * u
+    let [s] = series(&t, [u * u]);
+    s * u
 }
 
 fn cosine_series(u: f64) -> f64
     ensures { result ≡ even_of cosine_table u }
 {
     let t = COSINE;
-    series(&t, u * u)
+    let [s] = series(&t, [u * u]);
+    s
 }
 
 fn logarithm_series(s: f64) -> f64
     ensures { result ≡ odd_of logarithm_table s }
 {
     let t = LOGARITHM;
-    series(&t, s * s) * s
+    let [r] = series(&t, [s * s]);
+    r * s
 }
 
-fn exponential_series(u: f64) -> f64
-    ensures { result ≡ series_of exponential_table u }
+fn exponential_series<const N: usize>(u: [f64; N]) -> [f64; N]
+    ensures { result ≡ map (series_of exponential_table) u.entry }
 {
     let t = EXPONENTIAL;
     series(&t, u)
-}
-
-fn exponential_series_both(u: f64, v: f64) -> Both
-    ensures { (result.first ≡ series_of exponential_table u) × (result.second ≡ series_of exponential_table v) }
-{
-    let t = EXPONENTIAL;
-    series_both(&t, u, v)
 }
 
 fn arctangent_series(v: f64) -> f64
     ensures { result ≡ odd_of arctangent_table v }
 {
     let t = ARCTANGENT;
-    series(&t, v * v) * v
-}
-
-// v, or lo where v is below lo, or hi where v is above hi.
-fn clamp(lo: f64, hi: f64, v: f64) -> f64
-    ensures { result ≡ clamp_of lo hi v }
-{
-    if v < lo {
-        return lo;
-    }
-    if hi < v { hi } else { v }
+    let [s] = series(&t, [v * v]);
+    s * v
 }
 
 pub fn to_radians(x: f64) -> f64
     ensures { result ≡ to_radians_of x }
 {
-    x * RADIANS_PER_DEGREE
+    x.to_radians()
 }
 
 pub fn to_degrees(x: f64) -> f64
     ensures { result ≡ to_degrees_of x }
 {
-    x * DEGREES_PER_RADIAN
+    x.to_degrees()
 }
 
 pub fn hypot(x: f64, y: f64) -> f64
@@ -242,7 +191,8 @@ pub fn hypot(x: f64, y: f64) -> f64
     root::root(x * x + y * y)
 }
 
-// A quadrant, 0.0 to 3.0, and the angle that is left in it.
+// A quadrant, 0.0 to 3.0, and the angle that is left in it. The quadrant stays the float that took it off: an enum
+// would be made by the same tests.
 #[derive(Clone, Copy)]
 struct Reduced {
     q: f64,
@@ -261,6 +211,7 @@ fn reduce(t: f64) -> Reduced
     }
 }
 
+// Apart from `cosine_at`: its quarters follow in another order, and a table of both would be no plainer.
 fn sine_at(q: f64, u: f64) -> f64
     ensures { result ≡ sine_at q u }
 {
@@ -379,39 +330,31 @@ fn two_to(k: f64) -> f64
 pub fn exp(v: f64) -> f64
     ensures { result ≡ exp_of v }
 {
-    if v != v {
+    if v.is_nan() {
         return v;
     }
-    let w = clamp(-EXP_LIMIT, EXP_LIMIT, v);
+    let w = v.clamp(-EXP_LIMIT, EXP_LIMIT);
     let k = float::round(w / LN_2);
-    exponential_series(w - k * LN_2) * two_to(k)
+    let [s] = exponential_series([w - k * LN_2]);
+    s * two_to(k)
 }
 
-// The exponentials of two values, side by side.
-pub fn exp_both(v: f64, w: f64) -> Both
-    ensures { (result.first ≡ exp_of v) × (result.second ≡ exp_of w) }
+// The exponentials of two values, side by side. Apart from `exp`, since a NaN among the two leaves the other alone.
+pub fn exp_both(v: f64, w: f64) -> [f64; 2]
+    ensures { result ≡ exp_of v ∷ exp_of w ∷ [] }
 {
-    if v != v {
-        return Both {
-            first: v,
-            second: exp(w),
-        };
+    if v.is_nan() {
+        return [v, exp(w)];
     }
-    if w != w {
-        return Both {
-            first: exp(v),
-            second: w,
-        };
+    if w.is_nan() {
+        return [exp(v), w];
     }
-    let a = clamp(-EXP_LIMIT, EXP_LIMIT, v);
-    let b = clamp(-EXP_LIMIT, EXP_LIMIT, w);
+    let a = v.clamp(-EXP_LIMIT, EXP_LIMIT);
+    let b = w.clamp(-EXP_LIMIT, EXP_LIMIT);
     let k = float::round(a / LN_2);
     let l = float::round(b / LN_2);
-    let s = exponential_series_both(a - k * LN_2, b - l * LN_2);
-    Both {
-        first: s.first * two_to(k),
-        second: s.second * two_to(l),
-    }
+    let [s, r] = exponential_series([a - k * LN_2, b - l * LN_2]);
+    [s * two_to(k), r * two_to(l)]
 }
 
 // The tangent of half the angle whose tangent is v.
@@ -425,7 +368,8 @@ fn half_angle(v: f64) -> f64
 fn quadruple(w: f64) -> f64
     ensures { result ≡ quadrupled w }
 {
-    clamp(0.0, FRAC_PI_2, 4.0 * arctangent_series(w))
+    let a = 4.0 * arctangent_series(w);
+    a.clamp(0.0, FRAC_PI_2)
 }
 
 fn atan_small(v: f64) -> f64
@@ -439,7 +383,8 @@ fn atan_nonneg(v: f64) -> f64
     ensures { result ≡ atan_nonneg v }
 {
     if 1.0 < v {
-        return clamp(0.0, FRAC_PI_2, FRAC_PI_2 - atan_small(1.0 / v));
+        let a = FRAC_PI_2 - atan_small(1.0 / v);
+        return a.clamp(0.0, FRAC_PI_2);
     }
     atan_small(v)
 }
@@ -478,7 +423,8 @@ pub fn atan_third(w: f64) -> f64
     ensures { result ≡ atan_third w }
 {
     if w < 0.0 {
-        return clamp(0.0, FRAC_PI_2, FRAC_PI_2 - quadruple(-w));
+        let a = FRAC_PI_2 - quadruple(-w);
+        return a.clamp(0.0, FRAC_PI_2);
     }
     quadruple(w)
 }
@@ -503,7 +449,7 @@ fn half_plane(y: f64, x: f64) -> f64
 pub fn atan2(y: f64, x: f64) -> f64
     ensures { result ≡ atan2_of y x }
 {
-    if y != y {
+    if y.is_nan() {
         return y;
     }
     let b = half_plane(y, x);

@@ -1,5 +1,5 @@
 -- `fit` of the source's register.rs with its frame Mercator: the least-squares similarity through control points, worked out about a first anchor and again about the anchor found. Each sum runs in control order.
-use Rattle.std.specs.Prelude.{Bool, true, false, not, ◌&&◌, ◌||◌, List, [], ◌∷◌, map, length, pos, Float}
+use Rattle.std.specs.Prelude.{not, ◌&&◌, ◌||◌, List, [], ◌∷◌, map, length, pos, Float, Option, Some, None, if◌then◌else◌}
 use Rattle.std.specs.Float.{binary64}
 use Rattle.std.specs.Float.Ieee.{of_bits, of_int, neg, add, sub, mul, div, le, lt}
 use Rattle.std.specs.Float.Ieee.Scale.{finite}
@@ -63,39 +63,32 @@ unfoldable pub moments_of : Metres → ProjectedControl → List ProjectedContro
 moments_of a c [] s = s
 moments_of a c (m ∷ ms) s = moments_of a c ms (momented a c s m)
 
--- ---- one round
--- the points coincide on the canvas or on the Earth
-abbrev pub degenerate : Fit
-degenerate = record { some = false; lon = zero; lat = zero; x = zero; y = zero; scale = zero; bearing = zero }
-
-abbrev pub pick_fit : Bool → Fit → Fit → Fit
-pick_fit true f g = f
-pick_fit false f g = g
-
+-- ---- one round: none where the points coincide on the canvas or on the Earth
 -- A and B are the similarity's two numbers, on the plane about the anchor a with the centroids c
-unfoldable pub fit_at : Metres → ProjectedControl → Float → Float → Fit
+unfoldable pub fit_at : Metres → ProjectedControl → Float → Float → Option Fit
 fit_at a c A B =
     let scale = hypot_of A B in
     let anchor = mercator_inverse_of (record { x = add binary64 a.x c.e; y = add binary64 a.y c.n }) in
-    pick_fit (finite scale && lt zero scale)
-    (record { some = true; lon = anchor.lon; lat = anchor.lat; x = c.x; y = c.y; scale = scale; bearing = to_degrees_of (atan2_of (neg B) A) })
-    degenerate
+    if finite scale && lt zero scale then
+    Some (record { lon = anchor.lon; lat = anchor.lat; x = c.x; y = c.y; scale = scale; bearing = to_degrees_of (atan2_of (neg B) A) })
+    else None
 
-unfoldable pub solved_of : Metres → ProjectedControl → Moments → Fit
+unfoldable pub solved_of : Metres → ProjectedControl → Moments → Option Fit
 solved_of a c s =
-    pick_fit (le s.den zero || not (finite s.den)) degenerate (fit_at a c (div binary64 s.a s.den) (div binary64 s.b s.den))
+    if le s.den zero || not (finite s.den) then None else fit_at a c (div binary64 s.a s.den) (div binary64 s.b s.den)
 
-unfoldable pub round_of : Metres → List ProjectedControl → Fit
+unfoldable pub round_of : Metres → List ProjectedControl → Option Fit
 round_of a ms = let c = means_of a ms in solved_of a c (moments_of a c ms no_moments)
 
 -- ---- both rounds
-unfoldable pub again : Fit → List ProjectedControl → Fit
-again f ms = pick_fit f.some (round_of (mercator_forward_of (record { lon = f.lon; lat = f.lat })) ms) degenerate
+unfoldable pub again : Option Fit → List ProjectedControl → Option Fit
+again (Some f) ms = round_of (mercator_forward_of (record { lon = f.lon; lat = f.lat })) ms
+again None ms = None
 
 -- the first round is about the first point's position
-unfoldable pub fit_projected : List ProjectedControl → Fit
-fit_projected [] = degenerate
+unfoldable pub fit_projected : List ProjectedControl → Option Fit
+fit_projected [] = None
 fit_projected (m ∷ ms) = again (round_of (record { x = m.e; y = m.n }) (m ∷ ms)) (m ∷ ms)
 
-unfoldable pub fit_of : List Control → Fit
+unfoldable pub fit_of : List Control → Option Fit
 fit_of cs = fit_projected (map projected_of cs)

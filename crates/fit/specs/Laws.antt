@@ -1,5 +1,3 @@
 -- What callers may know of the fit.
 pub mod Bearing
 pub mod Fitted
-pub mod Fours
-pub mod Projected

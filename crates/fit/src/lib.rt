@@ -1,10 +1,9 @@
 // The fit of a similarity to control points, in two rounds, after the source's register.rs with its frame Mercator.
 #![tactic(auto)]
 
-ghost use Rattle.std.specs.Prelude.{◌≡◌, ◌+◌, ◌*◌, ◌≤◌, length, take, drop};
+ghost use Rattle.std.specs.Prelude.{◌≡◌, ◌≤◌, length, map, take};
 ghost use Rattle.fit.specs.Fit.{projected_of, no_sums, added, means_of, divided_by, no_moments, momented, moments_of};
-ghost use Rattle.fit.specs.Fit.{degenerate, fit_at, solved_of, round_of, fit_projected, fit_of};
-ghost use Rattle.fit.specs.Inner.Projected.{projected_in, all_projected_in, with_projected, projected_from};
+ghost use Rattle.fit.specs.Fit.{fit_at, solved_of, round_of, fit_projected, fit_of};
 
 use elementary::{atan2, hypot, to_degrees};
 use float::is_finite;
@@ -36,10 +35,9 @@ pub struct Moments {
     pub den: f64,
 }
 
-// What a fit found; `some` is false where the points are degenerate.
+// What a fit found: the anchor, the canvas point that sits there, metres an inch, and degrees clockwise from north.
 #[derive(Clone, Copy)]
 pub struct Fit {
-    pub some: bool,
     pub lon: f64,
     pub lat: f64,
     pub x: f64,
@@ -48,6 +46,7 @@ pub struct Fit {
     pub bearing: f64,
 }
 
+// The control point with its position projected.
 fn project_control(c: Control) -> ProjectedControl
     ensures { result ≡ projected_of c }
 {
@@ -102,59 +101,46 @@ fn add_moment(a: Metres, c: ProjectedControl, s: Moments, m: ProjectedControl) -
     }
 }
 
-fn no_fit() -> Fit
-    ensures { result ≡ degenerate }
-{
-    Fit {
-        some: false,
-        lon: 0.0,
-        lat: 0.0,
-        x: 0.0,
-        y: 0.0,
-        scale: 0.0,
-        bearing: 0.0,
-    }
-}
-
-// The similarity by its two numbers.
-fn fit_at(a: Metres, c: ProjectedControl, p: f64, q: f64) -> Fit
+// The similarity by its two numbers; none where the points coincide on the canvas or on the Earth.
+fn fit_at(a: Metres, c: ProjectedControl, p: f64, q: f64) -> Option<Fit>
     ensures { result ≡ fit_at a c p q }
 {
     let scale = hypot(p, q);
     if !is_finite(scale) {
-        return no_fit();
+        return None;
     }
     if !(0.0 < scale) {
-        return no_fit();
+        return None;
     }
     let m = Metres {
         x: a.x + c.e,
         y: a.y + c.n,
     };
     let anchor = mercator_inverse(m);
-    Fit {
-        some: true,
+    Some(Fit {
         lon: anchor.lon,
         lat: anchor.lat,
         x: c.x,
         y: c.y,
         scale,
         bearing: to_degrees(atan2(-q, p)),
-    }
+    })
 }
 
-fn solve(a: Metres, c: ProjectedControl, s: Moments) -> Fit
+// The similarity of these moments.
+fn solve(a: Metres, c: ProjectedControl, s: Moments) -> Option<Fit>
     ensures { result ≡ solved_of a c s }
 {
     if s.den <= 0.0 {
-        return no_fit();
+        return None;
     }
     if !is_finite(s.den) {
-        return no_fit();
+        return None;
     }
     fit_at(a, c, s.a / s.den, s.b / s.den)
 }
 
+// The sums of no point.
 fn no_sums() -> ProjectedControl
     ensures { result ≡ no_sums }
 {
@@ -166,6 +152,7 @@ fn no_sums() -> ProjectedControl
     }
 }
 
+// The moments of no point.
 fn no_moments() -> Moments
     ensures { result ≡ no_moments }
 {
@@ -176,118 +163,70 @@ fn no_moments() -> Moments
     }
 }
 
-// The k-th projected control point in a slice, four numbers each.
-fn projected_at(projected: &[f64], k: usize) -> ProjectedControl
-    requires { 4 * k + 4 ≤ length projected.now }
-    ensures { result ≡ projected_in projected.now k }
+// The control points with their positions projected, at the front: each is projected once. By index: `zip` over
+// `iter_mut` says nothing of the elements afterwards.
+fn project_controls(controls: &[Control], projected: &mut [ProjectedControl])
+    requires { length controls.now ≤ length projected.old }
+    ensures front { take (length controls.now) projected.new ≡ map projected_of controls.now }
+    ensures kept { length projected.new ≡ length projected.old }
 {
-    ProjectedControl {
-        x: projected[4 * k],
-        y: projected[4 * k + 1],
-        e: projected[4 * k + 2],
-        n: projected[4 * k + 3],
+    for (k, c) in controls.iter().enumerate() {
+        projected[k] = project_control(*c);
     }
 }
 
-// The control point c with its position projected, as the k-th.
-fn put_projected(projected: &mut [f64], k: usize, c: Control)
-    requires { 4 * k + 4 ≤ length projected.old }
-    ensures { projected.new ≡ with_projected projected.old k (projected_of c) }
-{
-    let m = project_control(c);
-    projected[4 * k] = m.x;
-    projected[4 * k + 1] = m.y;
-    projected[4 * k + 2] = m.e;
-    projected[4 * k + 3] = m.n;
-}
-
-// The control points from i on, with their positions projected: each is projected once.
-pub fn project_from(controls: &[Control], i: usize, projected: &mut [f64])
-    requires { (length controls.now ≤ 64) × (4 * length controls.now ≤ length projected.old) }
-    ensures { projected.new
-        ≡ projected_from projected.old i (drop i controls.now) }
-{
-    if i < controls.len() {
-        let c = controls[i];
-        put_projected(projected, i, c);
-        project_from(controls, i + 1, projected);
-        return;
-    } else {
-        return;
-    }
-}
-
-// The first n of an array of control points, with their positions projected.
-fn project_controls(at: [Control; 64], n: usize, projected: &mut [f64])
-    requires { (n ≤ 64) × (4 * n ≤ length projected.old) }
-    ensures { projected.new ≡ projected_from projected.old 0 (take n at) }
-{
-    project_from(&at[..n], 0, projected)
-}
-
-// The centroids of n projected control points, about the anchor a.
-fn means_of(a: Metres, projected: &[f64], n: usize) -> ProjectedControl
-    requires { (n ≤ 64) × (4 * n ≤ length projected.now) }
-    ensures { result ≡ means_of a (all_projected_in projected.now n) }
+// The centroids of projected control points, about the anchor a.
+fn means_of(a: Metres, projected: &[ProjectedControl]) -> ProjectedControl
+    requires { length projected.now ≤ 64 }
+    ensures { result ≡ means_of a projected.now }
 {
     let mut s = no_sums();
-    let mut k = 0usize;
-    while k < n {
-        s = add_control(a, s, projected_at(projected, k));
-        k += 1;
+    for m in projected {
+        s = add_control(a, s, *m);
     }
-    divide(s, n as f64)
+    divide(s, projected.len() as f64)
 }
 
-// The moments of n projected control points, about the anchor a and the centroids c.
-fn moments_of(a: Metres, c: ProjectedControl, projected: &[f64], n: usize) -> Moments
-    requires { 4 * n ≤ length projected.now }
-    ensures { result ≡ moments_of a c (all_projected_in projected.now n) no_moments }
+// The moments of projected control points, about the anchor a and the centroids c.
+fn moments_of(a: Metres, c: ProjectedControl, projected: &[ProjectedControl]) -> Moments
+    ensures { result ≡ moments_of a c projected.now no_moments }
 {
     let mut s = no_moments();
-    let mut k = 0usize;
-    while k < n {
-        s = add_moment(a, c, s, projected_at(projected, k));
-        k += 1;
+    for m in projected {
+        s = add_moment(a, c, s, *m);
     }
     s
 }
 
 // One round, about the anchor a.
-fn fit_about(a: Metres, projected: &[f64], n: usize) -> Fit
-    requires { (n ≤ 64) × (4 * n ≤ length projected.now) }
-    ensures { result ≡ round_of a (all_projected_in projected.now n) }
+fn fit_about(a: Metres, projected: &[ProjectedControl]) -> Option<Fit>
+    requires { length projected.now ≤ 64 }
+    ensures { result ≡ round_of a projected.now }
 {
-    let c = means_of(a, projected, n);
-    solve(a, c, moments_of(a, c, projected, n))
+    let c = means_of(a, projected);
+    solve(a, c, moments_of(a, c, projected))
 }
 
 // Both rounds: the first is about the first point's position.
-fn fit_projected(projected: &[f64], n: usize) -> Fit
-    requires { (n ≤ 64) × (4 * n ≤ length projected.now) }
-    ensures { result ≡ fit_projected (all_projected_in projected.now n) }
+fn fit_projected(projected: &[ProjectedControl]) -> Option<Fit>
+    requires { length projected.now ≤ 64 }
+    ensures { result ≡ fit_projected projected.now }
 {
-    if n == 0 {
-        return no_fit();
-    }
-    let m = projected_at(projected, 0);
-    let f = fit_about(Metres { x: m.e, y: m.n }, projected, n);
-    if !f.some {
-        return no_fit();
-    }
+    let m = projected.first()?;
+    let f = fit_about(Metres { x: m.e, y: m.n }, projected)?;
     let at = LonLat {
         lon: f.lon,
         lat: f.lat,
     };
-    fit_about(mercator_forward(at), projected, n)
+    fit_about(mercator_forward(at), projected)
 }
 
-// The fit to the first n of an array of control points.
-pub fn fit_points(at: [Control; 64], n: usize) -> Fit
-    requires { n ≤ 64 }
-    ensures { result ≡ fit_of (take n at) }
+// The fit to control points, of which there are 64 at most.
+pub fn fit_points(controls: &[Control]) -> Option<Fit>
+    requires { length controls.now ≤ 64 }
+    ensures { result ≡ fit_of controls.now }
 {
-    let mut projected = [0.0f64; 256];
-    project_controls(at, n, &mut projected);
-    fit_projected(&projected, n)
+    let mut projected = [no_sums(); 64];
+    project_controls(controls, &mut projected);
+    fit_projected(&projected[..controls.len()])
 }

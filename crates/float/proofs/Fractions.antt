@@ -8,7 +8,7 @@ use native.Mathlib.Nat.{le_trans, le_of_eq, le_of_suc-le-suc, lt_of_lt_of_le, lt
 use native.Mathlib.Omega.{arith}
 use lib.Dec.{T, leb, eqb, leb→le, nleb→lt, ltb→lt, nltb→le, lit<, lit≤}
 use lib.Pow.{pow-add, pow_pos, pow_mono}
-use lib.Ieee.{Float, nan, inf, fin, binary64, up, down, round, lt, ne, fits, is_nan, of_fields, of_bits, to_bits, nan_bits}
+use lib.Ieee.{Float, nan, inf, fin, binary64, up, down, round, lt, fits, is_nan, of_fields, of_bits, to_bits, nan_bits}
 use lib.Ieee.Fits.{down_pos, round-fits}
 use lib.Ieee.Exact.{HasValue}
 use lib.Ieee.Back.{round_whole}
@@ -299,13 +299,10 @@ ceil_small b h k =
     is_one = unfold of_bits round in refl
 
 -- ---- the argument and its pattern
-pub nan_own : {g : Float → Float} {r : Rule} → ByRule g r → (x : Float) → ne x x ≡ true → x ≡ g x
+pub nan_own : {g : Float → Float} {r : Rule} → ByRule g r → (x : Float) → is_nan x ≡ true → x ≡ g x
 nan_own {g} R x h =
-    let e : x ≡ nan = differs_from_itself x (yes _ h) in
+    let e : x ≡ nan = differs_from_itself x (yes _ (sym (nan_test x) ∙ h)) in
     e ∙ sym (R.is nan) ∙ ap g (sym e)
-
-pub a_number : (x : Float) → ne x x ≡ false → T (not (is_nan x))
-a_number x h = subst (λ (b : Bool). T (not b)) (sym (nan_test x ∙ h)) tt
 
 module _ (x : Float) (held : fits binary64 x ≡ true) where
   abbrev b : ℕ

@@ -23,56 +23,52 @@ const SMALLEST: u64 = 1076;
 
 const FIELD_ZERO: u64 = 1075;
 
-// The size of a value. 0.0 - x gives +0.0 for either zero.
+// The size of a value.
 pub fn abs(x: f64) -> f64
     ensures { result ≡ abs_of x }
 {
-    if x <= 0.0 { 0.0 - x } else { x }
+    x.abs()
 }
 
-// The larger of two. A NaN loses to the other operand; where both compare equal, x.
+// The larger of two. A NaN loses to the other operand; where both compare equal, x: f64::max leaves open which.
 pub fn max(x: f64, y: f64) -> f64
     ensures { result ≡ max_of x y }
 {
-    if x != x {
+    if x.is_nan() {
         return y;
     }
     if x < y { y } else { x }
 }
 
-// The smaller of two. A NaN loses to the other operand; where both compare equal, x.
+// The smaller of two. A NaN loses to the other operand; where both compare equal, x: f64::min leaves open which.
 pub fn min(x: f64, y: f64) -> f64
     ensures { result ≡ min_of x y }
 {
-    if x != x {
+    if x.is_nan() {
         return y;
     }
     if y < x { y } else { x }
 }
 
-// Neither an infinity nor a NaN: those give a NaN here.
+// Neither an infinity nor a NaN.
 pub fn is_finite(x: f64) -> bool
     ensures { result ≡ finite x }
 {
-    x * 0.0 == 0.0
+    x.is_finite()
 }
 
 // Whether both are one value: 0.0 and -0.0 are two, and a NaN is never one with another.
 pub fn same_value(a: f64, b: f64) -> bool
     ensures { (result ≡ true → a ≡ b) × (is_nan a ≡ false → a ≡ b → result ≡ true) }
 {
-    if a == b {
-        return f64::to_bits(a) == f64::to_bits(b);
-    }
-    false
+    a == b && a.to_bits() == b.to_bits()
 }
 
 // `%`, plus 360 where that is negative.
 pub fn rem_euclid_360(x: f64) -> f64
     ensures { result ≡ rem_euclid360_of x }
 {
-    let r = x % 360.0;
-    if r < 0.0 { r + 360.0 } else { r }
+    x.rem_euclid(360.0)
 }
 
 // The number m * 2^e.

@@ -1,19 +1,16 @@
 // Web Mercator, EPSG:3857, after the source's geodesy.rs.
 #![tactic(auto)]
 
-ghost use Rattle.std.specs.Prelude.{◌≡◌};
+ghost use Rattle.std.specs.Prelude.{◌≡◌, [], ◌∷◌};
 ghost use Rattle.geodesy.specs.Geodesy.{normalize_lon_of, mercator_forward_of, mercator_inverse_of};
 ghost use Rattle.geodesy.specs.Inner.Stages.{longitude_of, exp_ordinate_of, latitude_of};
 
-use elementary::{Both, atan, exp, exp_both, ln, tan, to_degrees, to_radians};
+use elementary::{atan, exp, exp_both, ln, tan, to_degrees, to_radians};
 use float::rem_euclid_360;
+use std::f64::consts::{FRAC_PI_2, FRAC_PI_4};
 
 // The radius of the projection's sphere, in metres.
 const MERCATOR_RADIUS: f64 = 6378137.0;
-
-const FRAC_PI_2: f64 = 1.5707963267948966;
-
-const FRAC_PI_4: f64 = 0.7853981633974483;
 
 // A WGS84 position, in degrees.
 #[repr(C)]
@@ -65,9 +62,10 @@ pub fn exp_ordinate(y: f64) -> f64
     exp(y / MERCATOR_RADIUS)
 }
 
-// The exponentials of two ordinates over the radius, side by side.
-pub fn exp_ordinate_both(y: f64, z: f64) -> Both
-    ensures { (result.first ≡ exp_ordinate_of y) × (result.second ≡ exp_ordinate_of z) }
+// The exponentials of two ordinates over the radius, side by side. Apart from `exp_ordinate`, as `exp_both` is from
+// `exp`.
+pub fn exp_ordinate_both(y: f64, z: f64) -> [f64; 2]
+    ensures { result ≡ exp_ordinate_of y ∷ exp_ordinate_of z ∷ [] }
 {
     exp_both(y / MERCATOR_RADIUS, z / MERCATOR_RADIUS)
 }

@@ -2,4 +2,3 @@
 pub mod Rfc7946
 pub mod Features
 pub mod Inner
-pub mod Laws

@@ -2,19 +2,57 @@
 #![tactic(auto)]
 
 ghost use Rattle.std.specs.Prelude.{◌≡◌, ◌+◌, ◌≤◌, length, leb};
-ghost use Rattle.geojson.specs.Inner.Features.{FeatureWritten};
+ghost use Rattle.geojson.specs.Inner.Features.{geometry_of, role_of, feature_by, FeatureWritten};
+ghost use Rattle.geojson.specs.Features.{placement_of};
 
-// Geometries.
-pub const POINT: u32 = 0;
+// What a feature's positions are.
+#[derive(Clone, Copy, Debug, PartialEq, Eq)]
+pub enum Geometry {
+    Point = 0,
+    Line = 1,
+    Polygon = 2,
+}
 
-pub const LINE: u32 = 1;
+impl Geometry {
+    // Its number in a feature line.
+    pub fn number(self) -> u32
+        ensures { result ≡ geometry_of self }
+    {
+        self as u32
+    }
+}
 
-pub const POLYGON: u32 = 2;
+// Whether a feature is drawn as it stands, or is a separate fill.
+#[derive(Clone, Copy, Debug, PartialEq, Eq)]
+pub enum Role {
+    Drawn = 0,
+    Fill = 1,
+}
 
-// The role of a separate fill, and the placement on the screen; any other role or placement is 0.
-pub const FILL: u32 = 1;
+impl Role {
+    // Its number in a feature line.
+    pub fn number(self) -> u32
+        ensures { result ≡ role_of self }
+    {
+        self as u32
+    }
+}
 
-pub const SCREEN: u32 = 1;
+// Where a feature is placed.
+#[derive(Clone, Copy, Debug, PartialEq, Eq)]
+pub enum Placement {
+    Map = 0,
+    Screen = 1,
+}
+
+impl Placement {
+    // Its number in a feature line.
+    pub fn number(self) -> u32
+        ensures { result ≡ placement_of self }
+    {
+        self as u32
+    }
+}
 
 // A feature line is so many numbers.
 pub const FEATURE_WORDS: usize = 6;
@@ -23,9 +61,9 @@ pub const FEATURE_WORDS: usize = 6;
 #[derive(Clone, Copy)]
 pub struct Feature {
     pub item: u32,
-    pub geometry: u32,
-    pub role: u32,
-    pub placement: u32,
+    pub geometry: Geometry,
+    pub role: Role,
+    pub placement: Placement,
     pub part: u32,
     pub count: u32,
 }
@@ -34,16 +72,19 @@ pub struct Feature {
 pub fn write_feature(out: &mut [u32], at: usize, f: Feature) -> bool
     requires { at ≤ length out.old }
     ensures value { result ≡ leb (at + 6) (length out.old) }
-    ensures feature_written { FeatureWritten out.old out.new at f }
+    ensures feature_written { FeatureWritten out.old out.new at (feature_by f) }
 {
     if out.len() - at < FEATURE_WORDS {
         return false;
     }
-    out[at] = f.item;
-    out[at + 1] = f.geometry;
-    out[at + 2] = f.role;
-    out[at + 3] = f.placement;
-    out[at + 4] = f.part;
-    out[at + 5] = f.count;
+    let words = [
+        f.item,
+        f.geometry.number(),
+        f.role.number(),
+        f.placement.number(),
+        f.part,
+        f.count,
+    ];
+    out[at..at + FEATURE_WORDS].copy_from_slice(&words);
     true
 }

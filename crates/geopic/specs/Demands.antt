@@ -1,5 +1,5 @@
 -- The three demands, as theorems about every stream s, every kind table, every tier and whatever slices are lent with it (t), and what the changes of document 02 promise. The contract of `geopic_place` says that its answer is `answer_of s kinds tier t` and that the slices then hold `buffers_after s kinds tier t`; both are read off one list of events, `trace_of`.
-use Rattle.std.specs.Prelude.{ℕ, suc, ◌*◌, ◌^◌, ◌≤◌, ◌≡◌, refl, true, false, not, ◌||◌, cond, List, ◌∷◌, ℤ, T, eqb, Float, length, drop}
+use Rattle.std.specs.Prelude.{ℕ, suc, ◌*◌, ◌^◌, ◌≤◌, ◌≡◌, refl, true, false, not, ◌||◌, cond, List, ◌∷◌, ℤ, T, eqb, Float, length, drop, Some}
 use Rattle.std.proofs.Common.{sym, ◌∙◌}
 use Rattle.std.specs.Float.{fin, binary64}
 use Rattle.std.specs.Float.Ieee.{fits, round, lt}
@@ -8,7 +8,6 @@ use Rattle.root.specs.Digits.{digits_of, worked_out}
 use Rattle.root.proofs.Laws.SingleDigits.{single_digits}
 use Rattle.stream.specs.Conditions.{first_of, NoneHolds}
 use Rattle.stream.specs.Payload.{payload}
-use Rattle.stream.specs.declared.Float64.TheVariants.{Finite}
 use Rattle.records.specs.Walk.{entries}
 use Rattle.records.specs.Search.{records_of}
 use Rattle.records.specs.Values.{float_or, hundred, one, thousand, step_in}
@@ -28,6 +27,7 @@ use Rattle.densify.specs.Draws.{draws_of, Granted, fell_short}
 use Rattle.densify.specs.Laws.Counts.{parts_within, arc_within}
 use Rattle.densify.specs.Laws.Sizes.{quarter_within}
 use Rattle.strokes.specs.declared.state.Ctx.{Ctx}
+use Rattle.geojson.specs.Features.{placement_of}
 use Rattle.strokes.specs.Strokes.{draws_in}
 use Rattle.strokes.specs.Features.{AllWellFormed, positions_in, features_in, warnings_in, features_at, warnings_at, any_of_kind}
 use Rattle.convert.specs.Convert.{shape_of, props_of, items_of}
@@ -127,13 +127,13 @@ pub change_iii : (m : ℕ) (e : ℤ) → T (fits binary64 (fin false (suc m) e))
 change_iii m e f = single_digits m e f
 
 -- 02, iv. A stream is drawn with the step of option 7, 100 where it is absent ..
-pub change_iv : (s : List ℕ) → (ctx_of (scene_of (payload s))).step ≡ value_of (float_or (records_of 2 7 (entries (payload s) 0)) (Finite hundred))
+pub change_iv : (s : List ℕ) → (ctx_of (scene_of (payload s))).step ≡ value_of (float_or (records_of 2 7 (entries (payload s) 0)) (Some hundred))
 unfolding scene_of step_in
 change_iv s = refl
 
 -- .. which is finite, not below 1 and not above 1,000 in one that is accepted ..
 pub change_iv_bounds : (s kinds : List ℕ) (tier : ℕ) (t : Buffers) → (answer_of s kinds tier t).number ≡ 0 →
-    (step_in (payload s) ≡ Finite (scene_of (payload s)).step) × (lt (scene_of (payload s)).step one ≡ false) × (lt thousand (scene_of (payload s)).step ≡ false)
+    (step_in (payload s) ≡ Some (scene_of (payload s)).step) × (lt (scene_of (payload s)).step one ≡ false) × (lt thousand (scene_of (payload s)).step ≡ false)
 change_iv_bounds s kinds tier t h = scene-step s kinds tier t h
 
 -- .. and under any step the old caps and floors hold: 1 to 100,000 parts of a segment, 32 to 4,096 vertices of a full curve, two or more of a quarter
@@ -205,7 +205,7 @@ pub change_vi_registration : (s kinds kinds' : List ℕ) (tier tier' : ℕ) (t t
 change_vi_registration s kinds kinds' tier tier' t t' h h' = rw (answer-is s kinds tier t h, answer-is s kinds' tier' t' h') (refl, refl)
 
 -- What is drawn has the shape of its kind by either other entry, and is on the screen if it is of a screen class or its kind's entry is 1, and only then.
-pub change_vi_placement : (it : DrawnItem) → (shape_of 0 it ≡ shape_of 1 it) × ((e i : ℕ) → (props_of e i it).placement ≡ cond (it.screen || eqb e 1) 1 0)
+pub change_vi_placement : (it : DrawnItem) → (shape_of 0 it ≡ shape_of 1 it) × ((e i : ℕ) → placement_of (props_of e i it).placement ≡ cond (it.screen || eqb e 1) 1 0)
 change_vi_placement it = (same_shape it, λ e i. placement_is e i it)
 
 -- The built-in table can be used, and says of each kind what the Rust's fixed rule does: block is not drawn, text and dot are on the screen, the rest is geographic.

@@ -3,20 +3,21 @@
 #![tactic(auto)]
 
 ghost use Rattle.std.specs.Prelude.{◌≡◌};
+ghost use Rattle.values.specs.Inner.Refusals.{number_by};
 ghost use Rattle.stream.specs.Conditions.{first_of};
 ghost use Rattle.kind_table.specs.KindTable.{entry_of, not_drawn, on_screen, any_above, of_kind_table};
 
-use records::KIND_BLOCK;
+use records::Kind;
+use values::Refusal;
 
 // A table has an entry for each kind.
 const KINDS: usize = 11;
 
-// What an entry can say beside 0, which is geographic.
+// What an entry can say beside 0, which is geographic. Bytes and no enum: `entry_of` promises what the host's table
+// has, whatever it is.
 const SCREEN: u8 = 1;
 
 const NOT_DRAWN: u8 = 2;
-
-const REFUSED_KIND_TABLE: u32 = 20;
 
 // A kind that the table has no entry for is not drawn.
 pub fn entry_of(kinds: &[u8], kind: u8) -> u8
@@ -27,6 +28,7 @@ pub fn entry_of(kinds: &[u8], kind: u8) -> u8
 }
 
 // Of an item by its flag, and the entry of its kind.
+#[tactic(auto, unfolding(crate::specs::KindTable::not_drawn))]
 pub fn is_not_drawn(hidden: bool, entry: u8) -> bool
     ensures { result ≡ not_drawn hidden entry }
 {
@@ -34,6 +36,7 @@ pub fn is_not_drawn(hidden: bool, entry: u8) -> bool
 }
 
 // Of an item by its class, and the entry of its kind.
+#[tactic(auto, unfolding(crate::specs::KindTable::on_screen))]
 pub fn is_on_screen(class: bool, entry: u8) -> bool
     ensures { result ≡ on_screen class entry }
 {
@@ -44,29 +47,18 @@ pub fn is_on_screen(class: bool, entry: u8) -> bool
 fn is_any_above(kinds: &[u8]) -> bool
     ensures { result ≡ any_above kinds.now }
 {
-    let n = kinds.len();
-    let mut k = 0usize;
-    while k < n {
-        if kinds[k] > NOT_DRAWN {
-            return true;
-        }
-        k += 1;
-    }
-    false
+    kinds.iter().any(|e| *e > NOT_DRAWN)
 }
 
-// The number that refuses a table, 0 for one that can be used.
-pub fn table_refusal(kinds: &[u8]) -> u32
-    ensures { result ≡ first_of (of_kind_table kinds.now) }
+// Condition 20: whether the table can be used.
+pub fn check_table(kinds: &[u8]) -> Result<(), Refusal>
+    ensures { number_by result ≡ first_of (of_kind_table kinds.now) }
 {
-    if kinds.len() != KINDS {
-        return REFUSED_KIND_TABLE;
+    if kinds.len() != KINDS
+        || is_any_above(kinds)
+        || entry_of(kinds, Kind::Block as u8) != NOT_DRAWN
+    {
+        return Err(Refusal::KindTable);
     }
-    if is_any_above(kinds) {
-        return REFUSED_KIND_TABLE;
-    }
-    if entry_of(kinds, KIND_BLOCK) != NOT_DRAWN {
-        return REFUSED_KIND_TABLE;
-    }
-    0
+    Ok(())
 }

@@ -1,17 +1,18 @@
 -- The search by halves, and an entry put in.
 use mathlib.Core.Path.{◌≡◌, refl, sym, ap, ◌∙◌}
 use mathlib.Core.Logic.{◌⊎◌, inl, inr}
-use mathlib.Core.Bool.{true, false, true≢false}
+use mathlib.Core.Bool.{true}
 use mathlib.Core.List.{List}
 use Prim.Native.Nat.{ℕ, ◌+◌, ◌-◌, ◌%◌, ◌≤◌, ◌<◌}
 use native.Mathlib.Decide.{dec_lt}
 use native.Mathlib.Omega.{arith}
 use lib.ListN.{length, get_or, set, length-set}
 use lib.Seq.{get_or-set_same, get_or-set_other}
+use Rattle.std.specs.List.{CopiedTo, SameBelow}
 use Rattle.records.specs.Layout.{before}
 use Rattle.records.specs.Records.{bytes_at}
 use Rattle.scene.specs.Laws.Rising.{before_trans}
-use Rattle.names.specs.Inner.Table.{name_at, name_of, key_of, NameFits, NewName, Table, Contains, Gap, Searched, ShiftedUp, Inserted}
+use Rattle.names.specs.Inner.Table.{name_at, name_of, key_of, NameFits, NewName, Table, Contains, Gap, Inserted}
 
 -- ---- x belongs from lo to hi
 pub record Between (more : ℕ) (l t : List ℕ) (n : ℕ) (x : List ℕ) (lo hi : ℕ) : Type 0 where
@@ -24,23 +25,7 @@ module _ (more : ℕ) (l t : List ℕ) (n : ℕ) (x : List ℕ) where
   abbrev k : ℕ → List ℕ
   k i = key_of (name_of more l (get_or t i 0))
 
-  pub between-all : Between more l t n x 0 n
-  between-all = record { order = omega arith; within = omega arith; low = λ i h. absurd (omega arith); high = λ i h m. absurd (omega arith) }
-
-  pub between_none : (lo hi : ℕ) → Between more l t n x lo hi → hi ≤ lo → Searched more l t n x false lo
-  between_none lo hi b h =
-      let o = b.order in
-      let w = b.within in
-      record {
-        within = λ e. absurd (true≢false (sym e));
-        is = λ e. absurd (true≢false (sym e));
-        gap = λ e. record { within = omega arith; low = b.low; high = λ i m j. b.high i (omega arith) j };
-      }
-
   module _ (tab : Table more l t n) (mid : ℕ) (inside : mid < n) where
-    pub between_hit : name_of more l (get_or t mid 0) ≡ x → Searched more l t n x true mid
-    between_hit e = record { within = λ h. inside; is = λ h. e; gap = λ h. absurd (true≢false h) }
-
     module _ (lo hi : ℕ) (b : Between more l t n x lo hi) where
       pub between_up : mid < hi → before (k mid) (key_of x) ≡ true → Between more l t n x (mid + 1) hi
       between_up h e =
@@ -66,26 +51,18 @@ module _ (more : ℕ) (l t : List ℕ) (n : ℕ) (x : List ℕ) where
             ];
           }
 
--- ---- entries move up
-pub opened_none : (t : List ℕ) (n : ℕ) → ShiftedUp t t n n
-opened_none t n = record { size = refl; low = λ i h. refl; high = λ i h k. absurd (omega arith) }
+-- ---- entries from `at` to n - 1 moved up by one
+pub record ShiftedUp (t t' : List ℕ) (at n : ℕ) : Type 0 where
+  pub size : length t' ≡ length t
+  pub low : (i : ℕ) → i ≤ at → get_or t' i 0 ≡ get_or t i 0
+  pub high : (i : ℕ) → at ≤ i → i < n → get_or t' (i + 1) 0 ≡ get_or t i 0
 
-pub opened_end : (t₀ t : List ℕ) (k at n : ℕ) → k ≤ at → at ≤ k → ShiftedUp t₀ t k n → ShiftedUp t₀ t at n
-opened_end t₀ t k at n h m o = record { size = o.size; low = λ i j. o.low i (omega arith); high = λ i j q. o.high i (omega arith) q }
-
-pub opened_one : (t₀ t : List ℕ) (k n : ℕ) → ShiftedUp t₀ t k n → 0 < k → k < length t₀ → ShiftedUp t₀ (set t k (get_or t (k - 1) 0)) (k - 1) n
-opened_one t₀ t k n o h m =
-    let v = get_or t (k - 1) 0 in
+pub shifted : (t t' : List ℕ) (at n : ℕ) → length t' ≡ length t → CopiedTo t t' at (at + 1) (n - at) → SameBelow t t' (at + 1) → ShiftedUp t t' at n
+shifted t t' at n e c s =
     record {
-      size = length-set t k v ∙ o.size;
-      low = λ i j. get_or-set_other t k i v 0 (λ e. omega arith) ∙ o.low i (omega arith);
-      high = λ i j q. elim (dec_lt i k) [
-        | yes y ↦
-            let e : i + 1 ≡ k = omega arith in
-            let g : k - 1 ≡ i = omega arith in
-            ap (λ (z : ℕ). get_or (set t k v) z 0) e ∙ get_or-set_same t k v 0 (omega (arith, o.size)) ∙ ap (λ (z : ℕ). get_or t z 0) g ∙ o.low i (omega arith)
-        | no y ↦ get_or-set_other t k (i + 1) v 0 (λ e. omega arith) ∙ o.high i (omega arith) q
-      ];
+      size = e;
+      low = λ i h. s i 0 (omega arith);
+      high = λ i h k. let g : at + (i + 1 - (at + 1)) ≡ i = omega arith in c (i + 1) 0 (omega arith) (omega arith) ∙ ap (λ (z : ℕ). get_or t z 0) g;
     }
 
 -- ---- p is put at k
@@ -168,17 +145,6 @@ module _ (more : ℕ) (l t₀ : List ℕ) (n p m : ℕ) (new : NewName more l p 
   called : name ≡ name_of more l p
   unfolding name_at
   called = let e : get_or l p 0 - more ≡ m = omega (arith, new.counted) in rw (itself, e) refl
-
-  pub insert_hit : (k : ℕ) → k < n → name_of more l (get_or t₀ k 0) ≡ name → Inserted more l t₀ t₀ n n name
-  insert_hit k h e =
-      record {
-        count = (omega arith, omega arith);
-        table = tab;
-        unmarked = λ b. b;
-        new = record { at = k; within = h; is = e };
-        old = λ y i. i;
-        only = λ y i. inl i;
-      }
 
   pub insert_gap : (k : ℕ) → Gap more l t₀ n name k → (t₁ : List ℕ) → ShiftedUp t₀ t₁ k n → Inserted more l t₀ (set t₁ k p) n (n + 1) name
   insert_gap k g₀ t₁ o =

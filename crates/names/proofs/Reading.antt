@@ -1,14 +1,21 @@
 -- Names by the number of their length and first bytes.
 use mathlib.Core.Path.{◌≡◌, refl, sym, ap, ◌∙◌}
-use mathlib.Core.Bool.{true}
+use mathlib.Core.Bool.{true, true≢false}
+use mathlib.Core.Logic.{◌⊎◌, inl, inr}
 use mathlib.Core.List.{List, [], ◌∷◌, ◌++◌}
 use Prim.Native.Nat.{ℕ, zero, suc, ◌+◌, ◌-◌, ◌*◌, ◌/◌, ◌%◌, ◌^◌, ◌≤◌, ◌<◌}
 use native.Mathlib.Decide.{dec_lt}
 use native.Mathlib.Nat.{zero-add, suc-add}
 use native.Mathlib.Numerals.{add-one}
 use native.Mathlib.Omega.{arith}
+use Rattle.std.specs.declared.cmp.Ordering.{Ordering}
+use Rattle.std.specs.declared.cmp.Ordering.TheVariants.{Less, Equal, Greater}
+use Rattle.std.specs.Ordering.{MatchOrdering, nat_cmp, is_ne}
+use Rattle.std.specs.Cmp.{ranks}
 use lib.ListN.{length, get_or, take, drop, length-take, length-drop, take-append-drop, drop_of_length-le, get_or-eq_default}
 use lib.Seq.{drop-cons, get_or-take, get_or-drop, take-add, take-take, take-nil, drop-drop}
+use Rattle.std.specs.Int.{swap_bytes, w64}
+use Rattle.stream.specs.Numbers.{u16_at, u32_at, u64_at}
 use Rattle.stream.specs.Laws.Numbers.{Bytes}
 use Rattle.records.specs.Layout.{before}
 use Rattle.records.specs.Records.{bytes_at}
@@ -17,11 +24,16 @@ use Rattle.scene.specs.Laws.Rising.{before_less}
 use Rattle.names.specs.Inner.Words.{be16_at, be32_at, be64_at, word_of, front_of}
 use Rattle.names.specs.Inner.Table.{name_at, order_of, NameFits}
 use Rattle.names.proofs.Numbers.{be_of, Small, be_less, be_before, be_same, be_append, be_cut}
-use Rattle.names.proofs.Orders.{order_less, order_more, order_same, level_less, level_more, order_front}
+use Rattle.names.proofs.Orders.{order_less, order_more, level_less, level_more, order_front}
 
 -- a number without the spare bits
 pub front_is : (n : ℕ) {u v k : ℕ} → u ≡ v → k ≡ 8 * (7 - n) → u / 2 ^ k ≡ front_of v n
 front_is n e f = rw (e, f) refl
+
+-- ---- eight bytes in the other order
+pub swapped : (l : List ℕ) (p : ℕ) → Bytes l → {x : ℕ} → x ≡ u64_at l p → swap_bytes w64 x ≡ be64_at l p
+unfolding u64_at u32_at u16_at be64_at be32_at be16_at
+swapped l p b {x} e = omega (arith, e, b p, b (p + 1), b (p + 2), b (p + 2 + 1), b (p + 4), b (p + 4 + 1), b (p + 4 + 2), b (p + 4 + 2 + 1))
 
 -- ---- a number by its list
 one_more : (l : List ℕ) (p k : ℕ) → p < length l → take (suc k) (drop p l) ≡ get_or l p 0 ∷ take k (drop (p + 1) l)
@@ -153,11 +165,11 @@ module _ {more : ℕ} {l : List ℕ} {p q n x w : ℕ} (pair : Pair more l p q n
   len_name = part_length l (p + 1) (head - more) (omega (arith, st.fits))
 
   -- the lengths differ
-  shorter : head < n + more → 0 ≡ order_of (name_at more l p) B
-  shorter h = sym (order_less _ _ (before_less (length (name_at more l p)) (length B) _ _ (omega (arith, len_b, len_name, st.least))))
+  shorter : head < n + more → Less ≡ order_of (name_at more l p) B
+  shorter h = order_less _ _ (before_less (length (name_at more l p)) (length B) _ _ (omega (arith, len_b, len_name, st.least)))
 
-  longer : n + more < head → 2 ≡ order_of (name_at more l p) B
-  longer h = sym (order_more _ _ (before_less (length B) (length (name_at more l p)) _ _ (omega (arith, len_b, len_name, st.least))))
+  longer : n + more < head → Greater ≡ order_of (name_at more l p) B
+  longer h = order_more _ _ (before_less (length B) (length (name_at more l p)) _ _ (omega (arith, len_b, len_name, st.least)))
 
   abbrev As : List ℕ
   As = take kept (drop (p + 1) l)
@@ -203,12 +215,12 @@ module _ {more : ℕ} {l : List ℕ} {p q n x w : ℕ} (pair : Pair more l p q n
     level_x : x ≡ be_of (n + more) As
     level_x = rw e at x-is
 
-    equal_less : x < w → 0 ≡ order_of A B
+    equal_less : x < w → Less ≡ order_of A B
     equal_less h =
         let g : before (As ++ drop kept A) (Bs ++ drop kept B) ≡ true = be_before (n + more) As Bs (drop kept A) (drop kept B) sizes (bytes_take l b (q + 1) kept) (omega (arith, level_x, w-is)) in
         level_less A B (len_a ∙ sym len_b) (ap (λ (z : List ℕ). before z B) split_a ∙ ap (λ (z : List ℕ). before (As ++ drop kept A) z) split_b ∙ g)
 
-    equal_more : w < x → 2 ≡ order_of A B
+    equal_more : w < x → Greater ≡ order_of A B
     equal_more h =
         let g : before (Bs ++ drop kept B) (As ++ drop kept A) ≡ true = be_before (n + more) Bs As (drop kept B) (drop kept A) (sym sizes) (bytes_take l b (p + 1) kept) (omega (arith, level_x, w-is)) in
         level_more A B (len_a ∙ sym len_b) (ap (λ (z : List ℕ). before z A) split_b ∙ ap (λ (z : List ℕ). before (Bs ++ drop kept B) z) split_a ∙ g)
@@ -225,7 +237,7 @@ module _ {more : ℕ} {l : List ℕ} {p q n x w : ℕ} (pair : Pair more l p q n
   more-head : n + more < head → w < x
   more-head h = rw (x-is, w-is) (be_less (n + more) head Bs As (sym sizes) (bytes_take l b (q + 1) kept) h)
 
-  pub word_less : x < w → 0 ≡ order_of (name_at more l p) B
+  word_less : x < w → Less ≡ order_of (name_at more l p) B
   word_less h =
       elim (dec_lt head (n + more)) [
         | yes k ↦ shorter k
@@ -236,7 +248,7 @@ module _ {more : ℕ} {l : List ℕ} {p q n x w : ℕ} (pair : Pair more l p q n
             ]
       ]
 
-  pub word_more : w < x → 2 ≡ order_of (name_at more l p) B
+  word_more : w < x → Greater ≡ order_of (name_at more l p) B
   word_more h =
       elim (dec_lt (n + more) head) [
         | yes k ↦ longer k
@@ -259,13 +271,24 @@ module _ {more : ℕ} {l : List ℕ} {p q n x w : ℕ} (pair : Pair more l p q n
               ]
         ]
 
-    pub word_same : n ≤ 7 → 1 ≡ order_of (name_at more l p) B
+    word_same : n ≤ 7 → Equal ≡ order_of (name_at more l p) B
+    unfolding order_of
     word_same h =
         let none : (a : List ℕ) → length a ≡ n → drop kept a ≡ [] = λ a e. drop_of_length-le a {i = kept} (omega arith) in
-        rw (name-is heads) (sym (equal_same heads f g ∙ order_same _ _ (none A (len_a heads) ∙ sym (none B len_b))))
+        rw (name-is heads) (sym (equal_same heads f g ∙ rw (none A (len_a heads), none B len_b) refl))
 
-    pub word-rest : {o : ℕ} → 7 < n → o ≡ order_of (bytes_at l (p + 8) (n - 7)) (bytes_at l (q + 8) (n - 7)) → o ≡ order_of (name_at more l p) B
+    pub word-rest : {o : Ordering} → 7 < n → o ≡ order_of (bytes_at l (p + 8) (n - 7)) (bytes_at l (q + 8) (n - 7)) → o ≡ order_of (name_at more l p) B
     word-rest h e =
         let k : kept ≡ 7 = omega arith in
         let r : order_of A B ≡ order_of (drop 7 A) (drop 7 B) = rw k at (equal_same heads f g) in
         rw (name-is heads) (e ∙ sym (r ∙ ap (λ (z : List ℕ). order_of z (drop 7 B)) (behind l p n h) ∙ ap (order_of (bytes_at l (p + 8) (n - 7))) (behind l q n h)))
+
+  -- the first bytes decide where they differ, and where the name has no others
+  pub word_decides : (is_ne (nat_cmp x w) ≡ true) ⊎ (n ≤ 7) → nat_cmp x w ≡ order_of (name_at more l p) B
+  word_decides = by (nat_cmp x w) (ranks x w)
+    where
+      by : (o : Ordering) → MatchOrdering o (x < w) (x ≡ w) (w < x) → (is_ne o ≡ true) ⊎ (n ≤ 7) → o ≡ order_of (name_at more l p) B
+      by Less m h = word_less m
+      by Equal m (inl h) = absurd (true≢false (sym h))
+      by Equal m (inr h) = word_same (omega arith) (omega arith) h
+      by Greater m h = word_more m

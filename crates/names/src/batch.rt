@@ -1,255 +1,186 @@
 // One walk over places and items for the names of a table: which of them have a point, and where.
 //
-// What was found stands in 64 slots, four numbers of a key and two of a point. Mark m of an entry, from 1 to 64, is
-// slot m - 1; mark 65 is that no slot was left.
-ghost use Rattle.std.specs.Prelude.{◌≡◌, true, false, ◌+◌, ◌*◌, ◌≤◌, ◌<◌, length, get_or};
+// What was found stands in 64 slots. Mark m of an entry, from 1 to 64, is slot m - 1; mark 65 is that no slot was left.
+ghost use Rattle.std.specs.Prelude.{◌≡◌, ◌+◌, ◌*◌, ◌<◌, length, get_or};
 ghost use Rattle.stream.specs.Payload.{payload};
-ghost use Rattle.scene.specs.Inner.Answers.{best_by, items_at};
+ghost use Rattle.records.specs.Inner.Hits.{SkipsTo};
+ghost use Rattle.records.specs.Inner.Wanted.{wanted_tag, wanted_key};
+ghost use Rattle.scene.specs.Inner.Answers.{best_by};
 ghost use Rattle.names.specs.Inner.Table.{NameQuery, Unmarked};
-ghost use Rattle.names.specs.Inner.Batch.{SlotRoom, Batch, slots_of, Slot, BestIs, SlotSet, BestStored};
-ghost use Rattle.names.specs.Inner.Batch.{Matched, place_step, places_step, item_step, items_step, LabelsMatched};
+ghost use Rattle.names.specs.Inner.Batch.{Batch, slots_of, slot_of, BestStored};
+ghost use Rattle.names.specs.Inner.Batch.{tag_by, label_at, considered, Matched, step_at, steps_from, LabelsMatched};
 
 use crate::table::{MARK, find_name};
-use records::{NO_KEY, TAG_ITEM, TAG_PLACE, find, wide};
+use records::{Wanted, find};
 use scene::{Best, Key, consider_item, consider_place};
 use stream::byte;
+use values::Point;
 
 // There are so many slots.
 const SLOTS: usize = 64;
 
-// What mark 65 adds to an entry: 65 * MARK.
-const NO_SLOT: u32 = 2181038080;
+// What a slot holds before it is used.
+pub const UNUSED: Best = Best {
+    key: Key {
+        top: false,
+        line: 0,
+        col: 0,
+        order: 0,
+    },
+    at: Point { x: 0.0, y: 0.0 },
+};
 
-// Nothing was found.
-fn no_best() -> Best
-    ensures { result.some ≡ false }
-{
-    Best {
-        some: false,
-        key: Key {
-            top: false,
-            line: 0,
-            col: 0,
-            order: 0,
-        },
-        x: 0.0,
-        y: 0.0,
-    }
-}
-
-// What slot m holds.
-fn best_at(keys: &[u32], spots: &[f64], m: usize) -> Best
-    requires { (4 * m + 4 ≤ length keys.now) × (2 * m + 2 ≤ length spots.now) }
-    ensures { Slot keys.now spots.now m result }
-{
-    Best {
-        some: true,
-        key: Key {
-            top: keys[4 * m] != 0,
-            line: keys[4 * m + 1],
-            col: keys[4 * m + 2],
-            order: keys[4 * m + 3] as usize,
-        },
-        x: spots[2 * m],
-        y: spots[2 * m + 1],
-    }
-}
-
-// Slot m becomes b.
-fn put_best(keys: &mut [u32], spots: &mut [f64], m: usize, b: Best)
-    requires { (4 * m + 4 ≤ length keys.old) × (2 * m + 2 ≤ length spots.old)
-        × (b.key.order < 4294967296) }
-    ensures { SlotSet keys.old keys.new
-        spots.old spots.new m b }
-{
-    let key = b.key;
-    keys[4 * m] = key.top as u32;
-    keys[4 * m + 1] = key.line;
-    keys[4 * m + 2] = key.col;
-    keys[4 * m + 3] = key.order as u32;
-    spots[2 * m] = b.x;
-    spots[2 * m + 1] = b.y;
-}
+// What mark 65 adds to an entry.
+const NO_SLOT: u32 = 65 * MARK;
 
 // What was found for an entry with the mark m.
-fn best_of(keys: &[u32], spots: &[f64], m: usize) -> Best
-    requires { SlotRoom keys.now spots.now }
-    ensures { BestIs keys.now spots.now m result }
+fn best_of(slots: &[Best], m: usize) -> Option<Best>
+    requires { length slots.now ≡ 64 }
+    ensures { result ≡ slot_of slots.now m }
 {
-    if m == 0 {
-        return no_best();
-    }
-    if m > SLOTS {
-        return no_best();
-    }
-    best_at(keys, spots, m - 1)
+    slots.get(m.checked_sub(1)?).copied()
 }
 
 // The best for entry k is b from now on. How many slots are used then.
-fn store_best(
-    t: &mut [u32],
-    keys: &mut [u32],
-    spots: &mut [f64],
-    used: usize,
-    k: usize,
-    b: Best,
-) -> usize
-    requires { (k < length t.old) × SlotRoom keys.old spots.old
-        × (b.some ≡ true → b.key.order < 4294967296) }
-    ensures { BestStored k (best_by b) (slots_of t.old keys.old spots.old used)
-        (slots_of t.new keys.new spots.new result) }
+fn store_best(t: &mut [u32], slots: &mut [Best], used: usize, k: usize, b: Option<Best>) -> usize
+    requires { (k < length t.old) × (length slots.old ≡ 64) }
+    ensures { BestStored k (best_by b) (slots_of t.old slots.old used)
+        (slots_of t.new slots.new result) }
 {
-    if !b.some {
+    let Some(v) = b else {
         return used;
-    }
+    };
     let e = t[k];
     if e >= NO_SLOT {
         return used;
     }
     if e >= MARK {
-        put_best(keys, spots, (e / MARK) as usize - 1, b);
+        slots[(e / MARK) as usize - 1] = v;
         return used;
     }
     if used >= SLOTS {
         t[k] = e + NO_SLOT;
         return used;
     }
-    put_best(keys, spots, used, b);
+    slots[used] = v;
     t[k] = e + MARK * (used as u32 + 1);
     used + 1
 }
 
-// The place at q, the i-th: a candidate for the name that it has, if that is one of the first `count` entries.
-fn match_place(
-    s: &[u8],
-    t: &mut [u32],
-    count: usize,
-    more: u64,
-    keys: &mut [u32],
-    spots: &mut [f64],
-    used: usize,
-    q: usize,
-    i: usize,
-) -> usize
-    requires { NameQuery s.now (q + 1) (get_or (payload s.now) (q + 1) 0) more × (i < 4294967296)
-        × Batch more s.now t.old count keys.old spots.old }
-    ensures { Matched more (payload s.now) count
-        (slots_of t.old keys.old spots.old used)
-        (slots_of t.new keys.new spots.new result)
-        (place_step (payload s.now) q i) }
-{
-    let n = wide(byte(s, 0, q + 1));
-    let f = find_name(s, t, count, q + 1, n, more);
-    if !f.some {
-        return used;
-    }
-    let k = f.at;
-    let old = best_of(keys, spots, (t[k] / MARK) as usize);
-    let b = consider_place(s, old, q, i);
-    store_best(t, keys, spots, used, k, b)
+// What carries labels.
+#[derive(Clone, Copy)]
+enum Carrier {
+    Place,
+    Item,
 }
 
-// The item at q, the i-th: a candidate for the label that it has, if it has one and that is one of the first `count`
-// entries.
-fn match_item(
+impl Carrier {
+    // What a search asks for.
+    fn wanted(self) -> Wanted
+        ensures { (wanted_tag result ≡ tag_by self) × (wanted_key result ≡ 0) }
+    {
+        match self {
+            Carrier::Place => Wanted::Place,
+            Carrier::Item => Wanted::Item,
+        }
+    }
+
+    // How far behind a record's start the length of its label stands.
+    fn label_at(self) -> usize
+        ensures { result ≡ label_at self }
+    {
+        match self {
+            Carrier::Place => 1,
+            Carrier::Item => 3,
+        }
+    }
+
+    // The first of them from q on, as the i-th, becomes a candidate.
+    fn consider(self, s: &[u8], b: Option<Best>, q: usize, i: usize) -> Option<Best>
+        ensures { best_by result ≡ considered self (payload s.now) q i (best_by b) }
+    {
+        match self {
+            Carrier::Place => consider_place(s, b, q, i),
+            Carrier::Item => consider_item(s, b, q, i),
+        }
+    }
+}
+
+// The place or item at q, the i-th of its kind: a candidate for the label that it has, if it has one and that is one of
+// the first `count` entries.
+fn match_record(
     s: &[u8],
     t: &mut [u32],
     count: usize,
     more: u64,
-    keys: &mut [u32],
-    spots: &mut [f64],
+    slots: &mut [Best],
     used: usize,
+    kind: Carrier,
     q: usize,
     i: usize,
 ) -> usize
-    requires { NameQuery s.now (q + 3) (get_or (payload s.now) (q + 3) 0) more × (i < 4294967296)
-        × Batch more s.now t.old count keys.old spots.old }
+    requires { NameQuery s.now (q + label_at kind) (get_or (payload s.now) (q + label_at kind) 0) more
+        × Batch more s.now t.old count slots.old }
     ensures { Matched more (payload s.now) count
-        (slots_of t.old keys.old spots.old used)
-        (slots_of t.new keys.new spots.new result)
-        (item_step (payload s.now) q i) }
+        (slots_of t.old slots.old used)
+        (slots_of t.new slots.new result)
+        (step_at kind (payload s.now) q i) }
 {
-    let n = wide(byte(s, 0, q + 3));
+    let p = q + kind.label_at();
+    let n = usize::from(byte(s, 0, p));
     if n == 0 {
         return used;
     }
-    let f = find_name(s, t, count, q + 3, n, more);
-    if !f.some {
-        return used;
+    match find_name(s, t, count, p, n, more) {
+        Err(_) => used,
+        Ok(k) => {
+            let old = best_of(slots, (t[k] / MARK) as usize);
+            let b = kind.consider(s, old, q, i);
+            store_best(t, slots, used, k, b)
+        }
     }
-    let k = f.at;
-    let old = best_of(keys, spots, (t[k] / MARK) as usize);
-    let b = consider_item(s, old, q, i);
-    store_best(t, keys, spots, used, k, b)
 }
 
-// How many slots are used, and where the items are asked for: behind the places.
+// How many slots are used, and where records of greater tags are asked for.
 #[derive(Clone, Copy)]
-pub struct MatchedPlaces {
-    pub used: usize,
-    pub end: usize,
+struct Walked {
+    used: usize,
+    end: usize,
 }
 
-// The places from p on become candidates, each for the name that it has.
-fn match_places(
+// The places or items from p on become candidates, each for the label that it has, where so many slots are used before.
+// A record leads to the next one, and i counts them on the way: a `for` over i would need an end.
+fn match_records(
     s: &[u8],
     p: usize,
     t: &mut [u32],
     count: usize,
     more: u64,
-    keys: &mut [u32],
-    spots: &mut [f64],
-) -> MatchedPlaces
-    requires { Batch more s.now t.old count keys.old spots.old }
+    slots: &mut [Best],
+    before: usize,
+    kind: Carrier,
+) -> Walked
+    requires { Batch more s.now t.old count slots.old }
     ensures cases { Matched more (payload s.now) count
-        (slots_of t.old keys.old spots.old 0)
-        (slots_of t.new keys.new spots.new result.used)
-        (places_step (payload s.now) p) }
-    ensures p_value { items_at (payload s.now) p ≡ items_at (payload s.now) result.end }
+        (slots_of t.old slots.old before)
+        (slots_of t.new slots.new result.used)
+        (steps_from kind (payload s.now) p 0) }
+    ensures skips_to { SkipsTo (payload s.now) (tag_by kind) p result.end }
 {
-    let mut used = 0usize;
+    let mut used = before;
     let mut q = p;
     let mut i = 0usize;
     loop {
-        let h = find(s, q, TAG_PLACE, NO_KEY);
-        if !h.some {
-            return MatchedPlaces { used, end: h.at };
+        match find(s, q, kind.wanted()) {
+            Err(end) => {
+                return Walked { used, end };
+            }
+            Ok(h) => {
+                used = match_record(s, t, count, more, slots, used, kind, h.at, i);
+                q = h.next;
+                i += 1;
+            }
         }
-        used = match_place(s, t, count, more, keys, spots, used, h.at, i);
-        q = h.next;
-        i += 1;
-    }
-}
-
-// The items from p on become candidates, each for the label that it has, where the places have used so many slots. How
-// many slots are used then.
-fn match_items(
-    s: &[u8],
-    p: usize,
-    t: &mut [u32],
-    count: usize,
-    more: u64,
-    keys: &mut [u32],
-    spots: &mut [f64],
-    places: usize,
-) -> usize
-    requires { Batch more s.now t.old count keys.old spots.old }
-    ensures { Matched more (payload s.now) count
-        (slots_of t.old keys.old spots.old places)
-        (slots_of t.new keys.new spots.new result)
-        (items_step (payload s.now) p) }
-{
-    let mut used = places;
-    let mut q = p;
-    let mut i = 0usize;
-    loop {
-        let h = find(s, q, TAG_ITEM, NO_KEY);
-        if !h.some {
-            return used;
-        }
-        used = match_item(s, t, count, more, keys, spots, used, h.at, i);
-        q = h.next;
-        i += 1;
     }
 }
 
@@ -261,13 +192,12 @@ pub fn match_labels(
     t: &mut [u32],
     count: usize,
     more: u64,
-    keys: &mut [u32],
-    spots: &mut [f64],
+    slots: &mut [Best],
 ) -> usize
-    requires { Batch more s.now t.old count keys.old spots.old × Unmarked t.old count }
+    requires { Batch more s.now t.old count slots.old × Unmarked t.old count }
     ensures { LabelsMatched more (payload s.now) t.old t.new count
-        spots.new result p }
+        slots.new result p }
 {
-    let w = match_places(s, p, t, count, more, keys, spots);
-    match_items(s, w.end, t, count, more, keys, spots, w.used)
+    let w = match_records(s, p, t, count, more, slots, 0, Carrier::Place);
+    match_records(s, w.end, t, count, more, slots, w.used, Carrier::Item).used
 }

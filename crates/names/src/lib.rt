@@ -5,5 +5,5 @@ mod batch;
 mod table;
 mod words;
 
-pub use batch::match_labels;
-pub use table::{Found, find_name, insert, unmark};
+pub use batch::{UNUSED, match_labels};
+pub use table::{find_name, insert, unmark};

@@ -2,64 +2,49 @@
 //
 // Names are ordered by their length, then by their bytes, so that eight bytes from the length on decide most
 // comparisons. The names of one table have lengths that are `more` too great: 4 for `_lon` variables, whose ending is
-// not counted, else 0.
+// not counted, else 0. There is no heap: a table is a slice that its caller lends, used up to `count`.
 ghost use Rattle.std.specs.Prelude.{◌≡◌, ◌+◌, ◌-◌, ◌*◌, ◌≤◌, ◌<◌, ◌%◌, length, get_or, set};
 ghost use Rattle.stream.specs.Payload.{payload};
 ghost use Rattle.stream.specs.Inner.Payload.{room};
 ghost use Rattle.records.specs.Records.{bytes_at};
 ghost use Rattle.names.specs.Inner.Words.{word_of, front_of};
 ghost use Rattle.names.specs.Inner.Table.{name_at, mark_of, order_of, NameFits, NameQuery, NewName, Table};
-ghost use Rattle.names.specs.Inner.Table.{Searched, ShiftedUp, Inserted};
+ghost use Rattle.names.specs.Inner.Table.{Searched, Inserted};
 
-use crate::words::{swap8, word_at};
+use crate::words::word_at;
+use std::cmp::Ordering;
 use stream::{byte, u64_at};
 
-// A payload has fewer bytes than this, 2^25: what an entry is beyond it, is a mark.
-const MAX_PAYLOAD: usize = 33554432;
+// A payload has fewer bytes than this, 2^25: what an entry is beyond it, is a mark. A position and its mark are packed
+// in one u32: the tables of the host's call are most of the stack that it may take.
+const MAX_PAYLOAD: usize = 1 << 25;
 
-// The weight of an entry's mark: it is MAX_PAYLOAD, in the width of an entry.
-pub const MARK: u32 = 33554432;
+// The weight of an entry's mark, in the width of an entry.
+pub const MARK: u32 = MAX_PAYLOAD as u32;
 
 // The weight of the first of eight bytes.
-const FIRST: u64 = 72057594037927936;
+const FIRST: u64 = 1 << 56;
 
-// Whether the name was found, and where; where it belongs if not.
-#[derive(Clone, Copy)]
-pub struct Found {
-    pub some: bool,
-    pub at: usize,
-}
-
-// The order of the n bytes at p and the n bytes at q: 0 if those at p come before, 1 if they are the same, 2 if they
-// come after.
-fn order_bytes(s: &[u8], p: usize, q: usize, n: usize) -> u8
+// The order of the n bytes at p and the n bytes at q.
+fn order_bytes(s: &[u8], p: usize, q: usize, n: usize) -> Ordering
     requires { (p + n ≤ room s.now) × (q + n ≤ room s.now) }
     ensures { result
         ≡ order_of (bytes_at (payload s.now) p n) (bytes_at (payload s.now) q n) }
 {
-    let mut i = 0usize;
-    while i < n {
-        let x = byte(s, 0, p + i);
-        let y = byte(s, 0, q + i);
-        if x < y {
-            return 0;
+    for i in 0..n {
+        let o = byte(s, 0, p + i).cmp(&byte(s, 0, q + i));
+        if o.is_ne() {
+            return o;
         }
-        if y < x {
-            return 2;
-        }
-        i += 1;
     }
-    1
+    Ordering::Equal
 }
 
 // How many bits of the first eight bytes are not those of a name of n bytes and its length.
 fn spare_bits(n: usize) -> u64
     ensures { result ≡ 8 * (7 - n) }
 {
-    if n >= 7 {
-        return 0;
-    }
-    8 * (7 - n as u64)
+    8 * 7u64.saturating_sub(n as u64)
 }
 
 // The length of a name of n bytes and its first bytes, as a number: the name stands behind p. It is not read by
@@ -68,31 +53,33 @@ fn word_of(s: &[u8], p: usize, n: usize, more: u64) -> u64
     requires { (p + 8 ≤ room s.now) × (n + more ≤ 255) }
     ensures { result ≡ word_of (payload s.now) p (n + more) }
 {
-    swap8(u64_at(s, 0, p)) % FIRST + (n as u64 + more) * FIRST
+    u64_at(s, 0, p).swap_bytes() % FIRST + (n as u64 + more) * FIRST
 }
 
 // The order of the name whose length stands at p and the n bytes behind q, of which w are the first without the spare
 // bits.
-fn order(s: &[u8], p: usize, q: usize, n: usize, w: u64, more: u64) -> u8
+fn order(s: &[u8], p: usize, q: usize, n: usize, w: u64, more: u64) -> Ordering
     requires { NameFits more (payload s.now) p × NameQuery s.now q n more
         × (w ≡ front_of (word_of (payload s.now) q (n + more)) n) }
     ensures { result ≡ order_of (name_at more (payload s.now) p)
         (bytes_at (payload s.now) (q + 1) n) }
 {
     let x = word_at(s, p) >> spare_bits(n);
+    // Two tests and no `cmp`: each tells at once where the search goes on.
     if x < w {
-        return 0;
+        return Ordering::Less;
     }
     if w < x {
-        return 2;
+        return Ordering::Greater;
     }
     if n <= 7 {
-        return 1;
+        return Ordering::Equal;
     }
     order_bytes(s, p + 8, q + 8, n - 7)
 }
 
-// The n bytes behind p among the first `count` entries, by halves; the entry `first` is looked at first.
+// The n bytes behind p among the first `count` entries, by halves; the entry `first` is looked at first. By hand:
+// `binary_search_by` does not take the entry to begin with, and goes on where it has found.
 fn find_near(
     s: &[u8],
     t: &[u32],
@@ -101,65 +88,44 @@ fn find_near(
     p: usize,
     n: usize,
     more: u64,
-) -> Found
+) -> Result<usize, usize>
     requires { NameQuery s.now p n more × Table more (payload s.now) t.now count
         × (0 < count → first < count) }
     ensures { Searched more (payload s.now) t.now count
-        (bytes_at (payload s.now) (p + 1) n) result.some result.at }
+        (bytes_at (payload s.now) (p + 1) n) result }
 {
     let w = word_of(s, p, n, more) >> spare_bits(n);
     let mut lo = 0usize;
     let mut hi = count;
     let mut mid = first;
     while lo < hi {
-        let o = order(s, t[mid] as usize % MAX_PAYLOAD, p, n, w, more);
-        if o == 1 {
-            return Found {
-                some: true,
-                at: mid,
-            };
+        match order(s, t[mid] as usize % MAX_PAYLOAD, p, n, w, more) {
+            Ordering::Equal => {
+                return Ok(mid);
+            }
+            Ordering::Less => lo = mid + 1,
+            Ordering::Greater => hi = mid,
         }
-        if o == 0 {
-            lo = mid + 1;
-            mid = lo + (hi - lo) / 2;
-        } else {
-            hi = mid;
-            mid = lo + (hi - lo) / 2;
-        }
+        mid = lo + (hi - lo) / 2;
     }
-    Found {
-        some: false,
-        at: lo,
-    }
+    Err(lo)
 }
 
-// The n bytes behind p among the first `count` entries.
-pub fn find_name(s: &[u8], t: &[u32], count: usize, p: usize, n: usize, more: u64) -> Found
+// The n bytes behind p among the first `count` entries: where they stand, else where they belong.
+pub fn find_name(
+    s: &[u8],
+    t: &[u32],
+    count: usize,
+    p: usize,
+    n: usize,
+    more: u64,
+) -> Result<usize, usize>
     requires { (p + 9 + n ≤ room s.now) × (n + more ≤ 255)
         × Table more (payload s.now) t.now count }
     ensures { Searched more (payload s.now) t.now count
-        (bytes_at (payload s.now) (p + 1) n) result.some result.at }
+        (bytes_at (payload s.now) (p + 1) n) result }
 {
     find_near(s, t, count, count / 2, p, n, more)
-}
-
-// The entries from `at` to n - 1 move up by one place.
-fn shift_up(t: &mut [u32], at: usize, n: usize)
-    requires { (at ≤ n) × (n < length t.old) }
-    ensures { ShiftedUp t.old t.new at n }
-{
-    let mut k = n;
-    while k > at {
-        t[k] = t[k - 1];
-        k -= 1;
-    }
-}
-
-// The last of so many, 0 of none.
-fn last_of(count: usize) -> usize
-    ensures { 0 < count → result < count }
-{
-    if count > 0 { count - 1 } else { 0 }
 }
 
 // The name of n bytes whose length stands at p becomes one of the first `count` entries, unless it is one of them. How
@@ -170,14 +136,14 @@ pub fn insert(s: &[u8], t: &mut [u32], count: usize, p: usize, n: usize, more: u
     ensures { Inserted more (payload s.now) t.old t.new count result
         (bytes_at (payload s.now) (p + 1) n) }
 {
-    let f = find_near(s, t, count, last_of(count), p, n, more);
-    if f.some {
-        return count;
+    match find_near(s, t, count, count.saturating_sub(1), p, n, more) {
+        Ok(_) => count,
+        Err(at) => {
+            t.copy_within(at..count, at + 1);
+            t[at] = p as u32;
+            count + 1
+        }
     }
-    let at = f.at;
-    shift_up(t, at, count);
-    t[at] = p as u32;
-    count + 1
 }
 
 // The mark of entry k, which has none from then on.

@@ -8,6 +8,8 @@ use native.Mathlib.Omega.{arith}
 use lib.ListN.{length, get_or}
 use lib.Dec.{eqb, leb, ltb}
 use borrow.Author.Tests.{le-leb, lt-leb, lt-ltb, le-ltb, eq-eqb, ne_eqb}
+use Rattle.std.specs.Prelude.{None, Some}
+use Rattle.std.specs.Bool.{then_some}
 use Rattle.stream.specs.Numbers.{u16_at}
 use Rattle.records.specs.declared.records.Record.TheVariants.{Rescale, Option, Feature, Variable, Place, Item, Points, Path}
 use Rattle.records.specs.declared.records.Step.{Step}
@@ -32,6 +34,15 @@ module _ (o : ℕ) where
 -- the bytes that a count asks for
 pub product : {a b : ℕ} → a < 256 → b < 65536 → a * b ≤ 255 * 65535
 product a b = mul-le-mul {n₂ = 255} {m₂ = 65535} (omega arith) (omega arith)
+
+-- what a number that was read, or none, says
+none_told : (b : Bool) (x : ℕ) → then_some b x ≡ None → b ≡ false
+none_told true x e = cc
+none_told false x e = refl
+
+pub some_told : (b : Bool) (x y : ℕ) → then_some b x ≡ Some y → (b ≡ true) × (y ≡ x)
+some_told true x y e = (refl, cc)
+some_told false x y e = (cc, cc)
 
 module _ (l : List ℕ) where
   -- ---- a name at p; x is its length byte, and n the same as the code has it
@@ -70,20 +81,20 @@ module _ (l : List ℕ) where
     label_some e q = rw (ne_eqb (get_or l p 0) 0 e, and-false) q
 
   -- ---- a name and what follows it, a count and what follows it
-  pub then_nameless : (more : ℕ) → named l 1 ≡ false → false ≡ named_then l more
+  pub then_nameless : (more : ℕ) → named l 1 ≡ false → None ≡ then_some (named_then l more) (get_or l 1 0)
   unfolding named_then
   then_nameless more h = rw h refl
 
-  pub then_is : (more : ℕ) {x n len : ℕ} → named l 1 ≡ true → x ≡ get_or l 1 0 → n ≡ x → len ≡ length l → leb (2 + more + n) len ≡ named_then l more
+  pub then_is : (more : ℕ) {x n len : ℕ} → named l 1 ≡ true → x ≡ get_or l 1 0 → n ≡ x → len ≡ length l → then_some (leb (2 + more + n) len) x ≡ then_some (named_then l more) (get_or l 1 0)
   unfolding named_then
   then_is more h x n e = rw (h, n, x, e) refl
 
   module _ (p each : ℕ) where
-    pub counted_cut : length l < p + 2 → false ≡ counted l p each
+    pub counted_cut : length l < p + 2 → None ≡ then_some (counted l p each) (u16_at l p)
     unfolding counted
     counted_cut h = rw (lt-leb (p + 2) (length l) h) refl
 
-    pub counted_is : {k n len : ℕ} → p + 2 ≤ length l → k ≡ u16_at l p → n ≡ k → len ≡ length l → leb (p + 2 + each * n) len ≡ counted l p each
+    pub counted_is : {k n len : ℕ} → p + 2 ≤ length l → k ≡ u16_at l p → n ≡ k → len ≡ length l → then_some (leb (p + 2 + each * n) len) k ≡ then_some (counted l p each) (u16_at l p)
     unfolding counted
     counted_is h k n e = rw (le-leb (p + 2) (length l) h, n, k, e) refl
 
@@ -141,33 +152,33 @@ module _ (l : List ℕ) where
   choice_is a o h w = rw (w, ← o, h, le-leb 2 (length l) a) refl
 
   -- ---- 3, 4 and 5: what a name and so many bytes make
-  pub feature-not : named_then l 16 ≡ false → Bad ≡ feature_of l
+  pub feature-not : then_some (named_then l 16) (get_or l 1 0) ≡ None → Bad ≡ feature_of l
   unfolding feature_of
-  feature-not h = rw h refl
+  feature-not e = rw (none_told _ _ e) refl
 
-  pub feature-is : {x n : ℕ} → named_then l 16 ≡ true → x ≡ get_or l 1 0 → n ≡ x → Got (Feature x) (18 + n) ≡ feature_of l
+  pub feature-is : {x n : ℕ} → then_some (named_then l 16) (get_or l 1 0) ≡ Some x → n ≡ x → Got (Feature x) (18 + n) ≡ feature_of l
   unfolding feature_of
-  feature-is h x n = rw (h, n, x) refl
+  feature-is e n = let told = some_told _ _ _ e in rw (told.0, n, told.1) refl
 
-  pub variable-not : named_then l 8 ≡ false → Bad ≡ variable_of l
+  pub variable-not : then_some (named_then l 8) (get_or l 1 0) ≡ None → Bad ≡ variable_of l
   unfolding variable_of
-  variable-not h = rw h refl
+  variable-not e = rw (none_told _ _ e) refl
 
-  pub variable-is : {x n : ℕ} → named_then l 8 ≡ true → x ≡ get_or l 1 0 → n ≡ x → Got (Variable x) (10 + n) ≡ variable_of l
+  pub variable-is : {x n : ℕ} → then_some (named_then l 8) (get_or l 1 0) ≡ Some x → n ≡ x → Got (Variable x) (10 + n) ≡ variable_of l
   unfolding variable_of
-  variable-is h x n = rw (h, n, x) refl
+  variable-is e n = let told = some_told _ _ _ e in rw (told.0, n, told.1) refl
 
-  pub place-not : named_then l 25 ≡ false → Bad ≡ place_of l
+  pub place-not : then_some (named_then l 25) (get_or l 1 0) ≡ None → Bad ≡ place_of l
   unfolding place_of
-  place-not h = rw h refl
+  place-not e = rw (none_told _ _ e) refl
 
   pub place_nested : {n : ℕ} → n ≡ get_or l 1 0 → 1 < get_or l (18 + n) 0 → Bad ≡ place_of l
   unfolding place_of
   place_nested {n} e h = rw (← e, lt-leb (get_or l (18 + n) 0) 1 h, and-false) refl
 
-  pub place_is : {x n : ℕ} → named_then l 25 ≡ true → x ≡ get_or l 1 0 → n ≡ x → get_or l (18 + n) 0 ≤ 1 → Got (Place x) (27 + n) ≡ place_of l
+  pub place_is : {x n : ℕ} → then_some (named_then l 25) (get_or l 1 0) ≡ Some x → n ≡ x → get_or l (18 + n) 0 ≤ 1 → Got (Place x) (27 + n) ≡ place_of l
   unfolding place_of
-  place_is {n = n} h x e k = rw (h, ← x, ← e, le-leb (get_or l (18 + n) 0) 1 k) refl
+  place_is {n = n} h e k = let told = some_told _ _ _ h in rw (told.0, ← told.1, ← e, le-leb (get_or l (18 + n) 0) 1 k) refl
 
   -- ---- 6: each test that fails, and all that hold
   pub begins_cut : length l < 4 → false ≡ item_begins l
@@ -233,33 +244,32 @@ module _ (l : List ℕ) where
   item-is k f b n h m w a c d = cc (item_good (n ∙ b) (m ∙ h) a (omega arith) (omega arith))
 
   -- ---- 7 and 8
-  pub points-not : counted l 2 16 ≡ false → Bad ≡ points_of l
+  pub points-not : then_some (counted l 2 16) (u16_at l 2) ≡ None → Bad ≡ points_of l
   unfolding points_of
-  points-not h = rw h refl
+  points-not e = rw (none_told _ _ e) refl
 
   pub points_role : 1 < get_or l 1 0 → Bad ≡ points_of l
   unfolding points_of
   points_role h = rw (lt-leb (get_or l 1 0) 1 h, and-false) refl
 
-  pub points-is : {x k n : ℕ} → counted l 2 16 ≡ true → x ≡ get_or l 1 0 → x ≤ 1 → k ≡ u16_at l 2 → n ≡ k → Got (Points x k) (4 + 16 * n) ≡ points_of l
+  pub points-is : {x k n : ℕ} → then_some (counted l 2 16) (u16_at l 2) ≡ Some k → x ≡ get_or l 1 0 → x ≤ 1 → n ≡ k → Got (Points x k) (4 + 16 * n) ≡ points_of l
   unfolding points_of
-  points-is {x} h e b k n = rw (h, ← e, le-leb x 1 b, n, k) refl
+  points-is {x} h e b n = let told = some_told _ _ _ h in rw (told.0, ← e, le-leb x 1 b, n, told.1) refl
 
   module _ (form p each : ℕ) where
-    pub form_not : counted l p each ≡ false → Bad ≡ path_with l form p each
+    pub form_not : then_some (counted l p each) (u16_at l p) ≡ None → Bad ≡ path_with l form p each
     unfolding path_with
-    form_not h = rw h refl
+    form_not e = rw (none_told _ _ e) refl
 
     pub form_is :
         {x y k n : ℕ}
-        → counted l p each ≡ true
+        → then_some (counted l p each) (u16_at l p) ≡ Some k
         → x ≡ get_or l 1 0
         → y ≡ get_or l 2 0
-        → k ≡ u16_at l p
         → n ≡ k
         → Got (Path x y form k) (p + 2 + each * n) ≡ path_with l form p each
     unfolding path_with
-    form_is h x y k n = rw (h, x, y, n, k) refl
+    form_is h x y n = let told = some_told _ _ _ h in rw (told.0, x, y, n, told.1) refl
 
   pub path_cut : length l < 4 → Bad ≡ path_of l
   unfolding path_of

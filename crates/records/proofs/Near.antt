@@ -1,28 +1,27 @@
 -- Condition 4's tests of a float, and the floats of one record.
+use Rattle.std.specs.Prelude.{Option, None, Some, Float}
 use mathlib.Core.Path.{◌≡◌, refl}
 use mathlib.Core.Bool.{Bool, true, false, cond}
 use mathlib.Core.List.{List}
 use Prim.Native.Nat.{ℕ, zero, suc, ◌+◌, ◌*◌, ◌/◌}
 use lib.Dec.{eqb}
 use lib.Ieee.{Float, le, neg}
-use Rattle.stream.specs.declared.Float64.{Float64}
-use Rattle.stream.specs.declared.Float64.TheVariants.{Finite, NotFinite}
 use Rattle.records.specs.declared.records.Record.{Record}
-use Rattle.records.specs.declared.records.Record.TheVariants.{Rescale, Option, Feature, Variable, Place, Item, Points, Path}
+use Rattle.records.specs.declared.records.Record.TheVariants.{Rescale, Option as OptionRecord, Feature, Variable, Place, Item, Points, Path}
 use Rattle.records.specs.Records.{option_width, values_width}
 use Rattle.records.specs.Limits.{is_finite, on_canvas, million, option_floats, limited_at}
 use Rattle.records.specs.Inner.Floats.{within_limit, all_within_limit}
 
-none : (canvas : Bool) → false ≡ within_limit canvas NotFinite
+none : (canvas : Bool) → false ≡ within_limit canvas None
 unfolding is_finite on_canvas
 none true = refl
 none false = refl
 
-module _ (canvas : Bool) {x : Float64} where
-  pub not_finite : x ≡ NotFinite → false ≡ within_limit canvas x
+module _ (canvas : Bool) {x : Option Float} where
+  pub not_finite : x ≡ None → false ≡ within_limit canvas x
   not_finite e = rw e (none canvas)
 
-  module _ {v : Float} (e : x ≡ Finite v) where
+  module _ {v : Float} (e : x ≡ Some v) where
     pub any_finite : canvas ≡ false → true ≡ within_limit canvas x
     unfolding is_finite
     any_finite c = rw (c, e) refl
@@ -51,7 +50,7 @@ module _ (l : List ℕ) {r : Record} {b : Bool} where
   unfolding limited_at
   rescale_floats e h = rw e h
 
-  pub option_floats_lem : {o w : ℕ} → r ≡ Option o → w ≡ option_width o → b ≡ all_within_limit l false 2 (w / 8) → b ≡ limited_at l r
+  pub option_floats_lem : {o w : ℕ} → r ≡ OptionRecord o → w ≡ option_width o → b ≡ all_within_limit l false 2 (w / 8) → b ≡ limited_at l r
   unfolding limited_at
   option_floats_lem {o} e w h = rw (e, ← choice_floats o, ← w) h
 

@@ -6,12 +6,13 @@ use Prim.Native.Nat.{ℕ, ◌+◌}
 use lib.ListN.{get_or, drop}
 use lib.Dec.{leb}
 use Rattle.records.specs.declared.records.Record.{Record}
+use Rattle.records.specs.declared.records.Step.{Step}
 use Rattle.records.specs.declared.records.Step.TheVariants.{Got, End, Bad}
 use Rattle.records.specs.Records.{record_of}
 use Rattle.records.specs.Walk.{entries}
 use Rattle.records.specs.Layout.{Pass, ordered, broken, step_of, in_order, laid_out_from}
 use Rattle.records.specs.Limits.{limited_at, all_limited}
-use Rattle.records.specs.Laws.Walk.{entries_end, entries_bad, ends_end, ends_bad, entries_got, entries_on, ends_on}
+use Rattle.records.specs.Laws.Walk.{entries_none, entries_end, ends_end, ends_bad, entries_got, entries_on, ends_on}
 use Rattle.records.specs.Laws.Search.{entries_closed}
 
 -- ---- condition 3
@@ -35,13 +36,9 @@ order_go l p st e h = rw (entries_on l p e, ends_on l p e, ← h) refl
 
 -- ---- condition 4
 module _ (b : List ℕ) where
-  pub limits_bad : record_of b ≡ Bad → true ≡ all_limited (entries b 0)
+  pub limits_none : {x : Step} → record_of b ≡ x → ((r : Record) (k : ℕ) → x ≡ Got r k → ⊥) → true ≡ all_limited (entries b 0)
   unfolding all_limited
-  limits_bad e = rw (entries_bad b e) refl
-
-  pub limits_end : record_of b ≡ End → true ≡ all_limited (entries b 0)
-  unfolding all_limited
-  limits_end e = rw (entries_end b e) refl
+  limits_none {x} e none = rw (entries_none b x e none) refl
 
   pub limits_stop : {r : Record} {k : ℕ} → record_of b ≡ Got r k → limited_at b r ≡ false → false ≡ all_limited (entries b 0)
   unfolding all_limited

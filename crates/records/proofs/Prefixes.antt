@@ -2,7 +2,7 @@
 use mathlib.Core.Path.{◌≡◌, refl, sym, ◌∙◌}
 use mathlib.Core.List.{List, [], ◌∷◌}
 use mathlib.Core.Bool.{false, or-false}
-use Prim.Native.Nat.{ℕ, suc, ◌+◌, ◌≤◌, ◌<◌}
+use Prim.Native.Nat.{ℕ, suc, ◌+◌, ◌≤◌, ◌<◌, min}
 use native.Mathlib.Decide.{dec_lt, ℕ_discrete}
 use native.Mathlib.Numerals.{add-one}
 use native.Mathlib.Omega.{arith}
@@ -20,12 +20,19 @@ common_none [] = refl
 common_none (x ∷ xs) = refl
 
 module _ (a b : List ℕ) {n m : ℕ} (la : length a ≡ n) (lb : length b ≡ m) {i : ℕ} (so : common_prefix a b ≡ i + common_prefix (drop i a) (drop i b)) where
-  pub first_ends : n ≤ i → i ≡ common_prefix a b
+  first_ends : n ≤ i → i ≡ common_prefix a b
   unfolding common_prefix
   first_ends h = sym (so ∙ rw (drop_of_length-le a {i = i} (omega arith)) (omega arith))
 
-  pub second-ends : m ≤ i → i ≡ common_prefix a b
+  second-ends : m ≤ i → i ≡ common_prefix a b
   second-ends h = sym (so ∙ rw (drop_of_length-le b {i = i} (omega arith), common_none) (omega arith))
+
+  pub either_ends : {e : ℕ} → i ≡ e → e ≡ min n m → e ≡ common_prefix a b
+  either_ends h k =
+      elim (dec_lt i n) [
+        | yes l ↦ sym h ∙ second-ends (omega arith)
+        | no l ↦ sym h ∙ first_ends (omega arith)
+      ]
 
   module _ (h : i < n) (k : i < m) {x y : ℕ} (ex : x ≡ get_or a i 0) (ey : y ≡ get_or b i 0) where
     pub bytes_differ : (x ≡ y → ⊥) → i ≡ common_prefix a b
@@ -84,15 +91,18 @@ module _ (a b : List ℕ) {n m : ℕ} (la : length a ≡ n) (lb : length b ≡ m
   so : before a b ≡ before (drop i a) (drop i b)
   so = rw is (before-rest a b)
 
-  pub second_ended : m ≤ i → false ≡ before a b
-  second_ended h = sym (so ∙ rw (drop_of_length-le b {i = i} (omega arith)) (none_after (drop i a)))
+  ended : m ≤ i → false ≡ before a b
+  ended h = sym (so ∙ rw (drop_of_length-le b {i = i} (omega arith)) (none_after (drop i a)))
 
-  pub first_ended : n ≤ i → ltb i m ≡ before a b
+  pub second_ended : m ≤ i → i ≤ n → ltb n m ≡ before a b
+  second_ended h k = rw (le-ltb n m (omega arith)) (ended h)
+
+  pub first_ended : i ≡ n → ltb n m ≡ before a b
   unfolding before
   first_ended h =
       elim (dec_lt i m) [
-        | yes k ↦ rw (lt-ltb i m k) (sym (so ∙ rw (drop_of_length-le a {i = i} (omega arith), drop-cons b i 0 (omega arith)) refl))
-        | no k ↦ rw (le-ltb i m (omega arith)) (second_ended (omega arith))
+        | yes k ↦ rw (lt-ltb n m (omega arith)) (sym (so ∙ rw (drop_of_length-le a {i = i} (omega arith), drop-cons b i 0 (omega arith)) refl))
+        | no k ↦ second_ended (omega arith) (omega arith)
       ]
 
   module _ (h : i < n) (k : i < m) {x y : ℕ} (ex : x ≡ get_or a i 0) (ey : y ≡ get_or b i 0) where

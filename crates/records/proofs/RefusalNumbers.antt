@@ -9,11 +9,12 @@ use lib.Dec.{leb}
 use borrow.Author.Tests.{leb-true, eqb-true, not-false}
 use Rattle.stream.specs.Conditions.{first_of}
 use Rattle.stream.specs.Blocks.{sized, of_blocks}
-use Rattle.stream.specs.Inner.Blocks.{number_by, BlocksChecked}
-use Rattle.stream.specs.Laws.Conditions.{first-none, first_ahead, first_behind, blocks_numbered}
-use Rattle.stream.specs.declared.Blocks.{Blocks}
+use Rattle.std.specs.Prelude.{Ok, Err}
+use Rattle.values.specs.declared.refusal.Refusal.{Refusal}
+use Rattle.values.specs.Inner.Refusals.{number_of}
+use Rattle.stream.specs.Inner.Blocks.{BlocksChecked}
+use Rattle.stream.specs.Laws.Conditions.{first-none, first_ahead, first_behind, blocks_numbered, refusal_numbered}
 use Rattle.stream.specs.Payload.{payload}
-use Rattle.stream.specs.declared.Blocks.TheVariants.{Valid, Size, Check}
 use Rattle.records.specs.Layout.{laid_out}
 use Rattle.records.specs.Limits.{limited}
 use Rattle.records.specs.Values.{flatten_in, step_in, rescale_in, not_above, outside_bounds}
@@ -53,37 +54,31 @@ sized-block s a =
     let f = eqb-true (length s % 512) 0 (and_left _ _ (and_right (leb 1 (length s)) _ a)) in
     omega arith
 
-module _ (s : List ℕ) {b : Blocks} (j : BlocksChecked s b) where
-  ahead : (number_by b ≡ 0 → ⊥) → number_by b ≡ refusal_of s
+-- conditions 1 and 2 are the first
+pub by_blocks : (s : List ℕ) {r : Refusal} → BlocksChecked s (Err r) → number_of r ≡ refusal_of s
+unfolding of_stream
+by_blocks s {r} j = j.number ∙ sym (first_ahead (of_blocks s) (of_records (payload s)) (blocks_numbered s) (λ e. absurd (omega (arith, refusal_numbered r, j.number))))
+
+module _ (s : List ℕ) {m : ℕ} (j : BlocksChecked s (Ok m)) where
+  none : first_of (of_blocks s) ≡ 0
+  none = sym j.number
+
+  -- a stream of blocks has one
+  pub one_block : 512 ≤ length s
+  one_block = sized-block s (not-false (sized s) (sized-holds s none))
+
+  behind : refusal_of s ≡ first_of (of_records (payload s))
   unfolding of_stream
-  ahead h = j.number ∙ sym (first_ahead (of_blocks s) (of_records (payload s)) (blocks_numbered s) (λ e. h (j.number ∙ e)))
+  behind = first_behind (of_blocks s) (of_records (payload s)) (blocks_numbered s) none
 
-  pub by_size : b ≡ Size → 1 ≡ refusal_of s
-  by_size e = let n : 1 ≡ number_by b = rw e in n ∙ ahead (λ z. absurd (omega arith))
+  pub by_layout : laid_out (payload s) ≡ false → 3 ≡ refusal_of s
+  unfolding of_records first_of
+  by_layout k = sym (behind ∙ rw k)
 
-  pub by_check : b ≡ Check → 2 ≡ refusal_of s
-  by_check e = let n : 2 ≡ number_by b = rw e in n ∙ ahead (λ z. absurd (omega arith))
+  pub by_limits : laid_out (payload s) ≡ true → limited (payload s) ≡ false → 4 ≡ refusal_of s
+  unfolding of_records first_of
+  by_limits k l = sym (behind ∙ rw (k, l))
 
-  module _ {m : ℕ} (e : b ≡ Valid m) where
-    none : first_of (of_blocks s) ≡ 0
-    none = sym j.number ∙ rw e
-
-    -- a stream of blocks has one
-    pub one_block : 512 ≤ length s
-    one_block = sized-block s (not-false (sized s) (sized-holds s none))
-
-    behind : refusal_of s ≡ first_of (of_records (payload s))
-    unfolding of_stream
-    behind = first_behind (of_blocks s) (of_records (payload s)) (blocks_numbered s) none
-
-    pub by_layout : laid_out (payload s) ≡ false → 3 ≡ refusal_of s
-    unfolding of_records first_of
-    by_layout k = sym (behind ∙ rw k)
-
-    pub by_limits : laid_out (payload s) ≡ true → limited (payload s) ≡ false → 4 ≡ refusal_of s
-    unfolding of_records first_of
-    by_limits k l = sym (behind ∙ rw (k, l))
-
-    pub by_values : laid_out (payload s) ≡ true → limited (payload s) ≡ true → values_refusal (payload s) ≡ refusal_of s
-    unfolding of_records first_of
-    by_values k l = sym (behind ∙ rw (k, l))
+  pub by_values : laid_out (payload s) ≡ true → limited (payload s) ≡ true → values_refusal (payload s) ≡ refusal_of s
+  unfolding of_records first_of
+  by_values k l = sym (behind ∙ rw (k, l))

@@ -1,26 +1,23 @@
--- Tests: a call's answer, every number below n, and a list of zeros.
+-- Tests: every number below n, and a list of zeros.
 use mathlib.Core.Path.{◌≡◌, refl, sym, ◌∙◌}
 use mathlib.Core.List.{List, [], ◌∷◌}
-use mathlib.Core.Bool.{Bool, true, false, not, and-false}
+use mathlib.Core.Bool.{Bool, true, false, and-false}
 use mathlib.Core.Logic.{⊎_elim}
-use Prim.Native.Nat.{ℕ, zero, suc, ◌+◌, ◌≤◌, ◌<◌}
+use Prim.Native.Nat.{ℕ, zero, suc, ◌+◌, ◌-◌, ◌≤◌, ◌<◌}
 use native.Mathlib.Nat.{eq-or-lt_of_le}
 use native.Mathlib.Numerals.{add-one}
 use native.Mathlib.Omega.{arith}
 use lib.ListN.{length, get_or, drop, drop_of_length-le}
 use lib.Seq.{drop-cons}
 use lib.Dec.{eqb}
-use borrow.Author.Tests.{eq-eqb, ne_eqb, eqb-true, not-true, not-false}
+use borrow.Author.Tests.{eq-eqb, ne_eqb, eqb-true}
 use Rattle.stream.specs.Numbers.{u16_at, u32_at, u64_at}
-use Rattle.records.specs.Records.{all_to, all_zero}
+use Rattle.std.specs.Char.{is_ascii_graphic}
+use Rattle.std.specs.List.{list_all}
+use Rattle.std.proofs.Common.{ap, take, length-drop, get_or-drop}
+use Rattle.std.proofs.lemmas.List.Folds.{list_all_more}
+use Rattle.records.specs.Records.{all_to, all_zero, ascii_graphic}
 use Rattle.records.specs.Laws.Tests.{and_left, and_right}
-
--- ---- a call's answer, where the code tests that it does not hold
-pub was_true : {r b : Bool} → r ≡ b → not r ≡ false → b ≡ true
-was_true {r} e h = sym e ∙ not-false r h
-
-pub was_false : {r b : Bool} → r ≡ b → not r ≡ true → b ≡ false
-was_false {r} e h = sym e ∙ not-true r h
 
 -- ---- every number below n
 pub all_to-more : (f : ℕ → Bool) (k : ℕ) → all_to f k ≡ true → f k ≡ true → all_to f (k + 1) ≡ true
@@ -41,14 +38,22 @@ unfolding all_to
 all_to_same f g zero e = refl
 all_to_same f g (suc n) e = rw (all_to_same f g n (λ k h. e k (omega arith)), e n (omega arith)) refl
 
--- t is none of the numbers below n, nested as the last arm of a match has it
-abbrev pub NoneBelow : ℕ → ℕ → Type 0
-NoneBelow t zero = Unit {0}
-NoneBelow t (suc n) = NoneBelow t n × (t ≡ n → ⊥)
+-- n elements of a list, from p on
+listed : (f : ℕ → Bool) (l : List ℕ) (p n : ℕ) → p + n ≤ length l → list_all f (take n (drop p l)) ≡ all_to (λ i. f (get_or l (p + i) 0)) n
+unfolding all_to
+listed f l p zero h = refl
+listed f l p (suc n) h =
+    let here : n < length (drop p l) = omega (arith, length-drop p l) in
+    ap (λ (k : ℕ). list_all f (take k (drop p l))) (sym (add-one n)) ∙ list_all_more f (drop p l) n 0 here ∙ rw (listed f l p n (omega arith), get_or-drop) refl
 
-pub none_below : (t n : ℕ) → NoneBelow t n → n ≤ t
-none_below t zero o = omega arith
-none_below t (suc n) o = omega (arith, none_below t n o.0, o.1)
+-- as a slice has them
+pub all_listed : (f : ℕ → Bool) (l : List ℕ) (p n : ℕ) → p + n ≤ length l → list_all f (take (p + n - p) (drop p l)) ≡ all_to (λ i. f (get_or l (p + i) 0)) n
+all_listed f l p n h = let e : p + n - p ≡ n = omega arith in rw e (listed f l p n h)
+
+-- std's test of a byte
+pub graphic_is : (x : ℕ) → is_ascii_graphic x ≡ ascii_graphic x
+unfolding ascii_graphic
+graphic_is x = refl
 
 -- ---- zeros
 zero-at : (l : List ℕ) (i : ℕ) → all_zero l ≡ true → get_or l i 0 ≡ 0
@@ -93,6 +98,6 @@ module _ (l : List ℕ) (i : ℕ) where
   unfolding u64_at
   long_fails e = refuted (all_zero l) (λ h. e (rw (word-zero l i h, word-zero l (i + 4) h) refl))
 
-  pub long_turn : i + 8 ≤ length l → u64_at l i ≡ 0 → all_zero (drop i l) ≡ all_zero (drop (i + 8) l)
+  pub long_turn : {j : ℕ} → i + 8 ≡ j → j ≤ length l → u64_at l i ≡ 0 → all_zero (drop i l) ≡ all_zero (drop j l)
   unfolding u64_at
-  long_turn h e = word_turn l i (i + 4) refl (omega arith) (omega arith) ∙ word_turn l (i + 4) (i + 8) (omega arith) (omega arith) (omega arith)
+  long_turn {j} q h e = word_turn l i (i + 4) refl (omega arith) (omega arith) ∙ word_turn l (i + 4) j (omega arith) (omega arith) (omega arith)

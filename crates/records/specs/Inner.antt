@@ -5,3 +5,5 @@ pub mod Records
 pub mod Names
 pub mod Order
 pub mod Refusals
+pub mod Numbers
+pub mod Wanted

@@ -1,25 +1,23 @@
 -- Condition 4: every float is finite, and every canvas coordinate, w, h, r and rad is at most 1,000,000 in magnitude.
-use Rattle.std.specs.Prelude.{ℕ, zero, suc, ◌+◌, ◌*◌, ◌/◌, Bool, true, false, ◌&&◌, cond, List, [], ◌∷◌, eqb, Float}
+use Rattle.std.specs.Prelude.{ℕ, zero, suc, ◌+◌, ◌*◌, ◌/◌, Bool, true, false, ◌&&◌, cond, List, [], ◌∷◌, eqb, Float, Option, None, Some}
 use Rattle.std.specs.Float.{binary64}
 use Rattle.std.specs.Float.Ieee.{neg, of_bits, le}
 use Rattle.stream.specs.Numbers.{float_at}
-use Rattle.stream.specs.declared.Float64.{Float64}
-use Rattle.stream.specs.declared.Float64.TheVariants.{Finite, NotFinite}
 use Rattle.records.specs.declared.records.Record.{Record}
-use Rattle.records.specs.declared.records.Record.TheVariants.{Rescale, Option, Feature, Variable, Place, Item, Points, Path}
+use Rattle.records.specs.declared.records.Record.TheVariants.{Rescale, Option as OptionRecord, Feature, Variable, Place, Item, Points, Path}
 use Rattle.records.specs.Records.{all_to, values_width}
 use Rattle.records.specs.Walk.{Entry, entries}
 
 abbrev pub million : Float
 million = of_bits binary64 0x412e848000000000
 
-unfoldable pub is_finite : Float64 → Bool
-is_finite NotFinite = false
-is_finite (Finite v) = true
+unfoldable pub is_finite : Option Float → Bool
+is_finite None = false
+is_finite (Some v) = true
 
-unfoldable pub on_canvas : Float64 → Bool
-on_canvas NotFinite = false
-on_canvas (Finite v) = le (neg million) v && le v million
+unfoldable pub on_canvas : Option Float → Bool
+on_canvas None = false
+on_canvas (Some v) = le (neg million) v && le v million
 
 -- n floats from p on
 abbrev pub all_finite : List ℕ → ℕ → ℕ → Bool
@@ -35,7 +33,7 @@ option_floats o = cond (eqb o 1) 0 (cond (eqb o 2) 2 1)
 -- the floats of one record
 unfoldable pub limited_at : List ℕ → Record → Bool
 limited_at l Rescale = all_finite l 1 1
-limited_at l (Option o) = all_finite l 2 (option_floats o)
+limited_at l (OptionRecord o) = all_finite l 2 (option_floats o)
 limited_at l (Feature n) = all_finite l (2 + n) 2
 limited_at l (Variable n) = all_finite l (2 + n) 1
 limited_at l (Place n) = all_on_canvas l (2 + n) 2

@@ -14,17 +14,13 @@ pub fn common_prefix(s: &[u8], p: usize, n: usize, q: usize, m: usize) -> usize
     ensures { (result ≡ common_prefix (bytes_at (payload s.now) p n)
         (bytes_at (payload s.now) q m)) × (result ≤ n) }
 {
-    let mut i = 0usize;
-    while i < n {
-        if i >= m {
-            return i;
-        }
+    let both = n.min(m);
+    for i in 0..both {
         if byte(s, 0, p + i) != byte(s, 0, q + i) {
             return i;
         }
-        i += 1;
     }
-    i
+    both
 }
 
 // Whether the n bytes at p come before the m bytes at q.
@@ -34,11 +30,8 @@ pub fn name_before(s: &[u8], p: usize, n: usize, q: usize, m: usize) -> bool
         ≡ before (bytes_at (payload s.now) p n) (bytes_at (payload s.now) q m) }
 {
     let i = common_prefix(s, p, n, q, m);
-    if i >= n {
-        return i < m;
+    if i < n && i < m {
+        return byte(s, 0, p + i) < byte(s, 0, q + i);
     }
-    if i >= m {
-        return false;
-    }
-    byte(s, 0, p + i) < byte(s, 0, q + i)
+    n < m
 }

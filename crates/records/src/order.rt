@@ -5,13 +5,12 @@ ghost use Rattle.stream.specs.Inner.Payload.{room};
 ghost use Rattle.records.specs.declared.records.Record.{Record};
 ghost use Rattle.records.specs.Layout.{has_role, laid_out};
 ghost use Rattle.records.specs.Inner.Hits.{Stands};
-ghost use Rattle.records.specs.Inner.Order.{LeadsTo, order_step_if, tag_step_of, StateWithin, StepWithin};
+ghost use Rattle.records.specs.Inner.Numbers.{tag_number};
+ghost use Rattle.records.specs.Inner.Order.{LeadsTo, tag_step_of, StateWithin, StepWithin};
 
 use crate::names::name_before;
-use crate::numbers::{
-    ROLE_DRAWN, TAG_FEATURE, TAG_ITEM, TAG_OPTION, TAG_PLACE, TAG_RESCALE, TAG_VARIABLE,
-};
-use crate::records::{Record, Step, next_record, wide};
+use crate::numbers::{PointsRole, Tag};
+use crate::records::{Record, Step, next_record};
 
 // What the records so far leave to know.
 #[derive(Clone, Copy)]
@@ -26,110 +25,69 @@ pub struct State {
     pub roles: u8,
 }
 
-#[derive(Clone, Copy)]
-pub enum OrderStep {
-    InOrder(State),
-    Broken,
-}
-
 // Whether the last item has had points of this role.
 fn has_role(roles: u8, role: u8) -> bool
     ensures { result ≡ has_role roles role }
 {
-    if role == ROLE_DRAWN {
+    if role == PointsRole::Drawn as u8 {
         return roles % 2 == 1;
     }
     roles / 2 == 1
 }
 
-fn step_if(ok: bool, st: State) -> OrderStep
-    ensures { result ≡ order_step_if ok st }
-{
-    if ok {
-        OrderStep::InOrder(st)
-    } else {
-        OrderStep::Broken
-    }
-}
-
 // A record whose tag has its place after the tags from 1 to its own.
-fn tag(st: State, tag: u8) -> OrderStep
-    ensures { result ≡ tag_step_of st tag }
+fn tag(st: State, tag: Tag) -> Option<State>
+    ensures { result ≡ tag_step_of st (tag_number tag) }
 {
-    let last = st.last;
-    if last < TAG_RESCALE {
-        return OrderStep::Broken;
-    }
-    let mut next = st;
-    next.last = tag;
-    step_if(last <= tag, next)
+    let last = tag.number();
+    (Tag::Rescale as u8 <= st.last && st.last <= last).then_some(State { last, ..st })
 }
 
 // A variable, which stands at p.
-fn variable(s: &[u8], st: State, p: usize, name: u8) -> OrderStep
+fn variable(s: &[u8], st: State, p: usize, name: u8) -> Option<State>
     requires { StateWithin st (room s.now) × (p + 2 + name ≤ room s.now) }
     ensures leads_to { LeadsTo (payload s.now) st p (Record.Variable name) result }
     ensures step_within { StepWithin result (room s.now) }
 {
-    let at = st.at;
-    let len = st.len;
-    let n = wide(name);
-    if !name_before(s, at, len, p + 2, n) {
-        return OrderStep::Broken;
+    let at = p + 2;
+    let len = usize::from(name);
+    if !name_before(s, st.at, st.len, at, len) {
+        return None;
     }
-    let mut next = st;
-    next.at = p + 2;
-    next.len = n;
-    tag(next, TAG_VARIABLE)
+    tag(State { at, len, ..st }, Tag::Variable)
 }
 
-// One record, which stands at p.
-fn step(s: &[u8], st: State, p: usize, r: Record) -> OrderStep
+// The state behind one record, which stands at p; none where the record is not in its place.
+fn step(s: &[u8], st: State, p: usize, r: Record) -> Option<State>
     requires { StateWithin st (room s.now) × Stands (drop p (payload s.now)) r }
     ensures leads_to { LeadsTo (payload s.now) st p r result }
     ensures step_within { StepWithin result (room s.now) }
 {
-    let last = st.last;
-    let option = st.option;
-    let roles = st.roles;
-    let mut next = st;
     match r {
-        Record::Rescale => {
-            next.last = TAG_RESCALE;
-            step_if(last == 0, next)
-        }
-        Record::Option(o) => {
-            if o <= option {
-                return OrderStep::Broken;
+        Record::Rescale => (st.last == 0).then_some(State {
+            last: Tag::Rescale as u8,
+            ..st
+        }),
+        Record::Option(option) => {
+            if option <= st.option {
+                return None;
             }
-            next.option = o;
-            tag(next, TAG_OPTION)
+            tag(State { option, ..st }, Tag::Option)
         }
-        Record::Feature(_) => tag(st, TAG_FEATURE),
+        Record::Feature(_) => tag(st, Tag::Feature),
         Record::Variable(name) => variable(s, st, p, name),
-        Record::Place(_) => tag(st, TAG_PLACE),
-        Record::Item {
-            kind: _,
-            flags: _,
-            label: _,
-            has: _,
-        } => {
-            next.roles = 0;
-            tag(next, TAG_ITEM)
-        }
-        Record::Points { role, count: _ } => {
-            if has_role(roles, role) {
-                return OrderStep::Broken;
+        Record::Place(_) => tag(st, Tag::Place),
+        Record::Item { .. } => tag(State { roles: 0, ..st }, Tag::Item),
+        Record::Points { role, .. } => {
+            if has_role(st.roles, role) {
+                return None;
             }
-            next.roles = roles + 1 + role;
-            step_if(last == TAG_ITEM, next)
+            (st.last == Tag::Item as u8).then_some(State {
+                roles: st.roles + 1 + role,
+                ..st
+            })
         }
-        Record::Path {
-            role: _,
-            closed: _,
-            form: _,
-            count: _,
-        } => step_if(last == TAG_ITEM, st),
+        Record::Path { .. } => (st.last == Tag::Item as u8).then_some(st),
     }
 }
 
@@ -145,6 +103,7 @@ pub fn layout(s: &[u8]) -> bool
         len: 0,
         roles: 0,
     };
+    // Records follow one another by their sizes: no range has them.
     loop {
         let part = stream::part_from(s, p);
         let off = p % stream::PAYLOAD;
@@ -153,17 +112,15 @@ pub fn layout(s: &[u8]) -> bool
                 return false;
             }
             Step::End => {
-                return st.last >= TAG_RESCALE;
+                return st.last >= Tag::Rescale as u8;
             }
-            Step::Got(r, k) => match step(s, st, p, r) {
-                OrderStep::Broken => {
+            Step::Got(r, k) => {
+                let Some(next) = step(s, st, p, r) else {
                     return false;
-                }
-                OrderStep::InOrder(t) => {
-                    st = t;
-                    p += k;
-                }
-            },
+                };
+                st = next;
+                p += k;
+            }
         }
     }
 }

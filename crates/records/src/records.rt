@@ -1,17 +1,16 @@
 // One reader for each record, by the part of the stream that starts at the record's block and the offset in that block.
-ghost use Rattle.std.specs.Prelude.{◌≡◌, ◌+◌, ◌<◌, ◌≤◌, length, drop};
+ghost use Rattle.std.specs.Prelude.{◌≡◌, ◌+◌, ◌<◌, ◌≤◌, length, drop, get_or};
+ghost use Rattle.std.specs.Bool.{then_some};
+ghost use Rattle.stream.specs.Numbers.{u16_at};
 ghost use Rattle.stream.specs.Inner.Payload.{room, rest};
+ghost use Rattle.records.specs.Inner.Numbers.{form_of};
 ghost use Rattle.records.specs.Inner.Records.{FormFits};
-ghost use Rattle.records.specs.Records.{ascii_graphic, all_ascii_graphic, named, labelled, named_then, counted};
+ghost use Rattle.records.specs.Records.{all_ascii_graphic, named, labelled, named_then, counted};
 ghost use Rattle.records.specs.Records.{all_zero, option_width, option_fits, values_width, item_begins, end_of};
 ghost use Rattle.records.specs.Records.{rescale_of, option_of, feature_of, variable_of, place_of, item_of, points_of};
 ghost use Rattle.records.specs.Records.{path_with, path_of, record_of};
 
-use crate::numbers::{
-    FORM_CUBICS, FORM_POLYLINE, KIND_BLOCK, MAX_NAME, OPTION_ANCHOR, OPTION_FRAME, OPTION_STEP,
-    ROLE_FILL, TAG_END, TAG_FEATURE, TAG_ITEM, TAG_OPTION, TAG_PATH, TAG_PLACE, TAG_POINTS,
-    TAG_RESCALE, TAG_VARIABLE,
-};
+use crate::numbers::{Form, Kind, MAX_NAME, PointsRole, SheetOption, Tag};
 use stream::{byte, remaining, u16_at, u64_at};
 
 // A record. Names, floats and pairs stay in the stream, at places that the fields here settle.
@@ -53,41 +52,16 @@ pub enum Step {
     Bad,
 }
 
-// A byte as a length.
-pub fn wide(x: u8) -> usize
-    ensures { (result ≡ x) × (result < 256) }
-{
-    x as usize
-}
-
-// A count as a length.
-pub fn wide16(x: u16) -> usize
-    ensures { (result ≡ x) × (result < 65536) }
-{
-    x as usize
-}
-
-// Whether a byte is one of 33 to 126.
-fn is_ascii_graphic(x: u8) -> bool
-    ensures { result ≡ ascii_graphic x }
-{
-    if x < 33 {
-        return false;
-    }
-    x <= 126
-}
-
 // Whether n bytes from p on are all of 33 to 126, a check between them or not.
 fn split_ascii_graphic(part: &[u8], off: usize, p: usize, n: usize) -> bool
     requires { (off ≤ room part.now) × (p + n ≤ length (rest part.now off)) }
     ensures { result ≡ all_ascii_graphic (rest part.now off) p n }
 {
-    let mut i = 0usize;
-    while i < n {
-        if !is_ascii_graphic(byte(part, off, p + i)) {
+    // By index: in `all` the closure would have to state what `byte` requires.
+    for i in 0..n {
+        if !byte(part, off, p + i).is_ascii_graphic() {
             return false;
         }
-        i += 1;
     }
     true
 }
@@ -97,14 +71,7 @@ fn contiguous_ascii_graphic(part: &[u8], at: usize, n: usize) -> bool
     requires { at + n ≤ length part.now }
     ensures { result ≡ all_ascii_graphic part.now at n }
 {
-    let mut i = 0usize;
-    while i < n {
-        if !is_ascii_graphic(part[at + i]) {
-            return false;
-        }
-        i += 1;
-    }
-    true
+    part[at..at + n].iter().all(|x| x.is_ascii_graphic())
 }
 
 // Whether n bytes from p on are all of 33 to 126. A name seldom has a check between its bytes: it is read where it
@@ -113,11 +80,10 @@ fn all_ascii_graphic(part: &[u8], off: usize, p: usize, n: usize) -> bool
     requires { (off ≤ room part.now) × (p + n ≤ length (rest part.now off)) }
     ensures { result ≡ all_ascii_graphic (rest part.now off) p n }
 {
-    let run = stream::contiguous_at(off, p, n);
-    if run.some {
-        return contiguous_ascii_graphic(part, run.at, n);
+    match stream::contiguous_at(off, p, n) {
+        Ok(at) => contiguous_ascii_graphic(part, at, n),
+        Err(_) => split_ascii_graphic(part, off, p, n),
     }
-    split_ascii_graphic(part, off, p, n)
 }
 
 // Whether a name stands at p.
@@ -129,7 +95,7 @@ fn is_name(part: &[u8], off: usize, p: usize) -> bool
     if p >= len {
         return false;
     }
-    let n = wide(byte(part, off, p));
+    let n = usize::from(byte(part, off, p));
     if n < 1 {
         return false;
     }
@@ -153,27 +119,29 @@ fn is_label(part: &[u8], off: usize, p: usize) -> bool
     is_name(part, off, p)
 }
 
-// Whether a name stands after the tag, and `more` bytes after it.
-fn named_then(part: &[u8], off: usize, more: usize) -> bool
+// The length of the name after the tag, if a name stands there, and `more` bytes after it.
+fn name_then(part: &[u8], off: usize, more: usize) -> Option<u8>
     requires { (off ≤ room part.now) × (more < 256) }
-    ensures { result ≡ named_then (rest part.now off) more }
+    ensures { result ≡ then_some (named_then (rest part.now off) more) (get_or (rest part.now off) 1 0) }
 {
     if !is_name(part, off, 1) {
-        return false;
+        return None;
     }
-    remaining(part, off) >= 2 + more + wide(byte(part, off, 1))
+    let name = byte(part, off, 1);
+    (remaining(part, off) >= 2 + more + usize::from(name)).then_some(name)
 }
 
-// Whether a count stands at p, and `each` bytes for each after it.
-fn counts(part: &[u8], off: usize, p: usize, each: usize) -> bool
+// The count at p, if one stands there, and `each` bytes for each after it.
+fn count_at(part: &[u8], off: usize, p: usize, each: usize) -> Option<u16>
     requires { (off ≤ room part.now) × (p < 256) × (each < 256) }
-    ensures { result ≡ counted (rest part.now off) p each }
+    ensures { result ≡ then_some (counted (rest part.now off) p each) (u16_at (rest part.now off) p) }
 {
     let len = remaining(part, off);
     if len < p + 2 {
-        return false;
+        return None;
     }
-    len >= p + 2 + each * wide16(u16_at(part, off, p))
+    let count = u16_at(part, off, p);
+    (len >= p + 2 + each * usize::from(count)).then_some(count)
 }
 
 // Whether the bytes from i on are zeros.
@@ -181,13 +149,10 @@ fn zeros_from(part: &[u8], off: usize, i: usize) -> bool
     requires { off ≤ room part.now }
     ensures { result ≡ all_zero (drop i (rest part.now off)) }
 {
-    let len = remaining(part, off);
-    let mut k = i;
-    while k < len {
+    for k in i..remaining(part, off) {
         if byte(part, off, k) != 0 {
             return false;
         }
-        k += 1;
     }
     true
 }
@@ -197,15 +162,13 @@ fn zeros(part: &[u8], off: usize) -> bool
     requires { off ≤ room part.now }
     ensures { result ≡ all_zero (rest part.now off) }
 {
-    let len = remaining(part, off);
-    let mut i = 0usize;
-    while len - i >= 8 {
-        if u64_at(part, off, i) != 0 {
+    let n = remaining(part, off) / 8;
+    for k in 0..n {
+        if u64_at(part, off, 8 * k) != 0 {
             return false;
         }
-        i += 8;
     }
-    zeros_from(part, off, i)
+    zeros_from(part, off, 8 * n)
 }
 
 // The end record: only zeros follow.
@@ -234,10 +197,10 @@ fn read_rescale(part: &[u8], off: usize) -> Step
 pub fn option_width(option: u8) -> usize
     ensures { (result ≡ option_width option) × (1 ≤ result) × (result ≤ 16) }
 {
-    if option == OPTION_FRAME {
+    if option == SheetOption::Frame as u8 {
         return 1;
     }
-    if option == OPTION_ANCHOR {
+    if option == SheetOption::Anchor as u8 {
         return 16;
     }
     8
@@ -248,16 +211,16 @@ fn option_fits(part: &[u8], off: usize, option: u8) -> bool
     requires { off ≤ room part.now }
     ensures { result ≡ option_fits (rest part.now off) option }
 {
-    if option < OPTION_FRAME {
+    if option < SheetOption::Frame as u8 {
         return false;
     }
-    if option > OPTION_STEP {
+    if option > SheetOption::Step as u8 {
         return false;
     }
     if remaining(part, off) < 2 + option_width(option) {
         return false;
     }
-    if option > OPTION_FRAME {
+    if option > SheetOption::Frame as u8 {
         return true;
     }
     byte(part, off, 2) <= 1
@@ -281,33 +244,31 @@ fn read_feature(part: &[u8], off: usize) -> Step
     requires { off ≤ room part.now }
     ensures { result ≡ feature_of (rest part.now off) }
 {
-    if !named_then(part, off, 16) {
-        return Step::Bad;
+    match name_then(part, off, 16) {
+        Some(name) => Step::Got(Record::Feature(name), 18 + usize::from(name)),
+        None => Step::Bad,
     }
-    let name = byte(part, off, 1);
-    Step::Got(Record::Feature(name), 18 + wide(name))
 }
 
+// Apart from `read_feature`: one reader of both would be given its constructor and its width, and be no shorter.
 fn read_variable(part: &[u8], off: usize) -> Step
     requires { off ≤ room part.now }
     ensures { result ≡ variable_of (rest part.now off) }
 {
-    if !named_then(part, off, 8) {
-        return Step::Bad;
+    match name_then(part, off, 8) {
+        Some(name) => Step::Got(Record::Variable(name), 10 + usize::from(name)),
+        None => Step::Bad,
     }
-    let name = byte(part, off, 1);
-    Step::Got(Record::Variable(name), 10 + wide(name))
 }
 
 fn read_place(part: &[u8], off: usize) -> Step
     requires { off ≤ room part.now }
     ensures { result ≡ place_of (rest part.now off) }
 {
-    if !named_then(part, off, 25) {
+    let Some(name) = name_then(part, off, 25) else {
         return Step::Bad;
-    }
-    let name = byte(part, off, 1);
-    let n = wide(name);
+    };
+    let n = usize::from(name);
     if byte(part, off, 18 + n) > 1 {
         return Step::Bad;
     }
@@ -330,7 +291,7 @@ fn item_begins(part: &[u8], off: usize) -> bool
     if remaining(part, off) < 4 {
         return false;
     }
-    if byte(part, off, 1) > KIND_BLOCK {
+    if byte(part, off, 1) > Kind::Block as u8 {
         return false;
     }
     if byte(part, off, 2) >= 32 {
@@ -350,7 +311,7 @@ fn read_item(part: &[u8], off: usize) -> Step
     let kind = byte(part, off, 1);
     let flags = byte(part, off, 2);
     let label = byte(part, off, 3);
-    let n = wide(label);
+    let n = usize::from(label);
     if len < 13 + n {
         return Step::Bad;
     }
@@ -358,7 +319,7 @@ fn read_item(part: &[u8], off: usize) -> Step
     if has >= 32 {
         return Step::Bad;
     }
-    let size = 13 + n + values_width(wide(has));
+    let size = 13 + n + values_width(usize::from(has));
     if len < size {
         return Step::Bad;
     }
@@ -377,36 +338,34 @@ fn read_points(part: &[u8], off: usize) -> Step
     requires { off ≤ room part.now }
     ensures { result ≡ points_of (rest part.now off) }
 {
-    if !counts(part, off, 2, 16) {
+    let Some(count) = count_at(part, off, 2, 16) else {
         return Step::Bad;
-    }
+    };
     let role = byte(part, off, 1);
-    if role > ROLE_FILL {
+    if role > PointsRole::Fill as u8 {
         return Step::Bad;
     }
-    let count = u16_at(part, off, 2);
-    Step::Got(Record::Points { role, count }, 4 + 16 * wide16(count))
+    Step::Got(Record::Points { role, count }, 4 + 16 * usize::from(count))
 }
 
 // A path of a form whose count stands at p, with `each` bytes for each after it.
-fn read_form(part: &[u8], off: usize, form: u8, p: usize, each: usize) -> Step
+fn read_form(part: &[u8], off: usize, form: Form, p: usize, each: usize) -> Step
     requires { (off ≤ room part.now) × FormFits p each }
-    ensures { result ≡ path_with (rest part.now off) form p each }
+    ensures { result ≡ path_with (rest part.now off) (form_of form) p each }
 {
-    if !counts(part, off, p, each) {
+    let Some(count) = count_at(part, off, p, each) else {
         return Step::Bad;
-    }
+    };
     let role = byte(part, off, 1);
     let closed = byte(part, off, 2);
-    let count = u16_at(part, off, p);
     Step::Got(
         Record::Path {
             role,
             closed,
-            form,
+            form: form.number(),
             count,
         },
-        p + 2 + each * wide16(count),
+        p + 2 + each * usize::from(count),
     )
 }
 
@@ -417,16 +376,16 @@ fn read_path(part: &[u8], off: usize) -> Step
     if remaining(part, off) < 4 {
         return Step::Bad;
     }
-    if byte(part, off, 1) > ROLE_FILL {
+    if byte(part, off, 1) > PointsRole::Fill as u8 {
         return Step::Bad;
     }
     if byte(part, off, 2) > 1 {
         return Step::Bad;
     }
-    match byte(part, off, 3) {
-        FORM_CUBICS => read_form(part, off, FORM_CUBICS, 20, 48),
-        FORM_POLYLINE => read_form(part, off, FORM_POLYLINE, 4, 16),
-        _ => Step::Bad,
+    match Form::try_from(byte(part, off, 3)) {
+        Ok(Form::Cubics) => read_form(part, off, Form::Cubics, 20, 48),
+        Ok(Form::Polyline) => read_form(part, off, Form::Polyline, 4, 16),
+        Err(_) => Step::Bad,
     }
 }
 
@@ -438,16 +397,16 @@ pub fn next_record(part: &[u8], off: usize) -> Step
     if remaining(part, off) == 0 {
         return Step::Bad;
     }
-    match byte(part, off, 0) {
-        TAG_END => read_end(part, off),
-        TAG_RESCALE => read_rescale(part, off),
-        TAG_OPTION => read_option(part, off),
-        TAG_FEATURE => read_feature(part, off),
-        TAG_VARIABLE => read_variable(part, off),
-        TAG_PLACE => read_place(part, off),
-        TAG_ITEM => read_item(part, off),
-        TAG_POINTS => read_points(part, off),
-        TAG_PATH => read_path(part, off),
-        _ => Step::Bad,
+    match Tag::try_from(byte(part, off, 0)) {
+        Ok(Tag::End) => read_end(part, off),
+        Ok(Tag::Rescale) => read_rescale(part, off),
+        Ok(Tag::Option) => read_option(part, off),
+        Ok(Tag::Feature) => read_feature(part, off),
+        Ok(Tag::Variable) => read_variable(part, off),
+        Ok(Tag::Place) => read_place(part, off),
+        Ok(Tag::Item) => read_item(part, off),
+        Ok(Tag::Points) => read_points(part, off),
+        Ok(Tag::Path) => read_path(part, off),
+        Err(_) => Step::Bad,
     }
 }

@@ -1,16 +1,55 @@
 // The next record that a question asks for.
-ghost use Rattle.std.specs.Prelude.{◌≡◌, true, false, ◌||◌, [], ◌≤◌, eqb, get_or, drop};
+ghost use Rattle.std.specs.Prelude.{◌≡◌, ◌||◌, [], ◌≤◌, IfOk, IfNone, IfSome, eqb, get_or, drop};
 ghost use Rattle.stream.specs.Payload.{payload};
 ghost use Rattle.records.specs.Records.{record_of};
 ghost use Rattle.records.specs.Walk.{tag_of};
 ghost use Rattle.records.specs.Search.{key_of, ends_search, search_step_of};
-ghost use Rattle.records.specs.Inner.Hits.{records_at, RecordAt, hits_of, SkipsTo, OptionValue};
+ghost use Rattle.records.specs.Inner.Hits.{records_at, RecordAt, hits_of, end_of, SkipsTo, OptionValue};
+ghost use Rattle.records.specs.Inner.Numbers.{tag_number, sheet_option_of};
+ghost use Rattle.records.specs.Inner.Wanted.{wanted_tag, wanted_key};
 
-use crate::numbers::{
-    NO_KEY, TAG_END, TAG_FEATURE, TAG_ITEM, TAG_OPTION, TAG_PATH, TAG_PLACE, TAG_POINTS,
-    TAG_RESCALE, TAG_VARIABLE,
-};
+use crate::numbers::{PointsRole, SheetOption, Tag};
 use crate::records::{Record, Step, next_record};
+
+// What a search asks for: records of a tag and, of options, points and paths, of a kind.
+#[derive(Clone, Copy, Debug, PartialEq, Eq)]
+pub enum Wanted {
+    Option(SheetOption),
+    Feature,
+    Variable,
+    Place,
+    Item,
+    Points(PointsRole),
+    Path(PointsRole),
+}
+
+impl Wanted {
+    // The first byte of such a record.
+    fn tag(self) -> Tag
+        ensures { tag_number result ≡ wanted_tag self }
+    {
+        match self {
+            Wanted::Option(_) => Tag::Option,
+            Wanted::Feature => Tag::Feature,
+            Wanted::Variable => Tag::Variable,
+            Wanted::Place => Tag::Place,
+            Wanted::Item => Tag::Item,
+            Wanted::Points(_) => Tag::Points,
+            Wanted::Path(_) => Tag::Path,
+        }
+    }
+
+    // Which option it is, or what its points or path are for; 0 of the others.
+    fn key(self) -> u8
+        ensures { result ≡ wanted_key self }
+    {
+        match self {
+            Wanted::Option(option) => option.number(),
+            Wanted::Points(role) | Wanted::Path(role) => role.number(),
+            _ => 0,
+        }
+    }
+}
 
 // Where a search stands at a record: it is one asked for, it is passed over, or none can follow.
 #[derive(Clone, Copy)]
@@ -20,11 +59,9 @@ enum SearchStep {
     Over,
 }
 
-// What a search found: whether a record, where it stands in the payload, and where the one after it. Where `some` is
-// false, `at` is where the search ended, and `next` is free.
+// A record that a search found: where it stands in the payload, and where the one after it.
 #[derive(Clone, Copy)]
 pub struct Hit {
-    pub some: bool,
     pub at: usize,
     pub next: usize,
 }
@@ -40,54 +77,29 @@ pub fn record_at(s: &[u8], p: usize) -> Step
 }
 
 // A record's first byte.
-fn tag_of(r: Record) -> u8
-    ensures { result ≡ tag_of r }
+fn tag_of(r: Record) -> Tag
+    ensures { tag_number result ≡ tag_of r }
 {
     match r {
-        Record::Rescale => TAG_RESCALE,
-        Record::Option(_) => TAG_OPTION,
-        Record::Feature(_) => TAG_FEATURE,
-        Record::Variable(_) => TAG_VARIABLE,
-        Record::Place(_) => TAG_PLACE,
-        Record::Item {
-            kind: _,
-            flags: _,
-            label: _,
-            has: _,
-        } => TAG_ITEM,
-        Record::Points { role: _, count: _ } => TAG_POINTS,
-        Record::Path {
-            role: _,
-            closed: _,
-            form: _,
-            count: _,
-        } => TAG_PATH,
+        Record::Rescale => Tag::Rescale,
+        Record::Option(_) => Tag::Option,
+        Record::Feature(_) => Tag::Feature,
+        Record::Variable(_) => Tag::Variable,
+        Record::Place(_) => Tag::Place,
+        Record::Item { .. } => Tag::Item,
+        Record::Points { .. } => Tag::Points,
+        Record::Path { .. } => Tag::Path,
     }
 }
 
-// Which option it is, or what its points or path are for.
+// Which option it is, or what its points or path are for; 0 of the others.
 fn key_of(r: Record) -> u8
     ensures { result ≡ key_of r }
 {
     match r {
-        Record::Rescale => NO_KEY,
         Record::Option(option) => option,
-        Record::Feature(_) => NO_KEY,
-        Record::Variable(_) => NO_KEY,
-        Record::Place(_) => NO_KEY,
-        Record::Item {
-            kind: _,
-            flags: _,
-            label: _,
-            has: _,
-        } => NO_KEY,
-        Record::Points { role, count: _ } => role,
-        Record::Path {
-            role,
-            closed: _,
-            form: _,
-            count: _,
-        } => role,
+        Record::Points { role, .. } | Record::Path { role, .. } => role,
+        _ => 0,
     }
 }
 
@@ -95,21 +107,22 @@ fn key_of(r: Record) -> u8
 fn ends_search(t: u8, x: u8) -> bool
     ensures { result ≡ ends_search t x }
 {
-    if t < TAG_ITEM {
+    if t < Tag::Item as u8 {
         return t < x;
     }
-    if t == TAG_ITEM {
+    if t == Tag::Item as u8 {
         return false;
     }
-    x < TAG_POINTS
+    x < Tag::Points as u8
 }
 
-fn search_step(r: Record, tag: u8, key: u8) -> SearchStep
-    ensures { result ≡ search_step_of tag key r }
+fn search_step(r: Record, wanted: Wanted) -> SearchStep
+    ensures { result ≡ search_step_of (wanted_tag wanted) (wanted_key wanted) r }
 {
-    let x = tag_of(r);
+    let tag = wanted.tag().number();
+    let x = tag_of(r).number();
     if x == tag {
-        if key_of(r) == key {
+        if key_of(r) == wanted.key() {
             return SearchStep::Matches;
         }
     }
@@ -124,7 +137,7 @@ pub fn tag_at(s: &[u8], q: usize) -> u8
     ensures { result ≡ get_or (payload s.now) q 0 }
 {
     if q >= stream::remaining(s, 0) {
-        return TAG_END;
+        return Tag::End as u8;
     }
     stream::byte(s, 0, q)
 }
@@ -134,64 +147,42 @@ pub fn tag_at(s: &[u8], q: usize) -> u8
 fn is_search_over(t: u8, x: u8) -> bool
     ensures { result ≡ (eqb x 0 || ends_search t x) }
 {
-    if x == TAG_END {
+    if x == Tag::End as u8 {
         return true;
     }
     ends_search(t, x)
 }
 
-// The first record of a tag and key from p on, as far as such a record can stand. Up to where the search ends, no
-// record has a greater tag.
-pub fn find(s: &[u8], p: usize, tag: u8, key: u8) -> Hit
-    ensures key_value { records_at (payload s.now) p tag key
-        ≡ hits_of (payload s.now) tag key result }
-    ensures record_at { result.some ≡ true → RecordAt (payload s.now) tag key result.at result.next }
-    ensures p_le_at { p ≤ result.at }
-    ensures skips_to { SkipsTo (payload s.now) tag p result.at }
+// The first such record from p on, as far as one can stand; where there is none, where the search ended. Up to where it
+// ends, no record has a greater tag.
+pub fn find(s: &[u8], p: usize, wanted: Wanted) -> Result<Hit, usize>
+    ensures key_value { records_at (payload s.now) p (wanted_tag wanted) (wanted_key wanted)
+        ≡ hits_of (payload s.now) (wanted_tag wanted) (wanted_key wanted) result }
+    ensures record_at { IfOk result
+        (λ h. RecordAt (payload s.now) (wanted_tag wanted) (wanted_key wanted) h.at h.next) }
+    ensures p_le_at { p ≤ end_of result }
+    ensures skips_to { SkipsTo (payload s.now) (wanted_tag wanted) p (end_of result) }
 {
+    let tag = wanted.tag().number();
     let mut q = p;
+    // Records follow one another by their sizes: no range has them.
     loop {
         if is_search_over(tag, tag_at(s, q)) {
-            return Hit {
-                some: false,
-                at: q,
-                next: q,
-            };
+            return Err(q);
         }
-        match record_at(s, q) {
-            Step::Bad => {
-                return Hit {
-                    some: false,
-                    at: q,
-                    next: q,
-                };
+        let Step::Got(r, k) = record_at(s, q) else {
+            return Err(q);
+        };
+        match search_step(r, wanted) {
+            SearchStep::Matches => {
+                return Ok(Hit { at: q, next: q + k });
             }
-            Step::End => {
-                return Hit {
-                    some: false,
-                    at: q,
-                    next: q,
-                };
+            SearchStep::Over => {
+                return Err(q);
             }
-            Step::Got(r, k) => match search_step(r, tag, key) {
-                SearchStep::Matches => {
-                    return Hit {
-                        some: true,
-                        at: q,
-                        next: q + k,
-                    };
-                }
-                SearchStep::Over => {
-                    return Hit {
-                        some: false,
-                        at: q,
-                        next: q,
-                    };
-                }
-                SearchStep::Skip => {
-                    q += k;
-                }
-            },
+            SearchStep::Skip => {
+                q += k;
+            }
         }
     }
 }
@@ -200,7 +191,7 @@ pub fn find(s: &[u8], p: usize, tag: u8, key: u8) -> Hit
 fn behind_rescale(s: &[u8]) -> usize
     ensures { SkipsTo (payload s.now) 1 0 result }
 {
-    if tag_at(s, 0) != TAG_RESCALE {
+    if tag_at(s, 0) != Tag::Rescale as u8 {
         return 0;
     }
     if stream::remaining(s, 0) < 9 {
@@ -209,14 +200,13 @@ fn behind_rescale(s: &[u8]) -> usize
     9
 }
 
-// Where an option's value stands in the payload, 0 if there is no such option.
-pub fn option_at(s: &[u8], option: u8) -> usize
-    ensures option_value { result ≡ 0 → records_at (payload s.now) 0 2 option ≡ [] }
-    ensures option_value_2 { (result ≡ 0 → ⊥) → OptionValue (payload s.now) option result }
+// Where an option's value stands in the payload, if there is such an option.
+pub fn option_at(s: &[u8], option: SheetOption) -> Option<usize>
+    ensures absent { IfNone result (records_at (payload s.now) 0 2 (sheet_option_of option) ≡ []) }
+    ensures present { IfSome result (λ p. OptionValue (payload s.now) (sheet_option_of option) p) }
 {
-    let h = find(s, behind_rescale(s), TAG_OPTION, option);
-    if !h.some {
-        return 0;
-    }
-    h.at + 2
+    let Ok(h) = find(s, behind_rescale(s), Wanted::Option(option)) else {
+        return None;
+    };
+    Some(h.at + 2)
 }

@@ -8,8 +8,10 @@ use lib.ListN.{length, length-append}
 use Rattle.scene.specs.Scene.{Scene, NamedFeature, NamedValue, scene_of}
 use Rattle.scene.specs.Laws.Answers.{scene_lists}
 use Rattle.register.specs.declared.survey.Survey.{Survey}
-use Rattle.register.specs.Register.{Event, control, warn, is_lon, cons_if, variable_events, feature_events, events, controls_in, warnings_in, controls_of}
+use Rattle.register.specs.Register.{Event, control, warn, is_lon, cons_if, variable_events, feature_events, events, controls_in, warnings_in}
 use Rattle.register.specs.Inner.Survey.{lons_in, Surveyed}
+use Rattle.register.specs.Inner.Gathered.{numbers_in}
+use Rattle.register.specs.Laws.Kept.{numbers_length}
 
 pub lon_events : (sc : Scene) (i : ℕ) (vs : List NamedValue) → length (variable_events sc i vs) ≡ lons_in vs
 unfolding lons_in variable_events
@@ -50,6 +52,5 @@ module _ {l : List ℕ} {v : Survey} (s : Surveyed l v) where
   pub only_features : v.lon_count ≡ 0 → variable_events (scene_of l) 0 (scene_of l).variables ≡ []
   only_features h = none_left _ (omega (arith, s.lon_count, lon_events (scene_of l) 0 (scene_of l).variables, ap lons_in (scene_lists l).1))
 
-  pub none-warned : {n : ℕ} → n ≡ length (controls_of (scene_of l)) → v.name_count ≡ n → warnings_in (events (scene_of l)) ≡ []
-  unfolding controls_of
-  none-warned e h = all_controls (events (scene_of l)) (omega (arith, s.name-count, all-events (scene_of l), ap length (scene_lists l).0, ap lons_in (scene_lists l).1))
+  pub none-warned : {kept : List ℕ} → kept ≡ numbers_in 0 (events (scene_of l)) → v.name_count ≡ length kept → warnings_in (events (scene_of l)) ≡ []
+  none-warned e h = all_controls (events (scene_of l)) (omega (arith, ap length e, numbers_length 0 (events (scene_of l)), s.name-count, all-events (scene_of l), ap length (scene_lists l).0, ap lons_in (scene_lists l).1))

@@ -1,4 +1,5 @@
 -- Entries lose their marks: that of a name, and those of the first host features.
+use Rattle.std.specs.Prelude.{Option, None, Some, is_some, Ok}
 use mathlib.Core.Path.{◌≡◌, refl, sym, ◌∙◌}
 use mathlib.Core.Bool.{Bool, true, false, cond, ◌||◌, or-false, or_assoc, false≢true}
 use mathlib.Core.List.{List, [], ◌∷◌, ◌++◌}
@@ -9,16 +10,12 @@ use native.Mathlib.Omega.{arith}
 use lib.ListN.{length, take, drop, get_or, set, length-append, length-set}
 use lib.Seq.{get_or-set_same, get_or-set_other}
 use lib.Dec.{eqb}
-use lib.Ieee.{Float}
 use borrow.Author.Tests.{eq-eqb, eqb-false}
-use Rattle.stream.specs.Payload.{payload}
-use Rattle.stream.specs.Inner.Payload.{room}
-use Rattle.stream.specs.Laws.Payload.{payload-length}
 use Rattle.records.specs.Records.{bytes_at}
+use Rattle.scene.specs.declared.labels.Best.{Best}
 use Rattle.scene.specs.declared.readers.FeatureName.{FeatureName}
 use Rattle.scene.specs.Scene.{NamedFeature, Scene, float_value_at, scene_of}
 use Rattle.values.specs.declared.Point.{Point}
-use Rattle.values.specs.Maybe.{Maybe, none, some, is_some}
 use Rattle.scene.specs.Labels.{same_bytes}
 use Rattle.scene.specs.Inner.Answers.{features_at, features_by, feature_by, LengthPrefixed}
 use Rattle.scene.specs.Laws.Answers.{scene_lists}
@@ -46,9 +43,9 @@ marked_less t t' (suc n) k p o z = go (ℕ_discrete n k) (marked_less t t' n k)
     go : Dec (n ≡ k) → (k < n → ((i : ℕ) → (i ≡ k → ⊥) → get_or t' i 0 ≡ get_or t i 0) → mark_of (get_or t' k 0) ≡ 0 → marked t n ≡ marked t' n + cond (eqb (mark_of (get_or t k 0)) 0) 0 1)
         → marked t n + cond (eqb (mark_of (get_or t n 0)) 0) 0 1 ≡ marked t' n + cond (eqb (mark_of (get_or t' n 0)) 0) 0 1 + cond (eqb (mark_of (get_or t k 0)) 0) 0 1
     go (yes e) f =
-        let none : eqb (mark_of (get_or t' k 0)) 0 ≡ true = eq-eqb (mark_of (get_or t' k 0)) 0 z in
+        let gone : eqb (mark_of (get_or t' k 0)) 0 ≡ true = eq-eqb (mark_of (get_or t' k 0)) 0 z in
         let alike = marked_same t t' n (λ i q. o i (λ w. omega (arith, q, w, e))) in
-        rw (alike, e, none) (omega arith)
+        rw (alike, e, gone) (omega arith)
     go (no d) f =
         let before = f (omega (arith, p, d)) o z in
         rw (o n d) (omega arith)
@@ -140,7 +137,7 @@ mentioned_snoc y [] f = or-false (same_bytes f.name y)
 mentioned_snoc y (g ∷ fs) f = rw (mentioned_snoc y fs f) (sym (or_assoc (same_bytes g.name y) (mentioned y fs) (same_bytes f.name y)))
 
 abbrev mention_of : ℕ → NamedFeature → Mention
-mention_of i f = record { name = f.name; lon = f.lon; lat = some f.lat; index = i }
+mention_of i f = record { name = f.name; lon = f.lon; lat = Some f.lat; index = i }
 
 mentions_snoc : (i : ℕ) (fs : List NamedFeature) (f : NamedFeature) → feature_mentions i (fs ++ f ∷ []) ≡ feature_mentions i fs ++ mention_of (i + length fs) f ∷ []
 unfolding feature_mentions
@@ -180,9 +177,9 @@ module _ (sc : Scene) (fs : List NamedFeature) (f : NamedFeature) where
       new : grown_all no_name (feature_mentions 0 fs) f.name ≡ false
       new = grown_features no_name 0 fs f.name ∙ h
 
-      by : (p : Maybe Point) → resolved sc f.name ≡ p → length (controls_in last) ≡ 1
-      by none p = absurd (false≢true (rw p at e))
-      by (some s) p = rw (p, new) refl
+      by : (p : Option Point) → resolved sc f.name ≡ p → length (controls_in last) ≡ 1
+      by None p = absurd (false≢true (rw p at e))
+      by (Some s) p = rw (p, new) refl
 
 pub record Forgets (l : List ℕ) (more : ℕ) (t₀ t : List ℕ) (n i q k : ℕ) : Type 0 where
   pub few : k ≤ i
@@ -217,26 +214,21 @@ as_many e h =
     }
 
 module _ {l : List ℕ} {more : ℕ} {t₀ t : List ℕ} {n i q k : ℕ} (h : Forgets l more t₀ t n i q k) where
-  pub forgets_all : i ≤ k → KnownCleared l more t₀ t n i
-  forgets_all p =
-      let e : k ≡ i = omega (arith, h.few, p) in
-      as_many (rw e refl) h.done
+  pub forgets_ends : features_at l q ≡ [] → KnownCleared l more t₀ t n i
+  forgets_ends e = as_many (none_left (scene_of l).features k i (sym h.rest ∙ e) h.few) h.done
 
-  module _ (r : FeatureName) (a : features_at l q ≡ features_by l (feature_by l r)) where
-    pub forgets_ends : r.some ≡ false → KnownCleared l more t₀ t n i
-    forgets_ends e = as_many (none_left (scene_of l).features k i (sym h.rest ∙ (rw e at a)) h.few) h.done
-
-    module _ (e : r.some ≡ true) {t' : List ℕ} {m : ℕ} (d : Taken more l t t' n (bytes_at l r.at r.len) m) where
+  module _ (r : FeatureName) (a : features_at l q ≡ features_by l (feature_by l (Ok r))) where
+    module _ {t' : List ℕ} {m : ℕ} (d : Taken more l t t' n (bytes_at l r.at r.len) m) where
       abbrev feature : NamedFeature
       feature = record { name = bytes_at l r.at r.len; lon = float_value_at l (r.at + r.len); lat = float_value_at l (r.at + r.len + 8) }
 
       left : drop k (scene_of l).features ≡ feature ∷ features_at l r.next
-      left = sym h.rest ∙ (rw e at a)
+      left = sym h.rest ∙ a
 
       longer : take (k + 1) (scene_of l).features ≡ take k (scene_of l).features ++ feature ∷ []
       longer = next-take k (scene_of l).features (features_at l r.next) feature left
 
-      one_more : (spots : List Float) → MarksTell (scene_of l) more l t n spots (among_features (scene_of l) k) → (b : Bool) → eqb m 0 ≡ b
+      one_more : (spots : List Best) → MarksTell (scene_of l) more l t n spots (among_features (scene_of l) k) → (b : Bool) → eqb m 0 ≡ b
           → cond (eqb m 0) 0 1 ≤ length (controls_in (last (scene_of l) (take k (scene_of l).features) feature))
       one_more spots w true p = rw p (omega arith)
       one_more spots w false p =
@@ -261,10 +253,6 @@ module _ {l : List ℕ} {more : ℕ} {t₀ t : List ℕ} {n i q k : ℕ} (h : Fo
                   counted = λ spots w. rw (longer, points_snoc (scene_of l) (take k (scene_of l).features) feature) (omega (arith, h.done.counted spots w, d.counted, one_more spots (h.done.waits spots w) (eqb m 0) refl));
                 };
           }
-
--- a name that stands behind its length can be looked for
-pub takeable : (s : List ℕ) {t : List ℕ} {at len more n : ℕ} → LengthPrefixed (payload s) at len → more ≤ 4 → Table more (payload s) t n → (at - 1 + 9 + len ≤ room s) × (len + more ≤ 255) × Table more (payload s) t n
-takeable s h m d = (omega (arith, h.behind, h.fits, payload-length s), omega (arith, h.short), d)
 
 pub behind_taken : {l t t' : List ℕ} {at len more n r : ℕ} → LengthPrefixed l at len → Taken more l t t' n (bytes_at l (at - 1 + 1) len) r → Taken more l t t' n (bytes_at l at len) r
 behind_taken {at = at} h d =

@@ -15,7 +15,6 @@ pub mod Known
 pub mod EventCounts
 pub mod PartEvents
 pub mod GatheredBatches
-pub mod CopiedControls
 pub mod KeptNumbers
 pub mod PushedWarnings
 pub mod WarningLaws

@@ -1,12 +1,11 @@
 -- Names `<L>_lon`, and their parts in a payload.
 use mathlib.Core.Path.{◌≡◌, refl, sym, ◌∙◌, ap}
-use mathlib.Core.Bool.{Bool, true, false, not}
+use mathlib.Core.Bool.{true, false, not, ◌&&◌}
 use mathlib.Core.List.{List, ◌++◌}
 use Prim.Native.Nat.{ℕ, ◌+◌, ◌-◌, ◌≤◌, ◌<◌}
 use native.Mathlib.Omega.{arith}
 use lib.ListN.{length, take, length-drop, take-append-drop}
 use lib.Seq.{take-append_seam, drop-append_seam, take-append-add, length-take-le}
-use borrow.Author.Tests.{not-true, not-false}
 use Rattle.stream.specs.Payload.{payload}
 use Rattle.stream.specs.Inner.Payload.{room}
 use Rattle.records.specs.Records.{bytes_at}
@@ -39,14 +38,9 @@ module _ (s : List ℕ) (p n : ℕ) (h : p + n ≤ room s) where
   unfolding is_lon
   too_short g = rw (same_lengths (ending (bytes_at (payload s) p n)) suffix_lon (λ e. omega (arith, name-length s p n h, length-drop (length (bytes_at (payload s) p n) - 4) (bytes_at (payload s) p n)))) refl
 
-  module _ (g : 4 ≤ n) {t : Bool} (e : t ≡ same_bytes (bytes_at (payload s) (p + n - 4) 4) suffix_lon) where
-    pub other_ending : not t ≡ true → false ≡ is_lon (bytes_at (payload s) p n)
-    unfolding is_lon
-    other_ending k = rw (ending_at {k = p + n - 4} g (omega arith), ← e, not-true t k) refl
-
-    pub lon_ending : {u : Bool} → not t ≡ false → u ≡ same_bytes (bytes_at (payload s) p (n - 4)) geo → not u ≡ is_lon (bytes_at (payload s) p n)
-    unfolding is_lon
-    lon_ending k f = rw (ending_at {k = p + n - 4} g (omega arith), stem-at g, ← e, not-false t k, f) refl
+  pub lon_by_parts : 4 ≤ n → is_lon (bytes_at (payload s) p n) ≡ (same_bytes (bytes_at (payload s) (p + n - 4) 4) suffix_lon && not (same_bytes (bytes_at (payload s) p (n - 4)) geo))
+  unfolding is_lon
+  lon_by_parts g = rw (ending_at {k = p + n - 4} g (omega arith), stem-at g) refl
 
 -- ---- a name `<L>_lon` by itself
 module _ (name : List ℕ) (h : is_lon name ≡ true) where

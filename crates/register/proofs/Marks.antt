@@ -1,4 +1,5 @@
 -- Names of a table that wait for their first mention: after one more name is known.
+use Rattle.std.specs.Prelude.{is_some}
 use mathlib.Core.Path.{◌≡◌, refl, sym, ◌∙◌}
 use mathlib.Core.Logic.{◌⊎◌, inl, inr}
 use mathlib.Core.Bool.{Bool, true, false, ◌||◌, or-true, false≢true}
@@ -6,14 +7,13 @@ use mathlib.Core.List.{List, [], ◌∷◌}
 use Prim.Native.Nat.{ℕ, ◌%◌, ◌≤◌, ◌<◌}
 use native.Mathlib.Omega.{arith}
 use lib.ListN.{get_or}
-use lib.Ieee.{Float}
 use borrow.Author.Tests.{eq-eqb}
+use Rattle.scene.specs.declared.labels.Best.{Best}
 use Rattle.scene.specs.Scene.{Scene}
 use Rattle.scene.specs.Labels.{same_bytes}
 use Rattle.scene.specs.Laws.Rising.{same_eq}
 use Rattle.names.specs.Inner.Table.{name_of, mark_of, Contains}
 use Rattle.register.specs.Register.{resolved}
-use Rattle.values.specs.Maybe.{is_some}
 use Rattle.register.specs.Inner.Gathered.{Taken, MarksTell, Fewer}
 
 pub same_self : (x : List ℕ) → same_bytes x x ≡ true
@@ -33,7 +33,7 @@ module _ (t t' : List ℕ) (e : (i : ℕ) → get_or t' i 0 % 33554432 ≡ get_o
   in_stays {more} {l} d = record { at = d.at; within = d.within; is = name_stays more l d.at ∙ d.is }
 
 -- `was` matters only by what it says
-pub waits_by : {sc : Scene} {more : ℕ} {l t : List ℕ} {n : ℕ} {spots : List Float} {was now : List ℕ → Bool}
+pub waits_by : {sc : Scene} {more : ℕ} {l t : List ℕ} {n : ℕ} {spots : List Best} {was now : List ℕ → Bool}
     → ((y : List ℕ) → now y ≡ was y) → MarksTell sc more l t n spots was → MarksTell sc more l t n spots now
 waits_by {sc} {more} {l} {t} e w =
     record {
@@ -61,14 +61,14 @@ module _ {more : ℕ} {l t t' : List ℕ} {n : ℕ} {x : List ℕ} {r : ℕ} (k 
       by (inl p) = omega arith
       by (inr p) = rw p.0 (omega arith)
 
-  module _ {sc : Scene} {spots : List Float} {was : List ℕ → Bool} (w : MarksTell sc more l t n spots was) where
+  module _ {sc : Scene} {spots : List Best} {was : List ℕ → Bool} (w : MarksTell sc more l t n spots was) where
     pub taken_waits : MarksTell sc more l t' n spots (λ y. was y || same_bytes x y)
     taken_waits =
         record {
           no_more = λ i h z. rw (name_stays t t' k.names more l i) (no_more i h z (cases i h));
           resolves = λ i h z. rw (name_stays t t' k.names more l i) (w.resolves i h (stays i h z).0);
           unnamed = λ i h z. rw (name_stays t t' k.names more l i, w.unnamed i h (stays i h z).0, (stays i h z).2) refl;
-          spot = λ i h z f d. rw (name_stays t t' k.names more l i, (stays i h z).1) (w.spot i h (stays i h z).0 (rw (stays i h z).1 at f) d);
+          spot = λ i h z f. rw (name_stays t t' k.names more l i, (stays i h z).1) (w.spot i h (stays i h z).0 (rw (stays i h z).1 at f));
         }
       where
         split : (i : ℕ) → i < n → 1 ≤ mark_of (get_or t' i 0)

@@ -1,4 +1,5 @@
 -- The events of a part of the names, batch after batch.
+use Rattle.std.specs.Prelude.{Option, None, Some, is_some}
 use mathlib.Core.Path.{◌≡◌, refl, sym, ap, ◌∙◌}
 use mathlib.Core.Bool.{Bool, true, false, ◌||◌, cond, false≢true, or-false}
 use mathlib.Core.List.{List, [], ◌∷◌, ◌++◌, map, append_assoc}
@@ -11,7 +12,6 @@ use Rattle.stream.specs.Payload.{payload}
 use Rattle.records.specs.Layout.{before}
 use Rattle.scene.specs.Scene.{Scene, NamedFeature, NamedValue, scene_of}
 use Rattle.values.specs.declared.Point.{Point}
-use Rattle.values.specs.Maybe.{Maybe, none, some, is_some}
 use Rattle.scene.specs.Labels.{same_bytes}
 use Rattle.scene.specs.Inner.Answers.{features_at, variables_at}
 use Rattle.scene.specs.Laws.Rising.{Rising, before_trans, before_itself, same_eq}
@@ -28,9 +28,9 @@ use Rattle.register.proofs.EventCounts.{feature-events, lon_events}
 use Rattle.register.specs.Inner.Gathered.{numbers_in, named, among, no_name, among_features, grown_all, part_events, base_of, batch_events, Earlier}
 
 -- ---- names that were before, by equal functions
-grown_cong : (was was' : List ℕ → Bool) (x : List ℕ) (lat : Maybe Float) → ((y : List ℕ) → was y ≡ was' y) → (y : List ℕ) → grown_by was x lat y ≡ grown_by was' x lat y
-grown_cong was was' x none e y = e y
-grown_cong was was' x (some lat) e y = rw (e y) refl
+grown_cong : (was was' : List ℕ → Bool) (x : List ℕ) (lat : Option Float) → ((y : List ℕ) → was y ≡ was' y) → (y : List ℕ) → grown_by was x lat y ≡ grown_by was' x lat y
+grown_cong was was' x None e y = e y
+grown_cong was was' x (Some lat) e y = rw (e y) refl
 
 pub events_cong : (sc : Scene) (again : ℕ) (was was' : List ℕ → Bool) (ms : List Mention) → ((y : List ℕ) → was y ≡ was' y) → events_of sc again was ms ≡ events_of sc again was' ms
 unfolding events_of
@@ -48,32 +48,32 @@ unfolding grown_all
 was_stays was [] y h = h
 was_stays was (m ∷ ms) y h = was_stays (grown_by was m.name m.lat) ms y (one m.lat)
   where
-    one : (lat : Maybe Float) → grown_by was m.name lat y ≡ true
-    one none = h
-    one (some lat) = rw h refl
+    one : (lat : Option Float) → grown_by was m.name lat y ≡ true
+    one None = h
+    one (Some lat) = rw h refl
 
 pub among_grown : (was : List ℕ → Bool) (ms : List Mention) (y : List ℕ) → among y ms ≡ true → grown_all was ms y ≡ true
 unfolding grown_all among
 among_grown was [] y h = absurd (false≢true h)
 among_grown was (m ∷ ms) y h = by m.lat refl (named y m m.lat) refl (among_grown (grown_by was m.name m.lat) ms y)
   where
-    by : (lat : Maybe Float) → m.lat ≡ lat → (b : Bool) → named y m m.lat ≡ b → (among y ms ≡ true → grown_all (grown_by was m.name m.lat) ms y ≡ true) → grown_all (grown_by was m.name m.lat) ms y ≡ true
+    by : (lat : Option Float) → m.lat ≡ lat → (b : Bool) → named y m m.lat ≡ b → (among y ms ≡ true → grown_all (grown_by was m.name m.lat) ms y ≡ true) → grown_all (grown_by was m.name m.lat) ms y ≡ true
     by lat e false f g = g (rw f at h)
-    by none e true f g = absurd (false≢true (rw e at f))
-    by (some lat) e true f g = was_stays _ ms y (rw e (or_true (was y) (same_bytes m.name y) (rw e at f)))
+    by None e true f g = absurd (false≢true (rw e at f))
+    by (Some lat) e true f g = was_stays _ ms y (rw e (or_true (was y) (same_bytes m.name y) (rw e at f)))
 
 -- ---- mentions that come to no control point
 module _ (sc : Scene) (again : ℕ) where
-  lost : (b : Bool) (m : Mention) (lat : Maybe Float) → (named m.name m lat ≡ true → is_some (resolved sc m.name) ≡ false) → (j : ℕ) (es : List Event)
+  lost : (b : Bool) (m : Mention) (lat : Option Float) → (named m.name m lat ≡ true → is_some (resolved sc m.name) ≡ false) → (j : ℕ) (es : List Event)
       → (controls_in (event_with sc again b m lat ∷ es) ≡ controls_in es) × (numbers_in j (event_with sc again b m lat ∷ es) ≡ numbers_in (suc j) es)
   unfolding controls_in numbers_in event_of
-  lost b m none h j es = (refl, refl)
-  lost b m (some lat) h j es = by (resolved sc m.name) (h (same_self m.name))
+  lost b m None h j es = (refl, refl)
+  lost b m (Some lat) h j es = by (resolved sc m.name) (h (same_self m.name))
     where
-      by : (p : Maybe Point) → is_some p ≡ false → (controls_in (event_of p b m.lon lat (record { kind = 2; index = m.index }) (record { kind = again; index = m.index }) ∷ es) ≡ controls_in es)
+      by : (p : Option Point) → is_some p ≡ false → (controls_in (event_of p b m.lon lat (record { kind = 2; index = m.index }) (record { kind = again; index = m.index }) ∷ es) ≡ controls_in es)
           × (numbers_in j (event_of p b m.lon lat (record { kind = 2; index = m.index }) (record { kind = again; index = m.index }) ∷ es) ≡ numbers_in (suc j) es)
-      by none e = (refl, refl)
-      by (some p) e = absurd (false≢true (sym e))
+      by None e = (refl, refl)
+      by (Some p) e = absurd (false≢true (sym e))
 
   pub none_come : (was : List ℕ → Bool) (ms : List Mention) → ((x : List ℕ) → among x ms ≡ true → is_some (resolved sc x) ≡ false) → (j : ℕ)
       → (controls_in (events_of sc again was ms) ≡ []) × (numbers_in j (events_of sc again was ms) ≡ [])
@@ -92,7 +92,7 @@ module _ (sc : Scene) where
   features_are was i us [] e k w = refl
   features_are was i us (f ∷ fs) e k w =
       let z : take i sc.features ≡ us = rw (e, k) (take-append_seam us (f ∷ fs)) in
-      let t = features_are (grown_by was f.name (some f.lat)) (suc i) (us ++ f ∷ []) fs (rw e (sym (append_assoc us (f ∷ []) fs))) (omega (arith, length-append us (f ∷ []))) (λ y. rw (w y) (sym (mentioned_snoc y us f))) in
+      let t = features_are (grown_by was f.name (Some f.lat)) (suc i) (us ++ f ∷ []) fs (rw e (sym (append_assoc us (f ∷ []) fs))) (omega (arith, length-append us (f ∷ []))) (λ y. rw (w y) (sym (mentioned_snoc y us f))) in
       rw (z, w f.name) (ap (λ (x : List Event). event_of (resolved sc f.name) (mentioned f.name us) f.lon f.lat (record { kind = 2; index = i }) (record { kind = 2; index = i }) ∷ x) t)
 
   pub all_features : feature_events sc 0 sc.features ≡ events_of sc 2 no_name (feature_mentions 0 sc.features)
@@ -103,7 +103,7 @@ module _ (sc : Scene) where
   unfolding feature_mentions
   mentions_take zero i fs = refl
   mentions_take (suc a) i [] = refl
-  mentions_take (suc a) i (f ∷ fs) = ap (λ (x : List Mention). record { name = f.name; lon = f.lon; lat = some f.lat; index = i } ∷ x) (mentions_take a (suc i) fs)
+  mentions_take (suc a) i (f ∷ fs) = ap (λ (x : List Mention). record { name = f.name; lon = f.lon; lat = Some f.lat; index = i } ∷ x) (mentions_take a (suc i) fs)
 
   pub features_length : length (feature_mentions 0 sc.features) ≡ length sc.features
   features_length = sym (events-length sc 2 no_name (feature_mentions 0 sc.features)) ∙ ap length (sym all_features) ∙ feature-events sc 0 sc.features
@@ -125,10 +125,10 @@ abbrev pub events_at : Scene → List Mention → List Event
 events_at sc ms = map (event_at sc) ms
 
 module _ (sc : Scene) where
-  event-is : (m : Mention) (lat : Maybe Float) → lon_event sc m.index m.name m.lon lat ≡ event_with sc 3 (mentioned m.name sc.features) m lat
+  event-is : (m : Mention) (lat : Option Float) → lon_event sc m.index m.name m.lon lat ≡ event_with sc 3 (mentioned m.name sc.features) m lat
   unfolding lon_event
-  event-is m none = refl
-  event-is m (some lat) = refl
+  event-is m None = refl
+  event-is m (Some lat) = refl
 
   pub mention_events : (i : ℕ) (vs : List NamedValue) → variable_events sc i vs ≡ events_at sc (lon_mentions sc i vs)
   unfolding variable_events lon_mentions
@@ -171,9 +171,9 @@ module _ (sc : Scene) where
       later : (name : List ℕ) → is_lon name ≡ true → before v.name name ≡ true → was (stem name) ≡ mentioned (stem name) sc.features
       later name l m = w name l (before_trans u v.name name r.0 m)
 
-      grown_same : is_lon v.name ≡ true → (lat : Maybe Float) (name : List ℕ) → is_lon name ≡ true → before v.name name ≡ true → grown_by was (stem v.name) lat (stem name) ≡ mentioned (stem name) sc.features
-      grown_same e none name l m = later name l m
-      grown_same e (some lat) name l m = rw (other_stem v.name name e l m) (or-false (was (stem name)) ∙ later name l m)
+      grown_same : is_lon v.name ≡ true → (lat : Option Float) (name : List ℕ) → is_lon name ≡ true → before v.name name ≡ true → grown_by was (stem v.name) lat (stem name) ≡ mentioned (stem name) sc.features
+      grown_same e None name l m = later name l m
+      grown_same e (Some lat) name l m = rw (other_stem v.name name e l m) (or-false (was (stem name)) ∙ later name l m)
 
       by : (b : Bool) → is_lon v.name ≡ b → (k : ℕ)
           → ((was : List ℕ → Bool) (k : ℕ) → ((name : List ℕ) → is_lon name ≡ true → before v.name name ≡ true → was (stem name) ≡ mentioned (stem name) sc.features)

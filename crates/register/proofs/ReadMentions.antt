@@ -1,7 +1,8 @@
 -- Mentions one after another: what they come to, and a batch that is read.
+use Rattle.std.specs.Prelude.{Option, None, Some, is_some, Ok, Err}
 use mathlib.Core.Path.{◌≡◌, refl, sym, ap, ◌∙◌}
 use mathlib.Core.Logic.{◌⊎◌, inl, inr}
-use mathlib.Core.Bool.{Bool, true, false, not, ◌||◌, or-true, false≢true}
+use mathlib.Core.Bool.{Bool, true, false, ◌||◌, or-true, false≢true}
 use mathlib.Core.List.{List, [], ◌∷◌, ◌++◌, append_assoc, append-nil}
 use Prim.Native.Nat.{ℕ, zero, suc, ◌+◌, ◌-◌, ◌≤◌, ◌<◌}
 use native.Mathlib.Numerals.{add-one, unary_clauses}
@@ -9,15 +10,13 @@ use native.Mathlib.Omega.{arith}
 use lib.Dec.{leb}
 use lib.ListN.{length, take, drop, get_or, length-append}
 use lib.Seq.{take-nil}
-use lib.Ieee.{Float, nan}
-use borrow.Author.Tests.{eq-eqb, ne_eqb, leb-true, leb-false, not-true, not-false}
+use lib.Ieee.{Float}
+use borrow.Author.Tests.{eq-eqb, ne_eqb, leb-true, leb-false}
 use Rattle.stream.specs.Payload.{payload}
 use Rattle.records.specs.Records.{bytes_at}
-use Rattle.scene.specs.declared.fields.OptionalFloat.{OptionalFloat}
+use Rattle.scene.specs.declared.labels.Best.{Best}
 use Rattle.scene.specs.Scene.{Scene, scene_of}
 use Rattle.values.specs.declared.Point.{Point}
-use Rattle.values.specs.Maybe.{Maybe, none, some, is_some}
-use Rattle.scene.specs.Inner.Answers.{maybe_float}
 use Rattle.fit.specs.declared.Control.{Control}
 use Rattle.names.specs.Inner.Table.{mark_of, Table, Contains}
 use Rattle.names.specs.Inner.Batch.{slot_point}
@@ -66,8 +65,8 @@ events-append sc again was [] ns = refl
 events-append sc again was (m ∷ ms) ns = ap (λ (es : List Event). event_with sc again (was m.name) m m.lat ∷ es) (events-append sc again (grown_by was m.name m.lat) ms ns)
 
 -- ---- a batch is read: some mentions, then more
-pub read_nothing : {l : List ℕ} {lons : Bool} {t : List ℕ} {n : ℕ} {spots : List Float} (j : ℕ) {ms : List Mention} {g : Tally} {flat : List Float} {kept : List ℕ}
-    → (h : BeforeRead l lons ms t n spots g flat kept) → AfterRead l lons [] t t n spots j h.was h.b h.cs h.js g flat kept
+pub read_nothing : {l : List ℕ} {lons : Bool} {t : List ℕ} {n : ℕ} {spots : List Best} (j : ℕ) {ms : List Mention} {g : Tally} {held : List Control} {kept : List ℕ}
+    → (h : BeforeRead l lons ms t n spots g held kept) → AfterRead l lons [] t t n spots j h.was h.b h.cs h.js g held kept
 unfolding grown_all controls_in numbers_in events_of
 read_nothing j h =
     record {
@@ -78,10 +77,10 @@ read_nothing j h =
       counted = omega arith;
     }
 
-module _ {l : List ℕ} {lons : Bool} {ms ns : List Mention} {t t' t'' : List ℕ} {n : ℕ} {spots : List Float} {j : ℕ} {was : List ℕ → Bool} {b : Bool} {cs : List Control} {js : List ℕ} {g g' : Tally} {flat flat' : List Float} {kept kept' : List ℕ} where
-  pub read_more : AfterRead l lons ms t t' n spots j was b cs js g flat kept
-      → AfterRead l lons ns t' t'' n spots (j + length ms) (grown_all was ms) b (cs ++ controls_in (events_of (scene_of l) (again_of lons) was ms)) (js ++ numbers_in j (events_of (scene_of l) (again_of lons) was ms)) g' flat' kept'
-      → AfterRead l lons (ms ++ ns) t t'' n spots j was b cs js g' flat' kept'
+module _ {l : List ℕ} {lons : Bool} {ms ns : List Mention} {t t' t'' : List ℕ} {n : ℕ} {spots : List Best} {j : ℕ} {was : List ℕ → Bool} {b : Bool} {cs : List Control} {js : List ℕ} {g g' : Tally} {held held' : List Control} {kept kept' : List ℕ} where
+  pub read_more : AfterRead l lons ms t t' n spots j was b cs js g held kept
+      → AfterRead l lons ns t' t'' n spots (j + length ms) (grown_all was ms) b (cs ++ controls_in (events_of (scene_of l) (again_of lons) was ms)) (js ++ numbers_in j (events_of (scene_of l) (again_of lons) was ms)) g' held' kept'
+      → AfterRead l lons (ms ++ ns) t t'' n spots j was b cs js g' held' kept'
   read_more d e =
       let es = events_of (scene_of l) (again_of lons) was ms in
       let fs = events_of (scene_of l) (again_of lons) (grown_all was ms) ns in
@@ -97,12 +96,12 @@ module _ {l : List ℕ} {lons : Bool} {ms ns : List Mention} {t t' t'' : List �
       }
 
 -- one mention more of those that are ready
-module _ {l : List ℕ} {lons : Bool} {all ms : List Mention} {m : Mention} {t t' t'' : List ℕ} {n : ℕ} {spots : List Float} {j : ℕ} {g g' g'' : Tally} {flat flat' flat'' : List Float} {kept kept' kept'' : List ℕ}
-    (h : BeforeRead l lons all t n spots g flat kept) where
+module _ {l : List ℕ} {lons : Bool} {all ms : List Mention} {m : Mention} {t t' t'' : List ℕ} {n : ℕ} {spots : List Best} {j : ℕ} {g g' g'' : Tally} {held held' held'' : List Control} {kept kept' kept'' : List ℕ}
+    (h : BeforeRead l lons all t n spots g held kept) where
   pub read_on : ((x : List ℕ) → among x (m ∷ []) ≡ true → among x all ≡ true)
-      → AfterRead l lons ms t t' n spots j h.was h.b h.cs h.js g' flat' kept'
-      → ((k : BeforeRead l lons (m ∷ []) t' n spots g' flat' kept') → AfterRead l lons (m ∷ []) t' t'' n spots (j + length ms) k.was k.b k.cs k.js g'' flat'' kept'')
-      → AfterRead l lons (ms ++ m ∷ []) t t'' n spots j h.was h.b h.cs h.js g'' flat'' kept''
+      → AfterRead l lons ms t t' n spots j h.was h.b h.cs h.js g' held' kept'
+      → ((k : BeforeRead l lons (m ∷ []) t' n spots g' held' kept') → AfterRead l lons (m ∷ []) t' t'' n spots (j + length ms) k.was k.b k.cs k.js g'' held'' kept'')
+      → AfterRead l lons (ms ++ m ∷ []) t t'' n spots j h.was h.b h.cs h.js g'' held'' kept''
   read_on one d f =
       read_more d
       (f
@@ -119,11 +118,11 @@ module _ {l : List ℕ} {lons : Bool} {all ms : List Mention} {m : Mention} {t t
 
 -- ---- one mention
 -- its name is among the entries
-here : {x : List ℕ} {lat : Float} (m : Mention) → m.name ≡ x → m.lat ≡ some lat → among x (m ∷ []) ≡ true
+here : {x : List ℕ} {lat : Float} (m : Mention) → m.name ≡ x → m.lat ≡ Some lat → among x (m ∷ []) ≡ true
 unfolding among
 here {x} m e f = rw (f, e, same_self x) refl
 
-module _ {l : List ℕ} {lons : Bool} {m : Mention} {t : List ℕ} {n : ℕ} {spots : List Float} {g : Tally} {flat : List Float} {kept : List ℕ} (h : BeforeRead l lons (m ∷ []) t n spots g flat kept) (j : ℕ) where
+module _ {l : List ℕ} {lons : Bool} {m : Mention} {t : List ℕ} {n : ℕ} {spots : List Best} {g : Tally} {held : List Control} {kept : List ℕ} (h : BeforeRead l lons (m ∷ []) t n spots g held kept) (j : ℕ) where
   abbrev event : Event
   event = event_with (scene_of l) (again_of lons) (h.was m.name) m m.lat
 
@@ -137,11 +136,11 @@ module _ {l : List ℕ} {lons : Bool} {m : Mention} {t : List ℕ} {n : ℕ} {sp
     unfolding events_of numbers_in
     warn_numbers = rw e refl
 
-    warn_holds : Holds h.b (h.cs ++ controls_in (events_of (scene_of l) (again_of lons) h.was (m ∷ []))) (h.js ++ numbers_in j (events_of (scene_of l) (again_of lons) h.was (m ∷ []))) g flat kept
+    warn_holds : Holds h.b (h.cs ++ controls_in (events_of (scene_of l) (again_of lons) h.was (m ∷ []))) (h.js ++ numbers_in j (events_of (scene_of l) (again_of lons) h.was (m ∷ []))) g held kept
     warn_holds = rw (warn_controls, warn_numbers, append-nil h.cs, append-nil h.js) h.holds
 
   -- no latitude
-  pub read_lost : m.lat ≡ none → AfterRead l lons (m ∷ []) t t n spots j h.was h.b h.cs h.js g flat kept
+  pub read_lost : m.lat ≡ None → AfterRead l lons (m ∷ []) t t n spots j h.was h.b h.cs h.js g held kept
   unfolding grown_all
   read_lost f =
       record {
@@ -152,13 +151,13 @@ module _ {l : List ℕ} {lons : Bool} {m : Mention} {t : List ℕ} {n : ℕ} {sp
         counted = omega arith;
       }
 
-  module _ {lat : Float} (f : m.lat ≡ some lat) {t' : List ℕ} {r : ℕ} (k : Taken (more_of lons) l t t' n m.name r) where
+  module _ {lat : Float} (f : m.lat ≡ Some lat) {t' : List ℕ} {r : ℕ} (k : Taken (more_of lons) l t t' n m.name r) where
     now_waits : MarksTell (scene_of l) (more_of lons) l t' n spots (grown_all h.was (m ∷ []))
     unfolding grown_all
     now_waits = waits_by (λ y. rw f refl) (taken_waits k h.waits)
 
     -- no mark
-    pub read_again : r ≡ 0 → AfterRead l lons (m ∷ []) t t' n spots j h.was h.b h.cs h.js g flat kept
+    pub read_again : r ≡ 0 → AfterRead l lons (m ∷ []) t t' n spots j h.was h.b h.cs h.js g held kept
     unfolding event_of
     read_again z =
         record {
@@ -172,12 +171,12 @@ module _ {l : List ℕ} {lons : Bool} {m : Mention} {t : List ℕ} {n : ℕ} {sp
         d : Contains (more_of lons) l t n m.name
         d = h.inside m.name (here m refl f)
 
-        warns : (p : Maybe Point) → resolved (scene_of l) m.name ≡ p → (b : Bool) → h.was m.name ≡ b → (is_some (resolved (scene_of l) m.name) ≡ false) ⊎ (h.was m.name ≡ true)
-            → Holds h.b (h.cs ++ controls_in (events_of (scene_of l) (again_of lons) h.was (m ∷ []))) (h.js ++ numbers_in j (events_of (scene_of l) (again_of lons) h.was (m ∷ []))) g flat kept
-        warns none p b q o = warn_holds {w = record { kind = 2; index = m.index }} (rw (f, p) refl)
-        warns (some s) p true q o = warn_holds {w = record { kind = again_of lons; index = m.index }} (rw (f, p, q) refl)
-        warns (some s) p false q (inl o) = absurd (false≢true (sym o ∙ rw p refl))
-        warns (some s) p false q (inr o) = absurd (false≢true (sym q ∙ o))
+        warns : (p : Option Point) → resolved (scene_of l) m.name ≡ p → (b : Bool) → h.was m.name ≡ b → (is_some (resolved (scene_of l) m.name) ≡ false) ⊎ (h.was m.name ≡ true)
+            → Holds h.b (h.cs ++ controls_in (events_of (scene_of l) (again_of lons) h.was (m ∷ []))) (h.js ++ numbers_in j (events_of (scene_of l) (again_of lons) h.was (m ∷ []))) g held kept
+        warns None p b q o = warn_holds {w = record { kind = 2; index = m.index }} (rw (f, p) refl)
+        warns (Some s) p true q o = warn_holds {w = record { kind = again_of lons; index = m.index }} (rw (f, p, q) refl)
+        warns (Some s) p false q (inl o) = absurd (false≢true (sym o ∙ rw p refl))
+        warns (Some s) p false q (inr o) = absurd (false≢true (sym q ∙ o))
 
     -- a mark: a control point
     module _ (z : 1 ≤ r) where
@@ -193,15 +192,15 @@ module _ {l : List ℕ} {lons : Bool} {m : Mention} {t : List ℕ} {n : ℕ} {sp
       found : is_some (resolved (scene_of l) m.name) ≡ true
       found = rw first.is at (h.waits.resolves first.at first.within (omega (arith, mark)))
 
-      at_spot : r ≤ 64 → resolved (scene_of l) m.name ≡ some (slot_point spots r nan)
-      at_spot q = rw (first.is, mark) at (h.waits.spot first.at first.within (omega (arith, mark)) (omega (arith, mark)) nan)
+      at_spot : r ≤ 64 → resolved (scene_of l) m.name ≡ slot_point spots r
+      at_spot q = rw (first.is, mark) at (h.waits.spot first.at first.within (omega (arith, mark)) (omega (arith, mark)))
 
       unknown : 64 < r → (b : Bool) → h.b ≡ b → h.b ≡ false
       unknown q true e = absurd (omega (arith, mark, h.slots e first.at first.within))
       unknown q false e = e
 
       -- at the point p
-      module _ (p : Point) (e : resolved (scene_of l) m.name ≡ some p) where
+      module _ (p : Point) (e : resolved (scene_of l) m.name ≡ Some p) where
         abbrev point : Control
         point = record { x = p.x; y = p.y; lon = m.lon; lat = lat }
 
@@ -217,18 +216,18 @@ module _ {l : List ℕ} {lons : Bool} {m : Mention} {t : List ℕ} {n : ℕ} {sp
         unfolding numbers_in
         numbers_are = rw events_are refl
 
-        module _ (c : Control) (a : c.lon ≡ m.lon) (o : c.lat ≡ lat) (s : r ≤ 64 → point_in c ≡ slot_point spots r nan) {g' : Tally} {flat' : List Float} {kept' : List ℕ}
-            (y : Holds h.b (h.cs ++ c ∷ []) (h.js ++ j ∷ []) g' flat' kept') where
+        module _ (c : Control) (a : c.lon ≡ m.lon) (o : c.lat ≡ lat) (s : r ≤ 64 → Some (point_in c) ≡ slot_point spots r) {g' : Tally} {held' : List Control} {kept' : List ℕ}
+            (y : Holds h.b (h.cs ++ c ∷ []) (h.js ++ j ∷ []) g' held' kept') where
           known : r ≤ 64 → p ≡ point_in c
           known q =
-              let v : some p ≡ some (point_in c) = sym e ∙ at_spot q ∙ ap some (sym (s q)) in
+              let v : Some p ≡ Some (point_in c) = sym e ∙ at_spot q ∙ sym (s q) in
               cc
 
-          is-point : (b : Bool) → leb r 64 ≡ b → Holds h.b (h.cs ++ point ∷ []) (h.js ++ j ∷ []) g' flat' kept'
+          is-point : (b : Bool) → leb r 64 ≡ b → Holds h.b (h.cs ++ point ∷ []) (h.js ++ j ∷ []) g' held' kept'
           is-point true q = rw (known (leb-true r 64 q), ← a, ← o) y
           is-point false q = holds_as h.cs c point (unknown (leb-false r 64 q) h.b refl) a o y
 
-          read_point : AfterRead l lons (m ∷ []) t t' n spots j h.was h.b h.cs h.js g' flat' kept'
+          read_point : AfterRead l lons (m ∷ []) t t' n spots j h.was h.b h.cs h.js g' held' kept'
           read_point =
               record {
                 names = k.names;
@@ -238,22 +237,14 @@ module _ {l : List ℕ} {lons : Bool} {m : Mention} {t : List ℕ} {n : ℕ} {sp
                 counted = omega (arith, rw (ne_eqb r 0 (λ q. omega arith)) at k.counted, ap length controls_are);
               }
 
-      pub read_first : (c : Control) → c.lon ≡ m.lon → c.lat ≡ lat → (r ≤ 64 → point_in c ≡ slot_point spots r nan) → {g' : Tally} {flat' : List Float} {kept' : List ℕ}
-          → Holds h.b (h.cs ++ c ∷ []) (h.js ++ j ∷ []) g' flat' kept'
-          → AfterRead l lons (m ∷ []) t t' n spots j h.was h.b h.cs h.js g' flat' kept'
-      read_first c a o s {g'} {flat'} {kept'} y = by (resolved (scene_of l) m.name) refl
+      pub read_first : (c : Control) → c.lon ≡ m.lon → c.lat ≡ lat → (r ≤ 64 → Some (point_in c) ≡ slot_point spots r) → {g' : Tally} {held' : List Control} {kept' : List ℕ}
+          → Holds h.b (h.cs ++ c ∷ []) (h.js ++ j ∷ []) g' held' kept'
+          → AfterRead l lons (m ∷ []) t t' n spots j h.was h.b h.cs h.js g' held' kept'
+      read_first c a o s {g'} {held'} {kept'} y = by (resolved (scene_of l) m.name) refl
         where
-          by : (p : Maybe Point) → resolved (scene_of l) m.name ≡ p → AfterRead l lons (m ∷ []) t t' n spots j h.was h.b h.cs h.js g' flat' kept'
-          by none e = absurd (false≢true (rw e at found))
-          by (some p) e = read_point p e c a o s y
-
--- what the code says of its latitude
-module _ (v : OptionalFloat) where
-  pub no_latitude : not v.some ≡ true → maybe_float v ≡ none
-  no_latitude h = rw (not-true v.some h) refl
-
-  pub a-latitude : not v.some ≡ false → maybe_float v ≡ some v.value
-  a-latitude h = rw (not-false v.some h) refl
+          by : (p : Option Point) → resolved (scene_of l) m.name ≡ p → AfterRead l lons (m ∷ []) t t' n spots j h.was h.b h.cs h.js g' held' kept'
+          by None e = absurd (false≢true (rw e at found))
+          by (Some p) e = read_point p e c a o s y
 
 -- the name of a mention is taken, behind the length at p
 pub taken_name : {more : ℕ} {l t t' : List ℕ} {n r : ℕ} (lons : Bool) (m : code-mention.Mention) → 1 ≤ m.at → more ≡ more_of lons
@@ -296,25 +287,21 @@ module _ {A : Type 0} where
   none_left (x ∷ xs) (suc i) (suc count) e h = ap (λ (r : List A). x ∷ r) (none_left xs i count e (omega arith))
 
 -- ---- the loop: the first k of `count` mentions from c on are read, and the others stand at `at`
-pub record Going (s : List ℕ) (lons : Bool) (t₀ : List ℕ) (n : ℕ) (spots : List Float) (starts₀ : List ℕ) (count base : ℕ) (flat₀ : List Float) (kept₀ : List ℕ) (g : Tally) (c : Cursor) (t starts : List ℕ) (flat : List Float) (kept : List ℕ) (all : Tally) (at : Cursor) (k : ℕ) : Type 0 where
+pub record Going (s : List ℕ) (lons : Bool) (t₀ : List ℕ) (n : ℕ) (spots : List Best) (count base : ℕ) (held₀ : List Control) (kept₀ : List ℕ) (g : Tally) (c : Cursor) (t starts : List ℕ) (held : List Control) (kept : List ℕ) (all : Tally) (at : Cursor) (k : ℕ) : Type 0 where
   pub within : k ≤ count
   pub fits : base + count < 4294967296
   pub follows : Follows s lons at starts
   pub table : Table (more_of lons) (payload s) t n
-  pub spots_room : length spots ≡ 128
-  pub flat_room : length flat ≡ 256
+  pub spots_room : length spots ≡ 64
+  pub held_room : length held ≡ 64
   pub kept-room : length kept ≡ 64
-  pub flat_kept : length flat ≡ length flat₀
-  pub kept-kept : length kept ≡ length kept₀
-  pub t-kept : length t ≡ length t₀
-  pub starts_kept : length starts ≡ length starts₀
   pub rest : drop k (mentions_at (payload s) lons c) ≡ mentions_at (payload s) lons at
-  pub so_far_is : (h : BeforeRead (payload s) lons (take count (mentions_at (payload s) lons c)) t₀ n spots g flat₀ kept₀)
-      → AfterRead (payload s) lons (take k (mentions_at (payload s) lons c)) t₀ t n spots base h.was h.b h.cs h.js all flat kept
+  pub so_far_is : (h : BeforeRead (payload s) lons (take count (mentions_at (payload s) lons c)) t₀ n spots g held₀ kept₀)
+      → AfterRead (payload s) lons (take k (mentions_at (payload s) lons c)) t₀ t n spots base h.was h.b h.cs h.js all held kept
 
-pub go_begin : {s : List ℕ} {lons : Bool} {t : List ℕ} {n : ℕ} {spots : List Float} {starts : List ℕ} (count base : ℕ) {flat : List Float} {kept : List ℕ} {g : Tally} {c : Cursor}
-    → (base + count < 4294967296) × Readable s lons t n spots flat kept × Follows s lons c starts
-    → Going s lons t n spots starts count base flat kept g c t starts flat kept g c 0
+pub go_begin : {s : List ℕ} {lons : Bool} {t : List ℕ} {n : ℕ} {spots : List Best} {starts : List ℕ} (count base : ℕ) {held : List Control} {kept : List ℕ} {g : Tally} {c : Cursor}
+    → (base + count < 4294967296) × Readable s lons t n spots held kept × Follows s lons c starts
+    → Going s lons t n spots count base held kept g c t starts held kept g c 0
 go_begin count base p =
     record {
       within = omega arith;
@@ -322,40 +309,37 @@ go_begin count base p =
       follows = p.2;
       table = p.1.table;
       spots_room = p.1.spots_room;
-      flat_room = p.1.control_room.flat_room;
+      held_room = p.1.control_room.held_room;
       kept-room = p.1.control_room.kept-room;
-      flat_kept = refl;
-      kept-kept = refl;
-      t-kept = refl;
-      starts_kept = refl;
       rest = refl;
       so_far_is = λ h. read_nothing base h;
     }
 
-module _ {s : List ℕ} {lons : Bool} {t₀ : List ℕ} {n : ℕ} {spots : List Float} {starts₀ : List ℕ} {count base : ℕ} {flat₀ : List Float} {kept₀ : List ℕ} {g : Tally} {c : Cursor} {t starts : List ℕ} {flat : List Float} {kept : List ℕ} {all : Tally} {at : Cursor} {k : ℕ}
-    (d : Going s lons t₀ n spots starts₀ count base flat₀ kept₀ g c t starts flat kept all at k) where
-  pub go_end : count ≤ k → Reads (payload s) lons (take count (mentions_at (payload s) lons c)) n spots base t₀ g flat₀ kept₀ t all flat kept
+module _ {s : List ℕ} {lons : Bool} {t₀ : List ℕ} {n : ℕ} {spots : List Best} {count base : ℕ} {held₀ : List Control} {kept₀ : List ℕ} {g : Tally} {c : Cursor} {t starts : List ℕ} {held : List Control} {kept : List ℕ} {all : Tally} {at : Cursor} {k : ℕ}
+    (d : Going s lons t₀ n spots count base held₀ kept₀ g c t starts held kept all at k) where
+  pub go_end : count ≤ k → Reads (payload s) lons (take count (mentions_at (payload s) lons c)) n spots base t₀ g held₀ kept₀ t all held kept
   go_end e h =
       let f : k ≡ count = omega (arith, d.within) in
       rw f at (d.so_far_is h)
 
-  module _ (m : code-mention.Mention) {starts' : List ℕ} (a : Asked s lons at m starts') where
-    -- no mention is left
-    pub go_none : not m.some ≡ true → Reads (payload s) lons (take count (mentions_at (payload s) lons c)) n spots base t₀ g flat₀ kept₀ t all flat kept
-    go_none e h =
-        let f : drop k (mentions_at (payload s) lons c) ≡ [] = d.rest ∙ a.lists ∙ rw (not-true m.some e) refl in
+  -- no mention is left
+  module _ {end : Cursor} {starts' : List ℕ} (a : Asked s lons at (Err end) starts') where
+    pub go_none : Reads (payload s) lons (take count (mentions_at (payload s) lons c)) n spots base t₀ g held₀ kept₀ t all held kept
+    go_none h =
+        let f : drop k (mentions_at (payload s) lons c) ≡ [] = d.rest ∙ a.lists in
         rw (none_left (mentions_at (payload s) lons c) k count f d.within) at (d.so_far_is h)
 
-    -- one more
-    pub go_on : not m.some ≡ false → k < count → {t' : List ℕ} {flat' : List Float} {kept' : List ℕ} {all' : Tally}
-        → Reads (payload s) lons (mention_by (payload s) m ∷ []) n spots (base + k) t all flat kept t' all' flat' kept'
+  -- one more
+  module _ (m : code-mention.Mention) {starts' : List ℕ} (a : Asked s lons at (Ok m) starts') where
+    pub go_on : k < count → {t' : List ℕ} {held' : List Control} {kept' : List ℕ} {all' : Tally}
+        → Reads (payload s) lons (mention_by (payload s) m ∷ []) n spots (base + k) t all held kept t' all' held' kept'
         → Table (more_of lons) (payload s) t' n
-        → length t' ≡ length t → length starts' ≡ length starts → length flat' ≡ length flat → length kept' ≡ length kept
-        → Going s lons t₀ n spots starts₀ count base flat₀ kept₀ g c t' starts' flat' kept' all' m.next (k + 1)
-    go_on e less {t'} {flat'} {kept'} {all'} f tab lt lr lf lk =
+        → length held' ≡ length held → length kept' ≡ length kept
+        → Going s lons t₀ n spots count base held₀ kept₀ g c t' starts' held' kept' all' m.next (k + 1)
+    go_on less {t'} {held'} {kept'} {all'} f tab lf lk =
         let l = payload s in
         let ms = mentions_at l lons c in
-        let q : drop k ms ≡ mention_by l m ∷ mentions_at l lons m.next = d.rest ∙ a.lists ∙ rw (not-false m.some e) refl in
+        let q : drop k ms ≡ mention_by l m ∷ mentions_at l lons m.next = d.rest ∙ a.lists in
         let o = next_of (mention_by l m) (mentions_at l lons m.next) ms k q in
         record {
           within = omega arith;
@@ -363,12 +347,8 @@ module _ {s : List ℕ} {lons : Bool} {t₀ : List ℕ} {n : ℕ} {spots : List 
           follows = a.follows;
           table = tab;
           spots_room = d.spots_room;
-          flat_room = lf ∙ d.flat_room;
+          held_room = lf ∙ d.held_room;
           kept-room = lk ∙ d.kept-room;
-          flat_kept = lf ∙ d.flat_kept;
-          kept-kept = lk ∙ d.kept-kept;
-          t-kept = lt ∙ d.t-kept;
-          starts_kept = lr ∙ d.starts_kept;
           rest = rw (add-one k) o.1;
           so_far_is = λ h. rw (add-one k, o.0) (read_on h (λ x z. among_taken (mention_by l m) (mentions_at l lons m.next) x ms k count q less z) (d.so_far_is h) (rw o.2 f));
         }

@@ -1,23 +1,22 @@
 -- Names that end in `_lat` and `_lon`, and the variable of such a name among those that rise.
+use Rattle.std.specs.Prelude.{None, Some, Ok}
 use mathlib.Core.Path.{◌≡◌, refl, sym, subst, ◌∙◌}
-use mathlib.Core.Bool.{Bool, true, false, not, ◌&&◌, and_assoc, and-false}
+use mathlib.Core.Bool.{Bool, true, false, ◌&&◌, and_assoc, and-false}
 use mathlib.Core.List.{List, [], ◌∷◌, ◌++◌}
 use Prim.Native.Nat.{ℕ, ◌+◌, ◌-◌, ◌≤◌, ◌<◌}
 use native.Mathlib.Omega.{arith}
 use lib.ListN.{length, drop, length-append}
 use lib.Seq.{take-add, drop-drop}
 use lib.Dec.{eqb}
-use borrow.Author.Tests.{not-true, not-false, le-ltb}
+use borrow.Author.Tests.{le-ltb}
 use Rattle.records.specs.Records.{bytes_at}
 use Rattle.records.specs.Layout.{before}
 use Rattle.scene.specs.declared.readers.Variable.{Variable}
 use Rattle.scene.specs.Scene.{NamedValue}
-use Rattle.values.specs.Maybe.{none, some}
 use Rattle.scene.specs.Labels.{same_bytes, variable_of}
 use Rattle.scene.specs.Inner.Answers.{variables_at, variables_by}
 use Rattle.records.specs.Laws.Names.{part_length}
 use Rattle.scene.specs.Laws.Names.{same_lengths}
-use Rattle.scene.specs.Laws.Answers.{listed}
 use Rattle.scene.specs.Laws.Rising.{Rising, rising_from, not-among}
 use Rattle.register.specs.Register.{suffix_lon, suffix_lat}
 
@@ -44,13 +43,6 @@ module _ (l : List ℕ) (q m : ℕ) (x ends : List ℕ) (fits : q + m ≤ length
       let e : bytes_at l q m ≡ bytes_at l q (m - 4) ++ bytes_at l (q + m - 4) 4 = rw (a, b) at (part_split l q (m - 4) 4) in
       rw e (same_append (bytes_at l q (m - 4)) x (bytes_at l (q + m - 4) 4) ends (omega (arith, part_length l (q + m - 4) 4 (omega arith))))
 
-  module _ (h : 4 ≤ m) {t : Bool} (f : t ≡ same_bytes (bytes_at l q (m - 4)) x) where
-    pub begins_else : not t ≡ true → false ≡ same_bytes (bytes_at l q m) (x ++ ends)
-    begins_else k = rw (name-ends h, ← f, not-true t k) refl
-
-    pub begins_so : {r : Bool} → not t ≡ false → r ≡ same_bytes (bytes_at l (q + m - 4) 4) ends → r ≡ same_bytes (bytes_at l q m) (x ++ ends)
-    begins_so k e = rw (name-ends h, ← f, not-false t k) e
-
 -- ---- `<L>_lat` does not come after `<L>_lon`
 lon_first : (x : List ℕ) → before (x ++ suffix_lon) (x ++ suffix_lat) ≡ false
 unfolding before
@@ -61,29 +53,29 @@ lon_first (y ∷ x) = rw (le-ltb y y (omega arith), lon_first x) (and-false (eqb
 abbrev found_by : List ℕ → Variable → NamedValue
 found_by l c = record { name = bytes_at l c.at c.len; value = c.value }
 
-module _ (name l : List ℕ) (q : ℕ) (c : Variable) (e : variables_at l q ≡ variables_by l c) where
-  pub no_more : not c.some ≡ true → variable_of name (variables_at l q) ≡ none
+module _ (name l : List ℕ) (q : ℕ) where
+  pub no_more : variables_at l q ≡ [] → variable_of name (variables_at l q) ≡ None
   unfolding variable_of
-  no_more n = rw (e, not-true c.some n) refl
+  no_more e = rw e refl
 
-  module _ (n : not c.some ≡ false) where
+  module _ (c : Variable) (e : variables_at l q ≡ variables_by l (Ok c)) where
     risen : Rising [] (variables_at l q) → Rising [] (found_by l c ∷ variables_at l c.next)
-    risen r = subst (Rising []) (listed c.some _ e (not-false c.some n)) r
+    risen r = subst (Rising []) e r
 
     pub rises_on : Rising [] (variables_at l q) → Rising [] (variables_at l c.next)
     rises_on r = rising_from [] (found_by l c) (variables_at l c.next) (risen r)
 
     module _ {t : Bool} (s : t ≡ same_bytes (bytes_at l c.at c.len) name) where
-      pub this_one : t ≡ true → some c.value ≡ variable_of name (variables_at l q)
+      pub this_one : t ≡ true → Some c.value ≡ variable_of name (variables_at l q)
       unfolding variable_of
-      this_one h = rw (e, not-false c.some n, ← s, h) refl
+      this_one h = rw (e, ← s, h) refl
 
       pub later-one : t ≡ false → variable_of name (variables_at l q) ≡ variable_of name (variables_at l c.next)
       unfolding variable_of
-      later-one h = rw (e, not-false c.some n, ← s, h) refl
+      later-one h = rw (e, ← s, h) refl
 
     -- at `<L>_lon` itself there is no `<L>_lat` any more
-    pub none_behind : (at m : ℕ) → Rising [] (variables_at l q) → bytes_at l (at + m) 4 ≡ suffix_lon → c.at ≡ at → c.len ≡ m + 4 → variable_of (bytes_at l at m ++ suffix_lat) (variables_at l c.next) ≡ none
+    pub none_behind : (at m : ℕ) → Rising [] (variables_at l q) → bytes_at l (at + m) 4 ≡ suffix_lon → c.at ≡ at → c.len ≡ m + 4 → variable_of (bytes_at l at m ++ suffix_lat) (variables_at l c.next) ≡ None
     none_behind at m r lon a b =
         let is : bytes_at l c.at c.len ≡ bytes_at l at m ++ suffix_lon = rw (a, b, part_split l at m 4, lon) refl in
         not-among (bytes_at l at m ++ suffix_lon) (bytes_at l at m ++ suffix_lat) (variables_at l c.next) (subst (λ (u : List ℕ). Rising u (variables_at l c.next)) is (risen r).1) (lon_first (bytes_at l at m))

@@ -1,9 +1,10 @@
 -- Names of mentions become entries of a table, one mention after another.
+use Rattle.std.specs.Prelude.{None, Some, Ok}
 use mathlib.Core.Path.{◌≡◌, refl, sym, ap, ◌∙◌}
 use mathlib.Core.Logic.{◌⊎◌, inl, inr, ⊎_elim}
-use mathlib.Core.Bool.{Bool, true, false, ◌||◌, or-false, or-true, or_assoc, false≢true}
+use mathlib.Core.Bool.{Bool, true, ◌||◌, or-false, or-true, or_assoc, false≢true}
 use mathlib.Core.List.{List, [], ◌∷◌, ◌++◌}
-use Prim.Native.Nat.{ℕ, zero, suc, ◌+◌, ◌-◌, ◌≤◌, ◌<◌}
+use Prim.Native.Nat.{ℕ, ◌+◌, ◌-◌, ◌≤◌, ◌<◌}
 use native.Mathlib.Numerals.{add-one}
 use native.Mathlib.Omega.{arith}
 use lib.ListN.{length, take, drop, length-drop}
@@ -13,21 +14,18 @@ use Rattle.stream.specs.Inner.Payload.{room}
 use Rattle.stream.specs.Laws.Payload.{payload-length}
 use Rattle.records.specs.Records.{bytes_at}
 use Rattle.records.specs.Laws.Tests.{or_cases}
-use Rattle.values.specs.Maybe.{none, some}
-use Rattle.scene.specs.Laws.Answers.{not-given, is-given}
 use Rattle.scene.specs.Laws.Rising.{same_eq}
 use Rattle.names.specs.Inner.Table.{Table, NewName, Unmarked, Contains, Inserted}
-use Rattle.register.specs.declared.controls.FilledBatch as code-filled
 use Rattle.register.specs.declared.mentions.Cursor.{Cursor}
 use Rattle.register.specs.declared.mentions.Mention as code-mention
 use Rattle.register.specs.Inner.Mentions.{Mention, mentions_at, mention_by, more_of, MentionFits, Follows, Asked}
-use Rattle.register.specs.Inner.Gathered.{named, among, Added, Batch}
+use Rattle.register.specs.Inner.Gathered.{named, among, Added}
 use Rattle.register.proofs.Marks.{same_self}
 use Rattle.register.proofs.ReadMentions.{next_of}
 
 -- ---- one mention
 module _ {more : ℕ} {l t : List ℕ} {n : ℕ} {m : Mention} where
-  pub added_none : m.lat ≡ none → Table more l t n → Added more l t t n n m
+  pub added_none : m.lat ≡ None → Table more l t n → Added more l t t n n m
   added_none e h =
       record {
         count = omega arith;
@@ -38,7 +36,7 @@ module _ {more : ℕ} {l t : List ℕ} {n : ℕ} {m : Mention} where
         only = λ x i. inl i;
       }
 
-  pub added_some : {t' : List ℕ} {r : ℕ} (f : Float) → m.lat ≡ some f → Inserted more l t t' n r m.name → Added more l t t' n r m
+  pub added_some : {t' : List ℕ} {r : ℕ} (f : Float) → m.lat ≡ Some f → Inserted more l t t' n r m.name → Added more l t t' n r m
   added_some {t'} {r} f e h =
       record {
         count = h.count;
@@ -65,14 +63,11 @@ module _ (s : List ℕ) (more : ℕ) (m : code-mention.Mention) (h : MentionFits
         short = omega arith;
       }
 
-  pub added_by : {t t' : List ℕ} {n r : ℕ} → m.lat.some ≡ true → Inserted more (payload s) t t' n r (bytes_at (payload s) (m.at - 1 + 1) m.len)
+  pub added_by : {t t' : List ℕ} {n r : ℕ} (f : Float) → m.lat ≡ Some f → Inserted more (payload s) t t' n r (bytes_at (payload s) (m.at - 1 + 1) m.len)
       → Added more (payload s) t t' n r (mention_by (payload s) m)
-  added_by e i =
-      let at : m.at - 1 + 1 ≡ m.at = omega arith in
-      added_some m.lat.value (is-given m.lat.some m.lat.value refl e) (rw at at i)
-
-  pub added-not : {t : List ℕ} {n : ℕ} → m.lat.some ≡ false → Table more (payload s) t n → Added more (payload s) t t n n (mention_by (payload s) m)
-  added-not e d = added_none (not-given m.lat.some m.lat.value refl e) d
+  added_by f e i =
+      let at : m.at - 1 + 1 ≡ m.at = omega (arith, h.behind) in
+      added_some f e (rw at at i)
 
 -- ---- lists
 module _ {A : Type 0} (k : ℕ) (xs ys : List A) (m : A) (e : drop k xs ≡ m ∷ ys) where
@@ -123,79 +118,30 @@ fills_none {s} {lons} {c} {t} f =
     }
 
 module _ {s : List ℕ} {lons : Bool} {c at : Cursor} {n count : ℕ} {t starts : List ℕ} (h : Fills s lons c at n count t starts) where
-  none_or : n ≡ 0 ⊎ (0 < n) → n ≡ 0 ⊎ (c.q < at.q)
-  none_or (inl e) = inl e
-  none_or (inr p) = inr (omega arith)
+  module _ (m : code-mention.Mention) {starts' : List ℕ} (a : Asked s lons at (Ok m) starts') where
+    left : drop count (mentions_at (payload s) lons c) ≡ mention_by (payload s) m ∷ mentions_at (payload s) lons m.next
+    left = sym h.rest ∙ a.lists
 
-  zero_or : (k : ℕ) → k ≡ 0 ⊎ (0 < k)
-  zero_or zero = inl refl
-  zero_or (suc k) = inr (omega arith)
+    pub fills_more : {t' : List ℕ} {r : ℕ} → Added (more_of lons) (payload s) t t' n r (mention_by (payload s) m) → Fills s lons c m.next r (count + 1) t' starts'
+    fills_more {t'} {r} d =
+        record {
+          follows = a.follows;
+          table = d.table;
+          unmarked = d.unmarked h.unmarked;
+          enough = omega (arith, next_within count (mentions_at (payload s) lons c) _ _ left);
+          rest = sym (next-drop count (mentions_at (payload s) lons c) _ _ left);
+          all = λ x p. ⊎_elim (λ q. d.old x (h.all x q)) (d.new x) (or_cases (among x (take count (mentions_at (payload s) lons c))) _ (sym (snoc x) ∙ p));
+          only = λ x i. snoc x ∙ either x (d.only x i);
+          onward = omega (arith, h.onward, a.first.more);
+          fits = inr (omega (arith, h.onward, a.first.more, a.first.fits));
+          few = omega (arith, h.few, d.count.1);
+        }
+      where
+        snoc : (x : List ℕ) → among x (take (count + 1) (mentions_at (payload s) lons c))
+            ≡ (among x (take count (mentions_at (payload s) lons c)) || named x (mention_by (payload s) m) (mention_by (payload s) m).lat)
+        snoc x = rw (next-take count (mentions_at (payload s) lons c) _ _ left) (among_snoc x _ _)
 
-  no_more : (q : ℕ) → at.q ≤ q → n ≡ 0 ⊎ (c.q < q)
-  no_more q e = ⊎_elim inl (λ p. inr (omega arith)) (none_or (zero_or n))
-
-  fits_too : count ≡ 0 ⊎ (c.q < room s) → n ≡ 0 ⊎ (c.q < room s)
-  fits_too (inl e) = inl (omega arith)
-  fits_too (inr p) = inr p
-
-  -- the batch ends at a cursor from which on there are the same mentions
-  ends_at : (r : code-filled.FilledBatch) (starts' : List ℕ) → r.n ≡ n → r.count ≡ count → Follows s lons r.next starts' → at.q ≤ r.next.q
-      → mentions_at (payload s) lons r.next ≡ drop count (mentions_at (payload s) lons c)
-      → (n < length t → mentions_at (payload s) lons r.next ≡ []) → Batch s lons c r t starts'
-  ends_at r starts' en ec f o e w =
-      record {
-        filling =
-            record {
-              enough = rw ec h.enough;
-              table = rw en h.table;
-              unmarked = rw en h.unmarked;
-              all = rw (en, ec) h.all;
-              only = rw (en, ec) h.only;
-            };
-        follows = f;
-        rest = rw ec e;
-        ends = rw en w;
-        onward = omega arith;
-        more = rw en (no_more r.next.q o);
-        fits = rw en (fits_too h.fits);
-      }
-
-  pub fills_full : length t ≤ n → Batch s lons c (record { n = n; count = count; next = at }) t starts
-  fills_full e = ends_at (record { n = n; count = count; next = at }) starts refl refl h.follows (omega arith) h.rest (λ k. absurd (omega (arith, e, k)))
-
-  module _ (m : code-mention.Mention) (starts' : List ℕ) (a : Asked s lons at m starts') where
-    pub fills_ends : m.some ≡ false → Batch s lons c (record { n = n; count = count; next = m.next }) t starts'
-    fills_ends e =
-        let left : mentions_at (payload s) lons at ≡ [] = rw e at a.lists in
-        ends_at (record { n = n; count = count; next = m.next }) starts' refl refl a.follows a.onward (a.ends e ∙ sym left ∙ h.rest) (λ k. a.ends e)
-
-    module _ (e : m.some ≡ true) where
-      left : drop count (mentions_at (payload s) lons c) ≡ mention_by (payload s) m ∷ mentions_at (payload s) lons m.next
-      left = sym h.rest ∙ (rw e at a.lists)
-
-      pub fills_few : count < room s
-      fills_few = omega (arith, h.onward, a.more e, a.fits e)
-
-      pub fills_more : {t' : List ℕ} {r : ℕ} → Added (more_of lons) (payload s) t t' n r (mention_by (payload s) m) → Fills s lons c m.next r (count + 1) t' starts'
-      fills_more {t'} {r} d =
-          record {
-            follows = a.follows;
-            table = d.table;
-            unmarked = d.unmarked h.unmarked;
-            enough = omega (arith, next_within count (mentions_at (payload s) lons c) _ _ left);
-            rest = sym (next-drop count (mentions_at (payload s) lons c) _ _ left);
-            all = λ x p. ⊎_elim (λ q. d.old x (h.all x q)) (d.new x) (or_cases (among x (take count (mentions_at (payload s) lons c))) _ (sym (snoc x) ∙ p));
-            only = λ x i. snoc x ∙ either x (d.only x i);
-            onward = omega (arith, h.onward, a.more e);
-            fits = inr (omega (arith, h.onward, a.more e, a.fits e));
-            few = omega (arith, h.few, d.count.1);
-          }
-        where
-          snoc : (x : List ℕ) → among x (take (count + 1) (mentions_at (payload s) lons c))
-              ≡ (among x (take count (mentions_at (payload s) lons c)) || named x (mention_by (payload s) m) (mention_by (payload s) m).lat)
-          snoc x = rw (next-take count (mentions_at (payload s) lons c) _ _ left) (among_snoc x _ _)
-
-          either : (x : List ℕ) → Contains (more_of lons) (payload s) t n x ⊎ (named x (mention_by (payload s) m) (mention_by (payload s) m).lat ≡ true)
-              → (among x (take count (mentions_at (payload s) lons c)) || named x (mention_by (payload s) m) (mention_by (payload s) m).lat) ≡ true
-          either x (inl i) = rw (h.only x i) refl
-          either x (inr p) = rw p (or-true (among x (take count (mentions_at (payload s) lons c))))
+        either : (x : List ℕ) → Contains (more_of lons) (payload s) t n x ⊎ (named x (mention_by (payload s) m) (mention_by (payload s) m).lat ≡ true)
+            → (among x (take count (mentions_at (payload s) lons c)) || named x (mention_by (payload s) m) (mention_by (payload s) m).lat) ≡ true
+        either x (inl i) = rw (h.only x i) refl
+        either x (inr p) = rw p (or-true (among x (take count (mentions_at (payload s) lons c))))

@@ -9,14 +9,11 @@ use native.Mathlib.Omega.{arith}
 use lib.Dec.{ltb}
 use lib.ListN.{length, set, length-append, length-set}
 use lib.Seq.{take-suc-set}
-use lib.Ieee.{Float}
 use borrow.Author.Tests.{lt-ltb, le-ltb, ltb-true, ltb-false}
 use Rattle.fit.specs.declared.Control.{Control}
-use Rattle.fit.specs.Inner.Fours.{with_four}
-use Rattle.fit.specs.Laws.Fours.{four-length, four-more}
 use Rattle.register.specs.declared.controls.Tally.{Tally}
 use Rattle.register.specs.Register.{within_limits, all_within_limits}
-use Rattle.register.specs.Inner.Gathered.{up_to65, control_by, Holds}
+use Rattle.register.specs.Inner.Gathered.{up_to65, Holds}
 
 pub both : (a b : Bool) {r : Bool} → ((a ≡ true) × (r ≡ b)) ⊎ ((a ≡ false) × (r ≡ false)) → r ≡ (a && b)
 both true b (inl h) = h.1
@@ -48,7 +45,7 @@ counts n = by (ltb 64 n) refl
     by false e = inl (ltb-false 64 n e, few n (ltb-false 64 n e))
 
 -- ---- one more is put
-module _ {b : Bool} {cs : List Control} {js : List ℕ} {g : Tally} {flat : List Float} {kept : List ℕ} (h : Holds b cs js g flat kept) (c : Control) (j : ℕ)
+module _ {b : Bool} {cs : List Control} {js : List ℕ} {g : Tally} {held : List Control} {kept : List ℕ} (h : Holds b cs js g held kept) (c : Control) (j : ℕ)
     {ok : Bool} (e : ok ≡ (g.within && within_limits c.lon c.lat)) where
   within_now : ok ≡ all_within_limits (cs ++ c ∷ [])
   within_now = e ∙ rw h.within (sym (within_append cs c))
@@ -60,7 +57,7 @@ module _ {b : Bool} {cs : List Control} {js : List ℕ} {g : Tally} {flat : List
       let s = h.as_many in
       (p, omega arith)
 
-  pub put_full : 64 ≤ g.n → Holds b (cs ++ c ∷ []) (js ++ j ∷ []) (record { n = 65; within = ok }) flat kept
+  pub put_full : 64 ≤ g.n → Holds b (cs ++ c ∷ []) (js ++ j ∷ []) (record { n = 65; within = ok }) held kept
   put_full k =
       record {
         count = sym (many (length (cs ++ c ∷ [])) too_many);
@@ -79,15 +76,15 @@ module _ {b : Bool} {cs : List Control} {js : List ℕ} {g : Tally} {flat : List
           by (inl p) = omega (arith, h.count ∙ p.1, one_more.0)
           by (inr p) = omega (arith, one_more.0)
 
-  pub put-more : g.n < 64 → Holds b (cs ++ c ∷ []) (js ++ j ∷ []) (record { n = g.n + 1; within = ok }) (with_four flat g.n c.x c.y c.lon c.lat) (set kept g.n j)
+  pub put-more : g.n < 64 → Holds b (cs ++ c ∷ []) (js ++ j ∷ []) (record { n = g.n + 1; within = ok }) (set held g.n c) (set kept g.n j)
   put-more k =
       record {
         count = rw next (sym (few (g.n + 1) (omega arith)));
         within = within_now;
-        controls = λ t d. rw (next, add-one g.n) (four-more flat g.n c.x c.y c.lon c.lat (omega (arith, h.room_for)) control_by ∙ rw (is, h.controls t (omega (arith, is))) refl);
+        controls = λ t d. rw (next, add-one g.n) (take-suc-set held g.n c (omega (arith, h.room_for)) ∙ rw (is, h.controls t (omega (arith, is))) refl);
         numbers = λ t d. rw (next, add-one g.n) (take-suc-set kept g.n j (omega (arith, h.kept-room)) ∙ rw (is, h.numbers t (omega (arith, is))) refl);
         as_many = one_more.1;
-        room_for = four-length flat g.n c.x c.y c.lon c.lat ∙ h.room_for;
+        room_for = length-set held g.n c ∙ h.room_for;
         kept-room = length-set kept g.n j ∙ h.kept-room;
       }
     where
@@ -102,8 +99,8 @@ module _ {b : Bool} {cs : List Control} {js : List ℕ} {g : Tally} {flat : List
       next = rw is one_more.0
 
 -- where the points are not known, only longitude and latitude matter
-pub holds_as : {b : Bool} (cs : List Control) {js : List ℕ} {g : Tally} {flat : List Float} {kept : List ℕ} (c d : Control) → b ≡ false → c.lon ≡ d.lon → c.lat ≡ d.lat
-    → Holds b (cs ++ c ∷ []) js g flat kept → Holds b (cs ++ d ∷ []) js g flat kept
+pub holds_as : {b : Bool} (cs : List Control) {js : List ℕ} {g : Tally} {held : List Control} {kept : List ℕ} (c d : Control) → b ≡ false → c.lon ≡ d.lon → c.lat ≡ d.lat
+    → Holds b (cs ++ c ∷ []) js g held kept → Holds b (cs ++ d ∷ []) js g held kept
 holds_as cs c d f a o h =
     let e : length (cs ++ c ∷ []) ≡ length (cs ++ d ∷ []) = length-one cs c ∙ sym (length-one cs d) in
     record {

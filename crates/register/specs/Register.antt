@@ -1,10 +1,10 @@
 -- `register` of the source's register.rs, with the numbers of document 01: conditions 7 to 14, warnings 1 to 4, and the registration.
-use Rattle.std.specs.Prelude.{ℕ, zero, suc, ◌-◌, Bool, true, false, not, ◌&&◌, ◌||◌, cond, List, [], ◌∷◌, ◌++◌, length, take, drop, eqb, ltb, Float}
+use Rattle.std.specs.Option.{option_or}
+use Rattle.std.specs.Prelude.{ℕ, zero, suc, ◌-◌, Bool, true, false, not, ◌&&◌, ◌||◌, cond, List, [], ◌∷◌, ◌++◌, length, take, drop, eqb, ltb, Float, Option, None, Some, is_some, unwrap_or}
 use Rattle.std.specs.Float.{binary64}
 use Rattle.std.specs.Float.Ieee.{of_bits, mul, div, eq, ne, lt, le}
 use Rattle.std.specs.Float.Ieee.Scale.{finite}
 use Rattle.values.specs.Warnings.{Warning}
-use Rattle.values.specs.Maybe.{or_value, is_some, Maybe, none, some, or_else}
 use Rattle.float.specs.Functions.{abs_of}
 use Rattle.stream.specs.Conditions.{Condition}
 use Rattle.scene.specs.Scene.{NamedFeature, NamedValue, Scene}
@@ -67,34 +67,34 @@ max_scale = of_bits binary64 0x41cdcd6500000000
 
 -- ---- options and variables of the scene
 -- `var`
-abbrev pub var : Scene → List ℕ → Maybe Float
+abbrev pub var : Scene → List ℕ → Option Float
 var sc name = variable_of name sc.variables
 
 -- the option, else the variable: any value of it but 1 is another frame
-unfoldable pub is_mercator : Maybe ℕ → Maybe Float → Bool
-is_mercator (some f) v = eqb f 1
-is_mercator none (some v) = eq v f1
-is_mercator none none = false
+unfoldable pub is_mercator : Option ℕ → Option Float → Bool
+is_mercator (Some f) v = eqb f 1
+is_mercator None (Some v) = eq v f1
+is_mercator None None = false
 
-unfoldable pub not_zero : Maybe Float → Bool
-not_zero (some v) = ne v f0
-not_zero none = false
+unfoldable pub not_zero : Option Float → Bool
+not_zero (Some v) = ne v f0
+not_zero None = false
 
 unfoldable pub px_mode : Scene → Bool
 px_mode sc = not_zero (var sc geo_px)
 
-abbrev pub declared_scale : Scene → Maybe Float
-declared_scale sc = or_else sc.scale (var sc geo_scale)
+abbrev pub declared_scale : Scene → Option Float
+declared_scale sc = option_or sc.scale (var sc geo_scale)
 
-abbrev pub declared_bearing : Scene → Maybe Float
-declared_bearing sc = or_else sc.bearing (var sc geo_bearing)
+abbrev pub declared_bearing : Scene → Option Float
+declared_bearing sc = option_or sc.bearing (var sc geo_bearing)
 
 -- ---- control points: what each host feature and each `_lon` variable comes to, in order
 pub data Event : Type 0 where
   control : Control → Event
   warn : Warning → Event
 
-abbrev pub resolved : Scene → List ℕ → Maybe Point
+abbrev pub resolved : Scene → List ℕ → Option Point
 resolved sc name = point_of_label name sc.places sc.items
 
 abbrev pub control_at : Point → Float → Float → Event
@@ -106,10 +106,10 @@ mentioned name [] = false
 mentioned name (f ∷ fs) = same_bytes f.name name || mentioned name fs
 
 -- A name that resolves is a control point, unless a host feature has it already: that one resolved as well, and stays. Of what is none there is a warning: one where nothing has the name, another where a host feature has it.
-unfoldable pub event_of : Maybe Point → Bool → Float → Float → Warning → Warning → Event
-event_of none earlier lon lat lost again = warn lost
-event_of (some p) true lon lat lost again = warn again
-event_of (some p) false lon lat lost again = control_at p lon lat
+unfoldable pub event_of : Option Point → Bool → Float → Float → Warning → Warning → Event
+event_of None earlier lon lat lost again = warn lost
+event_of (Some p) true lon lat lost again = warn again
+event_of (Some p) false lon lat lost again = control_at p lon lat
 
 -- the i-th feature
 unfoldable pub feature_event : Scene → ℕ → NamedFeature → Event
@@ -133,9 +133,9 @@ ending name = drop (length name - 4) name
 unfoldable pub is_lon : List ℕ → Bool
 is_lon name = same_bytes (ending name) suffix_lon && not (same_bytes (stem name) geo)
 
-unfoldable pub lon_event : Scene → ℕ → List ℕ → Float → Maybe Float → Event
-lon_event sc i name lon none = warn (record { kind = 2; index = i })
-lon_event sc i name lon (some lat) =
+unfoldable pub lon_event : Scene → ℕ → List ℕ → Float → Option Float → Event
+lon_event sc i name lon None = warn (record { kind = 2; index = i })
+lon_event sc i name lon (Some lat) =
     event_of (resolved sc name) (mentioned name sc.features) lon lat (record { kind = 2; index = i }) (record { kind = 3; index = i })
 
 abbrev pub cons_if : Bool → Event → List Event → List Event
@@ -165,13 +165,13 @@ unfoldable pub controls_of : Scene → List Control
 controls_of sc = controls_in (events sc)
 
 -- ---- the anchor: longitude and latitude as x and y
-unfoldable pub both_of : Maybe Float → Maybe Float → Maybe Point
-both_of (some lon) (some lat) = some (record { x = lon; y = lat })
-both_of (some lon) none = none
-both_of none lat = none
+unfoldable pub both_of : Option Float → Option Float → Option Point
+both_of (Some lon) (Some lat) = Some (record { x = lon; y = lat })
+both_of (Some lon) None = None
+both_of None lat = None
 
-unfoldable pub anchor_of : Scene → Maybe Point
-anchor_of sc = or_else sc.anchor (both_of (var sc geo_lon) (var sc geo_lat))
+unfoldable pub anchor_of : Scene → Option Point
+anchor_of sc = option_or sc.anchor (both_of (var sc geo_lon) (var sc geo_lat))
 
 -- one of geo_lon and geo_lat without the other, and no option
 abbrev pub only_one : Bool → Bool → Bool
@@ -189,22 +189,22 @@ unfoldable pub all_within_limits : List Control → Bool
 all_within_limits [] = true
 all_within_limits (c ∷ cs) = within_limits c.lon c.lat && all_within_limits cs
 
-unfoldable pub anchor_within_limits : Maybe Point → Bool
-anchor_within_limits none = true
-anchor_within_limits (some p) = within_limits p.x p.y
+unfoldable pub anchor_within_limits : Option Point → Bool
+anchor_within_limits None = true
+anchor_within_limits (Some p) = within_limits p.x p.y
 
 -- ---- the registration
 -- the declared scale, in metres an inch of the canvas
 unfoldable pub scale_value : Scene → Float
-scale_value sc = or_value (declared_scale sc) f100
+scale_value sc = unwrap_or (declared_scale sc) f100
 
-unfoldable pub above0 : Maybe Float → Bool
-above0 (some v) = lt f0 v
-above0 none = false
+unfoldable pub above0 : Option Float → Bool
+above0 (Some v) = lt f0 v
+above0 None = false
 
 unfoldable pub effective_scale : Scene → Float
 effective_scale sc =
-    div binary64 (cond (px_mode sc) (mul binary64 (scale_value sc) (or_value sc.view_scale f1)) (scale_value sc)) sc.rescale
+    div binary64 (cond (px_mode sc) (mul binary64 (scale_value sc) (unwrap_or sc.view_scale f1)) (scale_value sc)) sc.rescale
 
 -- about the anchor, with the origin o
 abbrev pub declared_at : Scene → Point → Point → ℕ → Registration
@@ -215,7 +215,7 @@ declared_at sc anchor o n =
       x = o.x;
       y = o.y;
       scale = effective_scale sc;
-      bearing = or_value (declared_bearing sc) f0;
+      bearing = unwrap_or (declared_bearing sc) f0;
       method = 0;
       controls = n;
     }
@@ -233,10 +233,14 @@ fitted f n =
       controls = n;
     }
 
-unfoldable pub registration_by : Scene → Maybe Point → List Control → Registration
-registration_by sc anchor [] = declared_at sc (or_value anchor (record { x = f0; y = f0 })) (record { x = f0; y = f0 }) 0
+-- the registration where control points fit no similarity, which condition 11 refuses
+abbrev pub no_fit : Fit
+no_fit = record { lon = f0; lat = f0; x = f0; y = f0; scale = f0; bearing = f0 }
+
+unfoldable pub registration_by : Scene → Option Point → List Control → Registration
+registration_by sc anchor [] = declared_at sc (unwrap_or anchor (record { x = f0; y = f0 })) (record { x = f0; y = f0 }) 0
 registration_by sc anchor (c ∷ []) = declared_at sc (record { x = c.lon; y = c.lat }) (record { x = c.x; y = c.y }) 1
-registration_by sc anchor (c ∷ d ∷ cs) = fitted (fit_of (c ∷ d ∷ cs)) (length (c ∷ d ∷ cs))
+registration_by sc anchor (c ∷ d ∷ cs) = fitted (unwrap_or (fit_of (c ∷ d ∷ cs)) no_fit) (length (c ∷ d ∷ cs))
 
 unfoldable pub registration_of : Scene → Registration
 registration_of sc = registration_by sc (anchor_of sc) (controls_of sc)
@@ -251,7 +255,7 @@ of_registration sc =
     ∷ (8, not (all_within_limits cs && anchor_within_limits (anchor_of sc)))
     ∷ (9, ltb 64 (length cs))
     ∷ (10, eqb (length cs) 0 && not (is_some (anchor_of sc)))
-    ∷ (11, not few && not (fit_of cs).some)
+    ∷ (11, not few && not (is_some (fit_of cs)))
     ∷ (12, few && not (lt f0 (scale_value sc)))
     ∷ (13, few && (px_mode sc && not (above0 sc.view_scale)))
     ∷ (14, not (finite r.scale && le r.scale max_scale))

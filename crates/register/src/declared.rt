@@ -1,23 +1,24 @@
 // What options and `geo_` variables declare, read once.
-ghost use Rattle.std.specs.Prelude.{◌≡◌, not, ◌&&◌};
+ghost use Rattle.std.specs.Option.{option_or};
+ghost use Rattle.std.specs.Prelude.{◌≡◌, not, ◌&&◌, is_some};
 ghost use Rattle.stream.specs.Payload.{payload};
 ghost use Rattle.scene.specs.Scene.{scene_of};
-ghost use Rattle.values.specs.Maybe.{or_else, is_some};
-ghost use Rattle.scene.specs.Inner.Answers.{maybe_float, maybe_point, variables_at};
-ghost use Rattle.register.specs.Register.{is_mercator, var, geo_frame, not_zero, both_of, only_one};
+ghost use Rattle.scene.specs.Inner.Answers.{variables_at};
+ghost use Rattle.register.specs.Register.{is_mercator, not_zero, both_of, only_one};
 ghost use Rattle.register.specs.Inner.Survey.{Agrees, Declares};
 
-use scene::{OptionalFloat, OptionalPoint};
+use scene::Frame;
+use values::Point;
 
 // The variables geo_frame, geo_px and so on.
 #[derive(Clone, Copy)]
 pub struct Geo {
-    pub frame: OptionalFloat,
-    pub px: OptionalFloat,
-    pub scale: OptionalFloat,
-    pub bearing: OptionalFloat,
-    pub lon: OptionalFloat,
-    pub lat: OptionalFloat,
+    pub frame: Option<f64>,
+    pub px: Option<f64>,
+    pub scale: Option<f64>,
+    pub bearing: Option<f64>,
+    pub lon: Option<f64>,
+    pub lat: Option<f64>,
 }
 
 #[derive(Clone, Copy)]
@@ -26,67 +27,47 @@ pub struct Declared {
     pub mercator: bool,
     // lengths are pixels
     pub px: bool,
-    pub scale: OptionalFloat,
-    pub bearing: OptionalFloat,
-    pub anchor: OptionalPoint,
+    pub scale: Option<f64>,
+    pub bearing: Option<f64>,
+    pub anchor: Option<Point>,
     // one of geo_lon and geo_lat is set without the other, and no option
     pub half: bool,
-    pub view: OptionalFloat,
+    pub view: Option<f64>,
     pub rescale: f64,
 }
 
 // The frame is Mercator, by the option, else by the variable.
-fn is_mercator(s: &[u8], frame: OptionalFloat) -> bool
-    requires { maybe_float frame ≡ var (scene_of (payload s.now)) geo_frame }
-    ensures { result ≡ is_mercator (scene_of (payload s.now)).frame
-        (var (scene_of (payload s.now)) geo_frame) }
+#[tactic(auto, unfolding(crate::specs::Register::is_mercator))]
+fn is_mercator(s: &[u8], frame: Option<f64>) -> bool
+    ensures { result ≡ is_mercator (scene_of (payload s.now)).frame frame }
 {
-    let f = scene::frame(s);
-    if f.some {
-        return f.frame == 1;
-    }
-    if !frame.some {
-        return false;
-    }
-    frame.value == 1.0
-}
-
-fn is_set(v: OptionalFloat) -> bool
-    ensures { result ≡ not_zero (maybe_float v) }
-{
-    if !v.some {
-        return false;
-    }
-    v.value != 0.0
-}
-
-fn or_value(a: OptionalFloat, b: OptionalFloat) -> OptionalFloat
-    ensures { maybe_float result ≡ or_else (maybe_float a) (maybe_float b) }
-{
-    if a.some { a } else { b }
-}
-
-fn anchor_of(option: OptionalPoint, lon: OptionalFloat, lat: OptionalFloat) -> OptionalPoint
-    ensures { maybe_point result ≡ or_else (maybe_point option) (both_of (maybe_float lon) (maybe_float lat)) }
-{
-    if option.some {
-        return option;
-    }
-    OptionalPoint {
-        some: lon.some && lat.some,
-        x: lon.value,
-        y: lat.value,
+    match scene::frame(s) {
+        Some(Frame::Mercator) => true,
+        Some(Frame::Enu) => false,
+        None => frame.is_some_and(|x| x == 1.0),
     }
 }
 
-fn is_half(option: OptionalPoint, lon: OptionalFloat, lat: OptionalFloat) -> bool
-    ensures { result ≡ not (is_some (maybe_point option)) && only_one (is_some (maybe_float lon))
-        (is_some (maybe_float lat)) }
+// Whether a variable is set, and not 0.
+#[tactic(auto, unfolding(crate::specs::Register::not_zero))]
+fn is_set(v: Option<f64>) -> bool
+    ensures { result ≡ not_zero v }
 {
-    if option.some {
-        return false;
-    }
-    lon.some != lat.some
+    v.is_some_and(|x| x != 0.0)
+}
+
+// The position by the option, else by the variables.
+#[tactic(auto, unfolding(crate::specs::Register::both_of))]
+fn anchor_of(option: Option<Point>, lon: Option<f64>, lat: Option<f64>) -> Option<Point>
+    ensures { result ≡ option_or option (both_of lon lat) }
+{
+    option.or(lon.zip(lat).map(|(x, y)| Point { x, y }))
+}
+
+fn is_half(option: Option<Point>, lon: Option<f64>, lat: Option<f64>) -> bool
+    ensures { result ≡ not (is_some option) && only_one (is_some lon) (is_some lat) }
+{
+    option.is_none() && lon.is_some() != lat.is_some()
 }
 
 // What the options and these `geo_` variables declare.
@@ -98,8 +79,8 @@ pub fn read_declared(s: &[u8], g: Geo) -> Declared
     Declared {
         mercator: is_mercator(s, g.frame),
         px: is_set(g.px),
-        scale: or_value(scene::scale(s), g.scale),
-        bearing: or_value(scene::bearing(s), g.bearing),
+        scale: scene::scale(s).or(g.scale),
+        bearing: scene::bearing(s).or(g.bearing),
         anchor: anchor_of(anchor, g.lon, g.lat),
         half: is_half(anchor, g.lon, g.lat),
         view: scene::view_scale(s),

@@ -9,6 +9,6 @@ mod outcome;
 mod survey;
 mod warnings;
 
-pub use outcome::{Outcome, refuse, register};
+pub use outcome::register;
 pub use survey::{Survey, survey_stream};
 pub use warnings::write_warnings;

@@ -6,9 +6,8 @@ ghost use Rattle.records.specs.Records.{bytes_at};
 ghost use Rattle.register.specs.Register.{is_lon};
 ghost use Rattle.register.specs.Inner.Mentions.{Follows, Asked};
 
-use crate::lat_lookup::{lat_of, set_prefix_starts};
-use records::common_prefix;
-use scene::{OptionalFloat, name_is, next_feature, next_variable};
+use crate::lat_lookup::{lat_of, pass_variable};
+use scene::{name_is, next_feature, next_variable};
 
 // Where the next name is looked for, how many host features or variables come before it, and the name of the last
 // variable.
@@ -20,63 +19,38 @@ pub struct Cursor {
     pub len: usize,
 }
 
-// Where `some` is false the other fields are free, except `next`.
+// A name of `len` bytes at `at`, where it is said to be, the number of its host feature or variable, and where the next
+// name is looked for.
 #[derive(Clone, Copy)]
 pub struct Mention {
-    pub some: bool,
     pub at: usize,
     pub len: usize,
     pub lon: f64,
-    pub lat: OptionalFloat,
+    pub lat: Option<f64>,
     pub index: usize,
     pub next: Cursor,
 }
 
-fn no_mention(c: Cursor) -> Mention
-    ensures { (result.some ≡ false) × (result.next ≡ c) }
-{
-    let none = OptionalFloat {
-        some: false,
-        value: 0.0,
-    };
-    Mention {
-        some: false,
-        at: 0,
-        len: 0,
-        lon: 0.0,
-        lat: none,
-        index: 0,
-        next: c,
-    }
-}
-
-fn next_feature_name(s: &[u8], c: Cursor) -> Mention
+fn next_feature_name(s: &[u8], c: Cursor) -> Result<Mention, Cursor>
     requires { c.i ≤ c.q }
     ensures { (starts : List ℕ) → Asked s.now false c result starts }
 {
-    let f = next_feature(s, c.q);
-    if !f.some {
-        return no_mention(c);
-    }
-    let lat = OptionalFloat {
-        some: true,
-        value: f.lat,
+    let Some(f) = next_feature(s, c.q) else {
+        return Err(c);
     };
-    let next = Cursor {
-        q: f.next,
-        i: c.i + 1,
-        at: 0,
-        len: 0,
-    };
-    Mention {
-        some: true,
+    Ok(Mention {
         at: f.at,
         len: f.len,
         lon: f.lon,
-        lat,
+        lat: Some(f.lat),
         index: c.i,
-        next,
-    }
+        next: Cursor {
+            q: f.next,
+            i: c.i + 1,
+            at: 0,
+            len: 0,
+        },
+    })
 }
 
 // Whether the name of n bytes at `at` is `<L>_lon`, L other than geo.
@@ -84,64 +58,50 @@ pub fn is_lon(s: &[u8], at: usize, n: usize) -> bool
     requires { at + n ≤ room s.now }
     ensures { result ≡ is_lon (bytes_at (payload s.now) at n) }
 {
-    if n < 4 {
-        return false;
-    }
-    if !name_is(s, at + n - 4, 4, b"_lon") {
-        return false;
-    }
-    !name_is(s, at, n - 4, b"geo")
+    n >= 4 && name_is(s, at + n - 4, 4, b"_lon") && !name_is(s, at, n - 4, b"geo")
 }
 
-fn next_lon(s: &[u8], c: Cursor, starts: &mut [usize]) -> Mention
+fn next_lon(s: &[u8], mut c: Cursor, starts: &mut [usize]) -> Result<Mention, Cursor>
     requires { Follows s.now true c starts.old }
     ensures { Asked s.now true c result starts.new }
 {
-    let mut at = c.at;
-    let mut len = c.len;
-    let mut q = c.q;
-    let mut i = c.i;
-    loop {
-        let v = next_variable(s, q);
-        if !v.some {
-            let end = Cursor { q, i, at, len };
-            return no_mention(end);
-        }
-        let alike = common_prefix(s, at, len, v.at, v.len);
-        set_prefix_starts(starts, alike, q);
-        at = v.at;
-        len = v.len;
-        q = v.next;
-        if is_lon(s, at, len) {
-            let from = starts[len - 2];
-            let lat = lat_of(s, from, at, len - 4);
-            let next = Cursor {
-                q,
-                i: i + 1,
-                at,
-                len,
-            };
-            return Mention {
-                some: true,
-                at,
-                len: len - 4,
+    while let Ok(v) = next_variable(s, c.q) {
+        pass_variable(s, c, v, starts);
+        let index = c.i;
+        c = Cursor {
+            q: v.next,
+            i: index + 1,
+            at: v.at,
+            len: v.len,
+        };
+        if is_lon(s, v.at, v.len) {
+            let from = starts[v.len - 2];
+            return Ok(Mention {
+                at: v.at,
+                len: v.len - 4,
                 lon: v.value,
-                lat,
-                index: i,
-                next,
-            };
+                lat: lat_of(s, from, v.at, v.len - 4),
+                index,
+                next: c,
+            });
         }
-        i += 1;
     }
+    Err(c)
 }
 
-// The first name from c on: of a `_lon` variable, or of a host feature.
-pub fn next_mention(s: &[u8], lons: bool, c: Cursor, starts: &mut [usize]) -> Mention
+// The first name from c on: of a `_lon` variable, or of a host feature. Where there is none, the cursor behind them.
+pub fn next_mention(
+    s: &[u8],
+    lons: bool,
+    c: Cursor,
+    starts: &mut [usize],
+) -> Result<Mention, Cursor>
     requires { Follows s.now lons c starts.old }
     ensures { Asked s.now lons c result starts.new }
 {
     if lons {
-        return next_lon(s, c, starts);
+        next_lon(s, c, starts)
+    } else {
+        next_feature_name(s, c)
     }
-    next_feature_name(s, c)
 }

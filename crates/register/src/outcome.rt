@@ -1,215 +1,154 @@
 // Refusals 7 to 14, and the registration.
-ghost use Rattle.std.specs.Prelude.{◌≡◌, ◌+◌, ◌*◌, ◌≤◌, length};
+ghost use Rattle.std.specs.Prelude.{◌≡◌, ◌≤◌, length, IfOk};
 ghost use Rattle.stream.specs.Payload.{payload};
 ghost use Rattle.scene.specs.Scene.{Scene, scene_of};
+ghost use Rattle.register.specs.Register.{anchor_within_limits, controls_of};
 ghost use Rattle.register.specs.Inner.Survey.{Declares, Registrable};
-ghost use Rattle.register.specs.Inner.Gathered.{control_in, controls_by, Kept};
-ghost use Rattle.register.specs.Inner.Outcome.{refused_by, outcome_of, checked_of, declared_outcome};
-ghost use Rattle.register.specs.Inner.Outcome.{fitted_outcome};
+ghost use Rattle.register.specs.Inner.Gathered.{Kept};
+ghost use Rattle.register.specs.Inner.Outcome.{outcome_by, outcome_of, checked_of, declared_outcome};
+ghost use Rattle.register.specs.Inner.Outcome.{fitted_outcome, Passed};
 
-use crate::controls::{CONTROL_NUMBERS, MAX_CONTROLS, gather, is_within_limits};
+use crate::controls::{MAX_CONTROLS, gather, is_within_limits};
 use crate::declared::Declared;
 use crate::survey::Survey;
 use fit::{Control, fit_points};
 use float::is_finite;
 use projection::Registration;
-use values::Point;
+use values::{Point, Refusal};
 
 // The largest effective scale, in metres an inch, and the one where none is declared.
 const MAX_SCALE_M_PER_IN: f64 = 1e9;
 
 const DEFAULT_SCALE_M_PER_IN: f64 = 100.0;
+
 // How a registration was found: about an anchor or one control point, by two control points, or by a fit to more.
-const METHOD_ANCHOR: u32 = 0;
-
-const METHOD_TWO_POINTS: u32 = 1;
-
-const METHOD_HELMERT: u32 = 2;
-// Numbers of refusals, by the header's names.
-const REFUSAL_FRAME: u32 = 7;
-
-const REFUSAL_OUTSIDE: u32 = 8;
-
-const REFUSAL_TOO_MANY: u32 = 9;
-
-const REFUSAL_NO_ANCHOR: u32 = 10;
-
-const REFUSAL_DEGENERATE: u32 = 11;
-
-const REFUSAL_SCALE: u32 = 12;
-
-const REFUSAL_VIEW_SCALE: u32 = 13;
-
-const REFUSAL_MAX_SCALE: u32 = 14;
-
-// 0 and the registration, or the number of the first condition that holds and zeros.
-#[repr(C)]
+// Numbers are the header's.
 #[derive(Clone, Copy)]
-pub struct Outcome {
-    pub number: u32,
-    pub registration: Registration,
-}
-
-pub fn refuse(number: u32) -> Outcome
-    ensures { result ≡ refused_by number }
-{
-    let none = Registration {
-        lon: 0.0,
-        lat: 0.0,
-        x: 0.0,
-        y: 0.0,
-        scale: 0.0,
-        bearing: 0.0,
-        method: METHOD_ANCHOR,
-        controls: 0,
-    };
-    Outcome {
-        number,
-        registration: none,
-    }
+enum Method {
+    Anchor = 0,
+    TwoPoints = 1,
+    Helmert = 2,
 }
 
 // The registration, unless condition 14 refuses its scale.
-fn check_scale(r: Registration) -> Outcome
-    ensures { result ≡ checked_of r }
+#[tactic(auto, unfolding(crate::specs::Inner::Outcome::checked_of))]
+fn check_scale(r: Registration) -> Result<Registration, Refusal>
+    ensures { outcome_by result ≡ checked_of r }
 {
-    if !is_finite(r.scale) {
-        return refuse(REFUSAL_MAX_SCALE);
-    }
-    if !(r.scale <= MAX_SCALE_M_PER_IN) {
-        return refuse(REFUSAL_MAX_SCALE);
-    }
-    Outcome {
-        number: 0,
-        registration: r,
+    if is_finite(r.scale) && r.scale <= MAX_SCALE_M_PER_IN {
+        Ok(r)
+    } else {
+        Err(Refusal::MaxScale)
     }
 }
 
 // The registration by what is declared, with n control points, which puts the point `origin` of the canvas at the
 // position `anchor`, unless one of the conditions 12 to 14 holds.
-fn declare(d: Declared, anchor: Point, origin: Point, n: u32) -> Outcome
-    ensures { (sc : Scene) → Declares sc d → result ≡ declared_outcome sc anchor origin n }
+#[tactic(auto, unfolding(crate::specs::Inner::Outcome::declared_outcome, crate::specs::Register::scale_value, crate::specs::Register::above0, crate::specs::Register::effective_scale))]
+fn declare(d: Declared, anchor: Point, origin: Point, n: u32) -> Result<Registration, Refusal>
+    ensures { (sc : Scene) → Declares sc d → outcome_by result ≡ declared_outcome sc anchor origin n }
 {
-    let scale = d.scale;
-    let value = if scale.some {
-        scale.value
+    let scale = d.scale.unwrap_or(DEFAULT_SCALE_M_PER_IN);
+    if !(0.0 < scale) {
+        return Err(Refusal::Scale);
+    }
+    let per_inch = if d.px {
+        let view = d.view.ok_or(Refusal::ViewScale)?;
+        if !(0.0 < view) {
+            return Err(Refusal::ViewScale);
+        }
+        scale * view
     } else {
-        DEFAULT_SCALE_M_PER_IN
+        scale
     };
-    if !(0.0 < value) {
-        return refuse(REFUSAL_SCALE);
-    }
-    let view = d.view;
-    if d.px {
-        if !view.some {
-            return refuse(REFUSAL_VIEW_SCALE);
-        }
-        if !(0.0 < view.value) {
-            return refuse(REFUSAL_VIEW_SCALE);
-        }
-    }
-    let per_inch = if d.px { value * view.value } else { value };
-    let bearing = d.bearing;
-    let turned = if bearing.some { bearing.value } else { 0.0 };
-    let r = Registration {
+    check_scale(Registration {
         lon: anchor.x,
         lat: anchor.y,
         x: origin.x,
         y: origin.y,
         scale: per_inch / d.rescale,
-        bearing: turned,
-        method: METHOD_ANCHOR,
+        bearing: d.bearing.unwrap_or(0.0),
+        method: Method::Anchor as u32,
         controls: n,
-    };
-    check_scale(r)
+    })
 }
 
-// The k-th control point of those that were gathered.
-fn control_at(flat: &[f64], k: usize) -> Control
-    requires { 4 * k + 4 ≤ length flat.now }
-    ensures { result ≡ control_in flat.now k }
+// The registration by a fit to two control points or more, unless condition 11 or 14 holds.
+#[tactic(auto, unfolding(crate::specs::Inner::Outcome::fitted_outcome))]
+fn fit_controls(controls: &[Control]) -> Result<Registration, Refusal>
+    requires { length controls.now ≤ 64 }
+    ensures { outcome_by result ≡ fitted_outcome controls.now }
 {
-    Control {
-        x: flat[4 * k],
-        y: flat[4 * k + 1],
-        lon: flat[4 * k + 2],
-        lat: flat[4 * k + 3],
-    }
-}
-
-// The registration by a fit to the first n control points, two or more, unless condition 11 or 14 holds.
-fn fit_controls(flat: &[f64], n: usize) -> Outcome
-    requires { (n ≤ 64) × (length flat.now ≡ 256) }
-    ensures { result ≡ fitted_outcome (controls_by flat.now n) }
-{
-    let first = control_at(flat, 0);
-    let mut at = [first; MAX_CONTROLS];
-    let mut k = 0usize;
-    while k < n {
-        at[k] = control_at(flat, k);
-        k += 1;
-    }
-    let f = fit_points(at, n);
-    if !f.some {
-        return refuse(REFUSAL_DEGENERATE);
-    }
+    let f = fit_points(controls).ok_or(Refusal::Degenerate)?;
+    let n = controls.len();
     let method = if n == 2 {
-        METHOD_TWO_POINTS
+        Method::TwoPoints
     } else {
-        METHOD_HELMERT
+        Method::Helmert
     };
-    let r = Registration {
+    check_scale(Registration {
         lon: f.lon,
         lat: f.lat,
         x: f.x,
         y: f.y,
         scale: f.scale,
         bearing: f.bearing,
-        method,
+        method: method as u32,
         controls: n as u32,
-    };
-    check_scale(r)
+    })
+}
+
+// The registration by all control points, unless one of the conditions 10 to 14 holds.
+fn register_by(d: Declared, controls: &[Control]) -> Result<Registration, Refusal>
+    requires { length controls.now ≤ 64 }
+    ensures { (sc : Scene) → Declares sc d → Passed sc → controls_of sc ≡ controls.now
+        → outcome_by result ≡ outcome_of sc }
+{
+    match controls {
+        [] => {
+            let anchor = d.anchor.ok_or(Refusal::NoAnchor)?;
+            declare(d, anchor, Point { x: 0.0, y: 0.0 }, 0)
+        }
+        [c] => declare(d, Point { x: c.lon, y: c.lat }, Point { x: c.x, y: c.y }, 1),
+        _ => fit_controls(controls),
+    }
+}
+
+// Whether the anchor, where there is one, is within condition 8's limits.
+#[tactic(auto, unfolding(crate::specs::Register::anchor_within_limits))]
+fn is_anchor_within_limits(anchor: Option<Point>) -> bool
+    ensures { result ≡ anchor_within_limits anchor }
+{
+    anchor.is_none_or(|a| is_within_limits(a.x, a.y))
 }
 
 // The registration of a stream that the conditions before 7 let pass. Where it is accepted, `kept` has the numbers of
 // the names that are control points.
-pub fn register(s: &[u8], v: Survey, kept: &mut [u32]) -> Outcome
+pub fn register(s: &[u8], v: Survey, kept: &mut [u32]) -> Result<Registration, Refusal>
     requires { Registrable s.now v × (length kept.old ≡ 64) }
-    ensures value { result ≡ outcome_of (scene_of (payload s.now)) }
-    ensures kept { result.number ≡ 0 → Kept (scene_of (payload s.now)) kept.new }
+    ensures value { outcome_by result ≡ outcome_of (scene_of (payload s.now)) }
+    ensures kept { IfOk result (λ r. Kept (scene_of (payload s.now)) kept.new) }
 {
     let d = v.declared;
     if !d.mercator {
-        return refuse(REFUSAL_FRAME);
+        return Err(Refusal::Frame);
     }
-    let mut flat = [0.0f64; CONTROL_NUMBERS];
-    let g = gather(s, v, &mut flat, kept);
-    let a = d.anchor;
+    let none = Control {
+        x: 0.0,
+        y: 0.0,
+        lon: 0.0,
+        lat: 0.0,
+    };
+    let mut controls = [none; MAX_CONTROLS];
+    let g = gather(s, v, &mut controls, kept);
     if !g.within {
-        return refuse(REFUSAL_OUTSIDE);
+        return Err(Refusal::Outside);
     }
-    if a.some {
-        if !is_within_limits(a.x, a.y) {
-            return refuse(REFUSAL_OUTSIDE);
-        }
+    if !is_anchor_within_limits(d.anchor) {
+        return Err(Refusal::Outside);
     }
-    let n = g.n;
-    if n > MAX_CONTROLS {
-        return refuse(REFUSAL_TOO_MANY);
+    if g.n > MAX_CONTROLS {
+        return Err(Refusal::TooMany);
     }
-    if n >= 2 {
-        return fit_controls(&flat, n);
-    }
-    if n == 1 {
-        let c = control_at(&flat, 0);
-        let anchor = Point { x: c.lon, y: c.lat };
-        let origin = Point { x: c.x, y: c.y };
-        return declare(d, anchor, origin, 1);
-    }
-    if !a.some {
-        return refuse(REFUSAL_NO_ANCHOR);
-    }
-    let anchor = Point { x: a.x, y: a.y };
-    let origin = Point { x: 0.0, y: 0.0 };
-    declare(d, anchor, origin, 0)
+    register_by(d, &controls[..g.n])
 }

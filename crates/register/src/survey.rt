@@ -7,7 +7,7 @@ ghost use Rattle.register.specs.Inner.Survey.{first_value, recorded_geo, Numbere
 
 use crate::declared::{Declared, Geo, read_declared};
 use crate::mentions::is_lon;
-use scene::{OptionalFloat, Variable, name_is, next_name, next_variable};
+use scene::{Variable, name_is, next_name, next_variable};
 
 #[derive(Clone, Copy)]
 pub struct Survey {
@@ -21,21 +21,16 @@ pub struct Survey {
 }
 
 // The value looked for by a name, after the variable v: the first one stays.
-fn first_value(s: &[u8], old: OptionalFloat, v: Variable, name: &[u8]) -> OptionalFloat
+fn first_value(s: &[u8], old: Option<f64>, v: Variable, name: &[u8]) -> Option<f64>
     requires { v.at + v.len ≤ room s.now }
     ensures { result
         ≡ first_value (bytes_at (payload s.now) v.at v.len) v.value name.now old }
 {
-    if old.some {
-        return old;
-    }
-    OptionalFloat {
-        some: name_is(s, v.at, v.len, name),
-        value: v.value,
-    }
+    old.or_else(|| name_is(s, v.at, v.len, name).then_some(v.value))
 }
 
 // The values of the `geo_` variables, after the variable v.
+#[tactic(auto, unfolding(crate::specs::Inner::Survey::recorded_geo))]
 fn record_geo(s: &[u8], g: Geo, v: Variable) -> Geo
     requires { v.at + v.len ≤ room s.now }
     ensures { result ≡ recorded_geo (bytes_at (payload s.now) v.at v.len) v.value g }
@@ -60,32 +55,26 @@ struct FeatureCount {
 fn count_features(s: &[u8]) -> FeatureCount
     ensures { Numbered (payload s.now) result.count result.end }
 {
-    let mut n = 0usize;
-    let mut q = 0usize;
-    loop {
-        let f = next_name(s, q);
-        if !f.some {
-            return FeatureCount { count: n, end: q };
-        }
-        q = f.next;
-        n += 1;
+    // Counted by hand: behind `for count in 0..`, which has no end of its own, nothing can be answered.
+    let mut count = 0usize;
+    let mut end = 0usize;
+    while let Ok(f) = next_name(s, end) {
+        end = f.next;
+        count += 1;
     }
+    FeatureCount { count, end }
 }
 
 pub fn survey_stream(s: &[u8]) -> Survey
     ensures { Surveyed (payload s.now) result }
 {
-    let none = OptionalFloat {
-        some: false,
-        value: 0.0,
-    };
     let mut geo = Geo {
-        frame: none,
-        px: none,
-        scale: none,
-        bearing: none,
-        lon: none,
-        lat: none,
+        frame: None,
+        px: None,
+        scale: None,
+        bearing: None,
+        lon: None,
+        lat: None,
     };
     let f = count_features(s);
     let variables_at = f.end;
@@ -93,16 +82,18 @@ pub fn survey_stream(s: &[u8]) -> Survey
     let mut lon_count = 0usize;
     let mut q = variables_at;
     loop {
-        let v = next_variable(s, q);
-        if !v.some {
-            return Survey {
-                declared: read_declared(s, geo),
-                name_count,
-                lon_count,
-                variables_at,
-                places_at: v.next,
-            };
-        }
+        let v = match next_variable(s, q) {
+            Ok(v) => v,
+            Err(places_at) => {
+                return Survey {
+                    declared: read_declared(s, geo),
+                    name_count,
+                    lon_count,
+                    variables_at,
+                    places_at,
+                };
+            }
+        };
         geo = record_geo(s, geo, v);
         if is_lon(s, v.at, v.len) {
             name_count += 1;

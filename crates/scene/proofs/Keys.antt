@@ -1,69 +1,68 @@
--- Which of two keys is greater, and which point is the best after one more was considered.
-use mathlib.Core.Path.{◌≡◌, refl, sym, ◌∙◌}
-use mathlib.Core.Bool.{Bool, true, false, not, ◌&&◌, ◌||◌, beq, or-false}
-use native.Mathlib.Omega.{arith}
-use lib.Dec.{eqb, ltb}
-use borrow.Author.Tests.{le-ltb, eq-eqb, ne_eqb, not-true, not-false}
+-- The derived order of keys is the definition's, and which point is the best after one more was considered.
+use Rattle.std.specs.Prelude.{◌≡◌, refl, ◌⊎◌, ℕ, Bool, true, false, not, ◌&&◌, ◌||◌, cond, eqb, ltb, Option, Some}
+use Rattle.std.proofs.Common.{Ordering, Less, Equal, Greater}
+use Rattle.std.specs.Ordering.{is_some_and, is_le, partial_ordering_then, nat_cmp, bool_cmp}
+use Rattle.std.proofs.Math.Logic.{inl, inr}
+use Rattle.std.proofs.Common.{arith, ltb-true, ltb-false, le-ltb, eq-eqb, ne_eqb}
+use borrow.Author.Tests.{not-true, not-false}
 use Rattle.values.specs.declared.Point.{Point}
-use Rattle.values.specs.Maybe.{some, given}
 use Rattle.scene.specs.Labels.{Key, Best, greater, consider}
 
--- ---- the code's test of two flags
-unlike : (s t : Bool) → not (beq s t) ≡ true → t ≡ not s
-unlike true true e = sym e
-unlike true false e = refl
-unlike false true e = refl
-unlike false false e = e
+-- which of two numbers is less, by the tests of both orders
+abbrev Three : Bool → Bool → Bool → Type 0
+Three p q r = ((p ≡ true) × (q ≡ false) × (r ≡ false)) ⊎ (((p ≡ false) × (q ≡ true) × (r ≡ false)) ⊎ ((p ≡ false) × (q ≡ false) × (r ≡ true)))
 
-alike : (s t : Bool) → not (beq s t) ≡ false → t ≡ s
-alike true true e = refl
-alike true false e = sym e
-alike false true e = e
-alike false false e = refl
+three : (x y : ℕ) → Three (ltb x y) (eqb x y) (ltb y x)
+three x y = by (ltb x y) refl (ltb y x) refl
+  where
+    by : (p : Bool) → ltb x y ≡ p → (r : Bool) → ltb y x ≡ r → Three (ltb x y) (eqb x y) (ltb y x)
+    by true e r f = inl (e, ne_eqb x y (λ g. omega (arith, ltb-true x y e)), le-ltb y x (omega (arith, ltb-true x y e)))
+    by false e true f = inr (inr (e, ne_eqb x y (λ g. omega (arith, ltb-true y x f)), f))
+    by false e false f = inr (inl (e, eq-eqb x y (omega (arith, ltb-false x y e, ltb-false y x f)), f))
 
--- ---- keys, by what decides
+-- at most, where a number decides before o does
+abbrev AtMost : Option Ordering → Bool
+AtMost o = is_some_and is_le o
+
+number_first : (p q r : Bool) (o : Option Ordering) (b : Bool) → Three p q r → AtMost o ≡ not b → AtMost (partial_ordering_then (Some (cond p Less (cond q Equal Greater))) o) ≡ not (r || (q && b))
+number_first p q r o b (inl h) e = rw (h.0, h.1, h.2) refl
+number_first p q r o b (inr (inl h)) e = rw (h.0, h.1, h.2) e
+number_first p q r o b (inr (inr h)) e = rw (h.0, h.1, h.2) refl
+
+number_last : (p q r : Bool) → Three p q r → AtMost (Some (cond p Less (cond q Equal Greater))) ≡ not r
+number_last p q r (inl h) = rw (h.0, h.2) refl
+number_last p q r (inr (inl h)) = rw (h.0, h.1, h.2) refl
+number_last p q r (inr (inr h)) = rw (h.0, h.1, h.2) refl
+
 abbrev with_top : Bool → Key → Key
 with_top t k = record { top = t; line = k.line; col = k.col; order = k.order }
 
 module _ (a b : Key) where
-  tops : (s t : Bool) → not (beq s t) ≡ true → s ≡ greater (with_top s a) (with_top t b)
+  abbrev numbers : Option Ordering
+  numbers = partial_ordering_then (Some (nat_cmp a.line b.line)) (partial_ordering_then (Some (nat_cmp a.col b.col)) (Some (nat_cmp a.order b.order)))
+
+  numbers_are : AtMost numbers ≡ not (ltb b.line a.line || (eqb a.line b.line && (ltb b.col a.col || (eqb a.col b.col && ltb b.order a.order))))
+  numbers_are =
+      number_first _ _ _ _ _ (three a.line b.line)
+      (number_first _ _ _ _ _ (three a.col b.col)
+      (number_last _ _ _ (three a.order b.order)))
+
+  by_top : (s t : Bool) → AtMost (partial_ordering_then (Some (bool_cmp s t)) numbers) ≡ not (greater (with_top s a) (with_top t b))
   unfolding greater
-  tops true t e = rw (unlike true t e) refl
-  tops false t e = rw (unlike false t e) refl
+  by_top true true = numbers_are
+  by_top true false = refl
+  by_top false true = refl
+  by_top false false = numbers_are
 
-  ranks :
-      (s t : Bool) →
-      not (beq s t) ≡ false →
-      greater (with_top s a) (with_top t b) ≡ (ltb b.line a.line || (eqb a.line b.line && (ltb b.col a.col || (eqb a.col b.col && ltb b.order a.order))))
-  unfolding greater
-  ranks true t e = rw (alike true t e) refl
-  ranks false t e = rw (alike false t e) refl
+  pub at_most : AtMost (partial_ordering_then (Some (bool_cmp a.top b.top)) numbers) ≡ not (greater a b)
+  at_most = by_top a.top b.top
 
-  pub by_top : not (beq a.top b.top) ≡ true → a.top ≡ greater a b
-  by_top e = tops a.top b.top e
-
-  module _ (e : not (beq a.top b.top) ≡ false) where
-    pub by_line : (a.line ≡ b.line → ⊥) → ltb b.line a.line ≡ greater a b
-    by_line n = sym (ranks a.top b.top e ∙ rw (ne_eqb a.line b.line n) (or-false (ltb b.line a.line)))
-
-    module _ (g : a.line ≡ b.line) where
-      pub by_col : (a.col ≡ b.col → ⊥) → ltb b.col a.col ≡ greater a b
-      by_col n = sym (ranks a.top b.top e ∙ rw (le-ltb b.line a.line (omega arith), eq-eqb a.line b.line g, ne_eqb a.col b.col n) (or-false (ltb b.col a.col)))
-
-      pub by_order : a.col ≡ b.col → ltb b.order a.order ≡ greater a b
-      by_order h = sym (ranks a.top b.top e ∙ rw (le-ltb b.line a.line (omega arith), eq-eqb a.line b.line g, le-ltb b.col a.col (omega arith), eq-eqb a.col b.col h) refl)
-
--- ---- the best so far, if there is one
-module _ (has : Bool) (b : Best) (k : Key) (p : Point) where
-  pub is-first : has ≡ false → some (record { key = k; at = p }) ≡ consider (given has b) k p
+-- ---- the best so far
+module _ (b : Best) (k : Key) (p : Point) {r : Bool} (e : r ≡ not (greater k b.key)) where
+  pub stays : r ≡ true → Some b ≡ consider (Some b) k p
   unfolding consider
-  is-first u = rw u refl
+  stays h = rw (not-true (greater k b.key) (rw e at h)) refl
 
-  module _ (u : has ≡ true) {r : Bool} (e : r ≡ greater k b.key) where
-    pub stays : not r ≡ true → given has b ≡ consider (given has b) k p
-    unfolding consider
-    stays h = rw (u, ← e, not-true r h) refl
-
-    pub replaces : not r ≡ false → some (record { key = k; at = p }) ≡ consider (given has b) k p
-    unfolding consider
-    replaces h = rw (u, ← e, not-false r h) refl
+  pub replaces : r ≡ false → Some (record { key = k; at = p }) ≡ consider (Some b) k p
+  unfolding consider
+  replaces h = rw (not-false (greater k b.key) (rw e at h)) refl

@@ -1,5 +1,4 @@
-pub mod Values
-pub mod Searches
+pub mod Bounds
 pub mod Keys
 pub mod Means
 pub mod Reading

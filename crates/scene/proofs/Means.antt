@@ -2,7 +2,6 @@
 use mathlib.Core.Path.{◌≡◌, refl, sym, ◌∙◌}
 use mathlib.Core.List.{List}
 use Prim.Native.Nat.{ℕ, ◌+◌, ◌-◌, ◌*◌, ◌≤◌, ◌<◌}
-use native.Mathlib.Nat.{add-zero, sub-zero}
 use lib.IntN.{pos}
 use lib.Ieee.{Float, binary64, of_bits, of_int, add, div}
 use Rattle.scene.specs.Scene.{point_at, points_at}
@@ -15,9 +14,6 @@ abbrev pub Sums : (Point → Float) → List ℕ → ℕ → ℕ → Float → �
 Sums f l p n a i = sum_of f a (points_at l (p + 16 * i) (n - i)) ≡ sum_of f (of_bits binary64 0) (points_at l p n)
 
 module _ (f : Point → Float) (l : List ℕ) (p n : ℕ) where
-  pub sums_start : Sums f l p n (of_bits binary64 0) 0
-  sums_start = rw (add-zero, sub-zero) refl
-
   module _ (a : Float) (i : ℕ) (e : Sums f l p n a i) where
     pub sums_more : {q : Point} → i < n → q ≡ point_at l (p + 16 * i) → Sums f l p n (add binary64 a (f q)) (i + 1)
     sums_more h g = rw g (sym (sum_step f a l p n i h) ∙ e)

@@ -1,13 +1,11 @@
 -- The scene that a payload holds, with the fields of the source's scene.rs: each read off its record's bytes, from the
 -- tag on.
-use Rattle.std.specs.Prelude.{ℕ, zero, suc, ◌+◌, ◌/◌, ◌%◌, Bool, false, List, [], ◌∷◌, map, get_or, eqb, ltb, Float}
+use Rattle.std.specs.Prelude.{ℕ, zero, suc, ◌+◌, ◌/◌, ◌%◌, Bool, false, List, [], ◌∷◌, map, get_or, eqb, ltb, Float, Option, None, Some}
 use Rattle.std.specs.Float.{binary64}
 use Rattle.std.specs.Float.Ieee.{of_bits}
 use Rattle.values.specs.declared.Point.{Point}
-use Rattle.values.specs.Maybe.{Maybe, none, some, given}
+use Rattle.values.specs.Options.{given}
 use Rattle.stream.specs.Numbers.{u16_at, u32_at, float_at}
-use Rattle.stream.specs.declared.Float64.{Float64}
-use Rattle.stream.specs.declared.Float64.TheVariants.{Finite, NotFinite}
 use Rattle.records.specs.Records.{values_width, bytes_at}
 use Rattle.records.specs.Walk.{Entry, entries}
 use Rattle.records.specs.Search.{records_of}
@@ -15,15 +13,15 @@ use Rattle.records.specs.Values.{flatten_in, step_in}
 
 -- what the first of some records holds, if there is one: an option stands at most once, and so does an item's role of
 -- points
-abbrev pub first : {A : Type 0} → (List ℕ → A) → List (List ℕ) → Maybe A
-first f [] = none
-first f (l ∷ ls) = some (f l)
+abbrev pub first : {A : Type 0} → (List ℕ → A) → List (List ℕ) → Option A
+first f [] = None
+first f (l ∷ ls) = Some (f l)
 
 -- ---- numbers
 -- a float's value. Condition 4 refuses what is not finite; the 0 that stands for it here is never asked for.
-unfoldable pub value_of : Float64 → Float
-value_of (Finite v) = v
-value_of NotFinite = of_bits binary64 0
+unfoldable pub value_of : Option Float → Float
+value_of (Some v) = v
+value_of None = of_bits binary64 0
 
 unfoldable pub float_value_at : List ℕ → ℕ → Float
 float_value_at l p = value_of (float_at l p)
@@ -109,16 +107,16 @@ pub record DrawnItem : Type 0 where
   pub closed : Bool
   pub fill : Bool
   pub screen : Bool
-  pub label : Maybe (List ℕ)
+  pub label : Option (List ℕ)
   pub line : ℕ
   pub col : ℕ
-  pub at : Maybe Point
-  pub w : Maybe Float
-  pub h : Maybe Float
-  pub r : Maybe Float
-  pub rad : Maybe Float
-  pub points : Maybe (List Point)
-  pub fill_points : Maybe (List Point)
+  pub at : Option Point
+  pub w : Option Float
+  pub h : Option Float
+  pub r : Option Float
+  pub rad : Option Float
+  pub points : Option (List Point)
+  pub fill_points : Option (List Point)
   -- [] where the source has none at all
   pub paths : List DrawnPath
   pub fill_paths : List DrawnPath
@@ -159,12 +157,12 @@ item_at l = item_with l (get_or l 3 0) (get_or l (12 + get_or l 3 0) 0) (tail (e
 pub record Scene : Type 0 where
   pub rescale : Float
   -- options: 0 enu, 1 Mercator; longitude and latitude as x and y
-  pub frame : Maybe ℕ
-  pub anchor : Maybe Point
-  pub scale : Maybe Float
-  pub bearing : Maybe Float
+  pub frame : Option ℕ
+  pub anchor : Option Point
+  pub scale : Option Float
+  pub bearing : Option Float
   pub flatten : Float
-  pub view_scale : Maybe Float
+  pub view_scale : Option Float
   pub step : Float
   pub features : List NamedFeature
   pub variables : List NamedValue

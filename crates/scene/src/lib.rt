@@ -8,10 +8,10 @@ mod names;
 mod options;
 mod readers;
 
-pub use fields::{OptionalFloat, OptionalPoint, point_at};
+pub use fields::{Frame, point_at};
 pub use labels::{Best, Key, consider_item, consider_place, point_of_label};
 pub use names::{name_at_equals, name_is, names_equal};
-pub use options::{FrameOption, anchor, bearing, flatten, frame, rescale, scale, step, view_scale};
+pub use options::{anchor, bearing, flatten, frame, rescale, scale, step, view_scale};
 pub use readers::{
     Feature, FeatureName, Item, Path, Place, Points, Variable, next_feature, next_item, next_name,
     next_path, next_place, next_variable, points_of,

@@ -1,20 +1,24 @@
 // Features, variables, places and items, one by one, and what follows an item.
-ghost use Rattle.std.specs.Prelude.{◌≡◌, true, false, ◌+◌, ◌*◌, ◌≤◌, drop};
+#![tactic(auto, using(crate::proofs::Bounds::lengths))]
+
+ghost use Rattle.std.specs.Prelude.{◌≡◌, [], ◌+◌, ◌*◌, ◌≤◌, drop};
+ghost use Rattle.std.specs.Option.{IfSome};
+ghost use Rattle.std.specs.Result.{IfOk, IfErr};
 ghost use Rattle.stream.specs.Payload.{payload};
 ghost use Rattle.stream.specs.Inner.Payload.{room};
-ghost use Rattle.records.specs.Inner.Hits.{SkipsTo};
+ghost use Rattle.records.specs.Inner.Hits.{records_at, SkipsTo};
+ghost use Rattle.records.specs.Inner.Numbers.{role_of};
+ghost use Rattle.records.specs.Inner.Wanted.{wanted_tag};
 ghost use Rattle.scene.specs.Scene.{item_at};
 ghost use Rattle.scene.specs.Inner.Answers.{Within, LengthPrefixed, PathWithin, features_at, features_by};
 ghost use Rattle.scene.specs.Inner.Answers.{feature_by, variables_at, variables_by, places_at, places_by};
 ghost use Rattle.scene.specs.Inner.Answers.{ItemRecordAt, items_at, item_by, items_by, points_from, points_by};
-ghost use Rattle.scene.specs.Inner.Answers.{paths_from, paths_by};
+ghost use Rattle.scene.specs.Inner.Answers.{paths_from, paths_by, next_of, NameAt, behind_name};
 
-use crate::fields::{OptionalFloat, OptionalPoint, float_at, float_if, has_bit, point_if};
-use records::{
-    FORM_CUBICS, NO_KEY, TAG_FEATURE, TAG_ITEM, TAG_PATH, TAG_PLACE, TAG_POINTS, TAG_VARIABLE,
-    find, values_width, wide,
-};
+use crate::fields::{float_at, float_if, has_bit, point_from, point_if};
+use records::{Form, Kind, PointsRole, Wanted, find, values_width};
 use stream::{byte, u16_at, u32_at};
+use values::Point;
 
 // The weights of an item's flags.
 const HIDDEN: u8 = 1;
@@ -39,13 +43,17 @@ const HAS_R: u8 = 8;
 
 const HAS_RAD: u8 = 16;
 
-// In each answer `some` says whether there is one; `next` is where to ask for the one after it. A name stands at `at`
-// and takes `len` bytes. Where `some` is false the other fields are free, except `next` of a FeatureName or a Variable:
-// records of greater tags stand from there on.
-#[repr(C)]
+// A record's name, and where the next record stands.
+#[derive(Clone, Copy)]
+struct RecordName {
+    at: usize,
+    len: usize,
+    next: usize,
+}
+
+// In each answer `next` is where to ask for the one after it. A name stands at `at` and takes `len` bytes.
 #[derive(Clone, Copy)]
 pub struct Feature {
-    pub some: bool,
     pub at: usize,
     pub len: usize,
     pub lon: f64,
@@ -55,26 +63,21 @@ pub struct Feature {
 
 #[derive(Clone, Copy)]
 pub struct FeatureName {
-    pub some: bool,
     pub at: usize,
     pub len: usize,
     pub next: usize,
 }
 
-#[repr(C)]
 #[derive(Clone, Copy)]
 pub struct Variable {
-    pub some: bool,
     pub at: usize,
     pub len: usize,
     pub value: f64,
     pub next: usize,
 }
 
-#[repr(C)]
 #[derive(Clone, Copy)]
 pub struct Place {
-    pub some: bool,
     pub at: usize,
     pub len: usize,
     pub x: f64,
@@ -86,11 +89,9 @@ pub struct Place {
 }
 
 // An item's label stands at `label`, none where `len` is 0. Its points and paths are asked for from `next` on.
-#[repr(C)]
 #[derive(Clone, Copy)]
 pub struct Item {
-    pub some: bool,
-    pub kind: u8,
+    pub kind: Kind,
     pub hidden: bool,
     pub nested: bool,
     pub closed: bool,
@@ -100,29 +101,25 @@ pub struct Item {
     pub len: usize,
     pub line: u32,
     pub col: u32,
-    pub at: OptionalPoint,
-    pub w: OptionalFloat,
-    pub h: OptionalFloat,
-    pub r: OptionalFloat,
-    pub rad: OptionalFloat,
+    pub at: Option<Point>,
+    pub w: Option<f64>,
+    pub h: Option<f64>,
+    pub r: Option<f64>,
+    pub rad: Option<f64>,
     pub next: usize,
 }
 
 // Points that follow an item: they stand at `at`, for `point_at`.
-#[repr(C)]
 #[derive(Clone, Copy)]
 pub struct Points {
-    pub some: bool,
     pub at: usize,
     pub count: u16,
 }
 
 // A curve starts at the point at `start` and has three points at `at` for each of its cubics; any other path has its
 // points there.
-#[repr(C)]
 #[derive(Clone, Copy)]
 pub struct Path {
-    pub some: bool,
     pub closed: bool,
     pub curve: bool,
     pub start: usize,
@@ -131,134 +128,108 @@ pub struct Path {
     pub next: usize,
 }
 
+// The name of the first such record from p on, of a host feature, a variable or a place: what else it holds follows
+// the name. Where there is none, records of greater tags stand from the position that is answered on.
+fn next_named(s: &[u8], p: usize, wanted: Wanted) -> Result<RecordName, usize>
+    requires { (3 ≤ wanted_tag wanted) × (wanted_tag wanted ≤ 5) }
+    ensures none { IfErr result (λ end. records_at (payload s.now) p (wanted_tag wanted) 0 ≡ []) }
+    ensures name_at { IfOk result (λ f. NameAt (payload s.now) (room s.now) p (wanted_tag wanted)
+        (behind_name (wanted_tag wanted)) f) }
+    ensures skips_to { SkipsTo (payload s.now) (wanted_tag wanted) p (next_of (λ f. f.next) result) }
+{
+    let h = find(s, p, wanted)?;
+    Ok(RecordName {
+        at: h.at + 2,
+        len: usize::from(byte(s, 0, h.at + 1)),
+        next: h.next,
+    })
+}
+
 // The name of the first host feature from p on, for callers that need no more of it; its two floats follow the name.
-pub fn next_name(s: &[u8], p: usize) -> FeatureName
+pub fn next_name(s: &[u8], p: usize) -> Result<FeatureName, usize>
     ensures p_value { features_at (payload s.now) p ≡ features_by (payload s.now)
         (feature_by (payload s.now) result) }
-    ensures within { result.some ≡ true → Within (room s.now) p result.at (result.len + 16) result.next }
-    ensures skips_to { SkipsTo (payload s.now) 3 p result.next }
-    ensures length_prefixed { result.some ≡ true → LengthPrefixed (payload s.now) result.at result.len }
+    ensures within { IfOk result (λ f. Within (room s.now) p f.at (f.len + 16) f.next) }
+    ensures skips_to { SkipsTo (payload s.now) 3 p (next_of (λ f. f.next) result) }
+    ensures length_prefixed { IfOk result (λ f. LengthPrefixed (payload s.now) f.at f.len) }
 {
-    let h = find(s, p, TAG_FEATURE, NO_KEY);
-    if !h.some {
-        return FeatureName {
-            some: false,
-            at: 0,
-            len: 0,
-            next: h.at,
-        };
-    }
-    let at = h.at;
-    FeatureName {
-        some: true,
-        at: at + 2,
-        len: wide(byte(s, 0, at + 1)),
-        next: h.next,
-    }
+    let f = next_named(s, p, Wanted::Feature)?;
+    Ok(FeatureName {
+        at: f.at,
+        len: f.len,
+        next: f.next,
+    })
 }
 
 // The first host feature from p on.
-pub fn next_feature(s: &[u8], p: usize) -> Feature
+pub fn next_feature(s: &[u8], p: usize) -> Option<Feature>
     ensures p_value { features_at (payload s.now) p ≡ features_by (payload s.now) result }
-    ensures within { result.some ≡ true → Within (room s.now) p result.at result.len result.next }
-    ensures length_prefixed { result.some ≡ true → LengthPrefixed (payload s.now) result.at result.len }
+    ensures within { IfSome result (λ f. Within (room s.now) p f.at f.len f.next) }
+    ensures length_prefixed { IfSome result (λ f. LengthPrefixed (payload s.now) f.at f.len) }
 {
-    let f = next_name(s, p);
-    if !f.some {
-        return Feature {
-            some: false,
-            at: 0,
-            len: 0,
-            lon: 0.0,
-            lat: 0.0,
-            next: f.next,
-        };
-    }
+    let Ok(f) = next_name(s, p) else {
+        return None;
+    };
     let end = f.at + f.len;
-    Feature {
-        some: true,
+    Some(Feature {
         at: f.at,
         len: f.len,
         lon: float_at(s, end),
         lat: float_at(s, end + 8),
         next: f.next,
-    }
+    })
 }
 
-// The first variable from p on.
-pub fn next_variable(s: &[u8], p: usize) -> Variable
+// The first variable from p on. Where there is none, records of greater tags stand from the position that is answered
+// on.
+pub fn next_variable(s: &[u8], p: usize) -> Result<Variable, usize>
     ensures p_value { variables_at (payload s.now) p ≡ variables_by (payload s.now) result }
-    ensures within { result.some ≡ true → Within (room s.now) p result.at result.len result.next }
-    ensures length_prefixed { result.some ≡ true → LengthPrefixed (payload s.now) result.at result.len }
-    ensures skips_to { SkipsTo (payload s.now) 4 p result.next }
+    ensures within { IfOk result (λ v. Within (room s.now) p v.at v.len v.next) }
+    ensures length_prefixed { IfOk result (λ v. LengthPrefixed (payload s.now) v.at v.len) }
+    ensures skips_to { SkipsTo (payload s.now) 4 p (next_of (λ v. v.next) result) }
 {
-    let h = find(s, p, TAG_VARIABLE, NO_KEY);
-    if !h.some {
-        return Variable {
-            some: false,
-            at: 0,
-            len: 0,
-            value: 0.0,
-            next: h.at,
-        };
-    }
-    let at = h.at;
-    let n = wide(byte(s, 0, at + 1));
-    Variable {
-        some: true,
-        at: at + 2,
-        len: n,
-        value: float_at(s, at + 2 + n),
-        next: h.next,
-    }
+    let f = next_named(s, p, Wanted::Variable)?;
+    Ok(Variable {
+        at: f.at,
+        len: f.len,
+        value: float_at(s, f.at + f.len),
+        next: f.next,
+    })
 }
 
 // The first place from p on.
-pub fn next_place(s: &[u8], p: usize) -> Place
+pub fn next_place(s: &[u8], p: usize) -> Option<Place>
     ensures p_value { places_at (payload s.now) p ≡ places_by (payload s.now) result }
-    ensures within { result.some ≡ true → Within (room s.now) p result.at result.len result.next }
+    ensures within { IfSome result (λ c. Within (room s.now) p c.at c.len c.next) }
 {
-    let h = find(s, p, TAG_PLACE, NO_KEY);
-    if !h.some {
-        return Place {
-            some: false,
-            at: 0,
-            len: 0,
-            x: 0.0,
-            y: 0.0,
-            nested: false,
-            line: 0,
-            col: 0,
-            next: h.next,
-        };
-    }
-    let at = h.at;
-    let n = wide(byte(s, 0, at + 1));
-    Place {
-        some: true,
-        at: at + 2,
-        len: n,
-        x: float_at(s, at + 2 + n),
-        y: float_at(s, at + 10 + n),
-        nested: byte(s, 0, at + 18 + n) == 1,
-        line: u32_at(s, 0, at + 19 + n),
-        col: u32_at(s, 0, at + 23 + n),
-        next: h.next,
-    }
+    let Ok(f) = next_named(s, p, Wanted::Place) else {
+        return None;
+    };
+    let end = f.at + f.len;
+    let Point { x, y } = point_from(s, end);
+    Some(Place {
+        at: f.at,
+        len: f.len,
+        x,
+        y,
+        nested: byte(s, 0, end + 16) == 1,
+        line: u32_at(s, 0, end + 17),
+        col: u32_at(s, 0, end + 21),
+        next: f.next,
+    })
 }
 
 // The item that stands at q, with its label of n bytes and the presence byte m; the record behind it stands at `next`.
 fn item_at(s: &[u8], q: usize, n: usize, m: u8, next: usize) -> Item
     requires { ItemRecordAt (payload s.now) q n m next }
     ensures result_value { item_by (payload s.now) result ≡ item_at (drop q (payload s.now)) }
-    ensures some_value { (result.some ≡ true) × (result.label ≡ q + 4) × (result.len ≡ n) × (result.next ≡ next) }
+    ensures position { (result.label ≡ q + 4) × (result.len ≡ n) × (result.next ≡ next) }
 {
     let flags = byte(s, 0, q + 2);
-    let has = wide(m);
+    let has = usize::from(m);
     let b = q + 13 + n;
     Item {
-        some: true,
-        kind: byte(s, 0, q + 1),
+        kind: Kind::of_byte(byte(s, 0, q + 1)),
         hidden: has_bit(flags, HIDDEN),
         nested: has_bit(flags, NESTED),
         closed: has_bit(flags, CLOSED),
@@ -277,113 +248,61 @@ fn item_at(s: &[u8], q: usize, n: usize, m: u8, next: usize) -> Item
     }
 }
 
-// The answer that there is no item.
-fn no_item(next: usize) -> Item
-    ensures { (result.some ≡ false) × (result.next ≡ next) }
-{
-    let at = OptionalPoint {
-        some: false,
-        x: 0.0,
-        y: 0.0,
-    };
-    let none = OptionalFloat {
-        some: false,
-        value: 0.0,
-    };
-    Item {
-        some: false,
-        kind: 0,
-        hidden: false,
-        nested: false,
-        closed: false,
-        fill: false,
-        screen: false,
-        label: 0,
-        len: 0,
-        line: 0,
-        col: 0,
-        at,
-        w: none,
-        h: none,
-        r: none,
-        rad: none,
-        next,
-    }
-}
-
 // The first item from p on.
-pub fn next_item(s: &[u8], p: usize) -> Item
+pub fn next_item(s: &[u8], p: usize) -> Option<Item>
     ensures p_value { items_at (payload s.now) p ≡ items_by (payload s.now) result }
-    ensures within { result.some ≡ true → Within (room s.now) p result.label result.len result.next }
+    ensures within { IfSome result (λ it. Within (room s.now) p it.label it.len it.next) }
 {
-    let h = find(s, p, TAG_ITEM, NO_KEY);
-    if !h.some {
-        return no_item(h.next);
-    }
+    let Ok(h) = find(s, p, Wanted::Item) else {
+        return None;
+    };
     let at = h.at;
-    let n = wide(byte(s, 0, at + 3));
+    let n = usize::from(byte(s, 0, at + 3));
     let m = byte(s, 0, at + 12 + n);
-    item_at(s, at, n, m, h.next)
+    Some(item_at(s, at, n, m, h.next))
 }
 
 // The points of a role among what follows an item, from p on.
-pub fn points_of(s: &[u8], p: usize, role: u8) -> Points
-    ensures role_value { points_from (payload s.now) p role ≡ points_by (payload s.now) result }
-    ensures count_bound { result.some ≡ true → result.at + 16 * result.count ≤ room s.now }
+pub fn points_of(s: &[u8], p: usize, role: PointsRole) -> Option<Points>
+    ensures role_value { points_from (payload s.now) p (role_of role) ≡ points_by (payload s.now) result }
+    ensures count_bound { IfSome result (λ c. c.at + 16 * c.count ≤ room s.now) }
 {
-    let h = find(s, p, TAG_POINTS, role);
-    if !h.some {
-        return Points {
-            some: false,
-            at: 0,
-            count: 0,
-        };
-    }
-    let at = h.at;
-    Points {
-        some: true,
-        at: at + 4,
-        count: u16_at(s, 0, at + 2),
-    }
+    let Ok(h) = find(s, p, Wanted::Points(role)) else {
+        return None;
+    };
+    Some(Points {
+        at: h.at + 4,
+        count: u16_at(s, 0, h.at + 2),
+    })
 }
 
 // The first path of a role among what follows an item, from p on.
-pub fn next_path(s: &[u8], p: usize, role: u8) -> Path
-    ensures role_value { paths_from (payload s.now) p role ≡ paths_by (payload s.now) role result }
-    ensures path_within { result.some ≡ true → PathWithin (room s.now) p result }
+pub fn next_path(s: &[u8], p: usize, role: PointsRole) -> Option<Path>
+    ensures role_value { paths_from (payload s.now) p (role_of role)
+        ≡ paths_by (payload s.now) (role_of role) result }
+    ensures path_within { IfSome result (λ c. PathWithin (room s.now) p c) }
 {
-    let h = find(s, p, TAG_PATH, role);
-    if !h.some {
-        return Path {
-            some: false,
-            closed: false,
-            curve: false,
-            start: 0,
-            at: 0,
-            count: 0,
-            next: h.next,
-        };
-    }
+    let Ok(h) = find(s, p, Wanted::Path(role)) else {
+        return None;
+    };
     let at = h.at;
     let closed = byte(s, 0, at + 2) == 1;
-    if byte(s, 0, at + 3) == FORM_CUBICS {
-        return Path {
-            some: true,
+    if byte(s, 0, at + 3) == Form::Cubics as u8 {
+        return Some(Path {
             closed,
             curve: true,
             start: at + 4,
             at: at + 22,
             count: u16_at(s, 0, at + 20),
             next: h.next,
-        };
+        });
     }
-    Path {
-        some: true,
+    Some(Path {
         closed,
         curve: false,
         start: at + 6,
         at: at + 6,
         count: u16_at(s, 0, at + 4),
         next: h.next,
-    }
+    })
 }

@@ -1,10 +1,10 @@
 -- Which patterns are finite: those whose exponent's field is not all ones.
+use Rattle.std.specs.Prelude.{None, Some}
 use Rattle.std.proofs.Common.{◌≡◌, ℕ, zero, suc, ◌+◌, ◌/◌, ◌%◌, ◌^◌, Bool, true, false, cond, not, T, eqb, sym, refl, ap, ◌∙◌, subst, eq-eqb, ne_eqb}
 use lib.Ieee.{Float, nan, inf, fin, binary64, odd, of_fields, of_bits, is_nan, nan_bits}
 use lib.Ieee.Bits.{nan_bits_is}
 use lib.Ieee.Scale.{finite}
 use Rattle.stream.specs.Numbers.{float_of}
-use Rattle.stream.specs.declared.Float64.TheVariants.{Finite, NotFinite}
 
 odd_finite : (d : ℕ) (s : Bool) (q k l : ℕ) → finite (odd d s q k l) ≡ true
 unfolding odd
@@ -25,13 +25,13 @@ bits_finite : (n : ℕ) → finite (of_bits binary64 n) ≡ not (eqb (n % 2 ^ 63
 unfolding of_bits
 bits_finite n = fields_finite _ (n % 2 ^ 63 / 2 ^ 52) (n % 2 ^ 52)
 
-is-value : (v : Float) → finite v ≡ true → Finite v ≡ float_of v
+is-value : (v : Float) → finite v ≡ true → Some v ≡ float_of v
 unfolding float_of
 is-value nan h = absurd (subst T (sym h) tt)
 is-value (inf s) h = absurd (subst T (sym h) tt)
 is-value (fin s m e) h = refl
 
-is_none : (v : Float) → finite v ≡ false → NotFinite ≡ float_of v
+is_none : (v : Float) → finite v ≡ false → None ≡ float_of v
 unfolding float_of
 is_none nan h = refl
 is_none (inf s) h = refl
@@ -43,14 +43,14 @@ no_nan nan h = absurd (subst T (sym h) tt)
 no_nan (inf s) h = tt
 no_nan (fin s m e) h = tt
 
-pub all_ones : (n : ℕ) → n % 2 ^ 63 / 2 ^ 52 ≡ 2047 → NotFinite ≡ float_of (of_bits binary64 n)
+pub all_ones : (n : ℕ) → n % 2 ^ 63 / 2 ^ 52 ≡ 2047 → None ≡ float_of (of_bits binary64 n)
 all_ones n e = is_none (of_bits binary64 n) (bits_finite n ∙ ap not (eq-eqb (n % 2 ^ 63 / 2 ^ 52) 2047 e))
 
 module _ (n : ℕ) (e : n % 2 ^ 63 / 2 ^ 52 ≡ 2047 → ⊥) where
   value_finite : finite (of_bits binary64 n) ≡ true
   value_finite = bits_finite n ∙ ap not (ne_eqb (n % 2 ^ 63 / 2 ^ 52) 2047 e)
 
-  pub value : Finite (of_bits binary64 n) ≡ float_of (of_bits binary64 n)
+  pub value : Some (of_bits binary64 n) ≡ float_of (of_bits binary64 n)
   value = is-value (of_bits binary64 n) value_finite
 
   pub readable : T (not (nan_bits binary64 n))

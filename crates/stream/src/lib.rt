@@ -1,15 +1,16 @@
 // The blocks of a stream, and what stands at a place of their payload.
 #![tactic(auto)]
 
-ghost use Rattle.std.specs.Prelude.{◌≡◌, ◌+◌, ◌*◌, ◌<◌, ◌≤◌, true, length, slice_index};
+ghost use Rattle.std.specs.Prelude.{◌≡◌, ◌+◌, ◌*◌, ◌<◌, ◌≤◌, IfOk, length, slice_index};
 ghost use Rattle.stream.specs.Numbers.{u16_at, u32_at, u64_at, float_at};
 ghost use Rattle.stream.specs.Blocks.{checked};
 ghost use Rattle.stream.specs.Inner.Blocks.{BlocksChecked};
-ghost use Rattle.stream.specs.Inner.Payload.{room, stream_offset, rest, part_from, one_block, AreContiguous};
+ghost use Rattle.stream.specs.Inner.Payload.{room, stream_offset, rest, part_from, one_block, contiguous_if, AreContiguous};
 
 mod little_endian;
 
 pub use little_endian::float_of;
+use values::Refusal;
 
 // The bytes of a block, how many of them come before its check, and how many words of four bytes these are.
 const BLOCK: usize = 512;
@@ -21,31 +22,6 @@ const WORDS: usize = 127;
 // A stream has so many blocks at most.
 const MAX_BLOCKS: usize = 65536;
 
-// What the blocks of a stream are found to be.
-#[derive(Clone, Copy)]
-pub enum Blocks {
-    // so many whole blocks, each with a right check
-    Valid(usize),
-    // the stream is empty, not whole blocks, or too many
-    Size,
-    // a check is wrong
-    Check,
-}
-
-// Whether bytes stand side by side in a part, and where the first of them stands, be it so or not.
-#[derive(Clone, Copy)]
-pub struct Contiguous {
-    pub some: bool,
-    pub at: usize,
-}
-
-// A float that was read. A NaN or an infinity has no value here: reading comes before condition 4.
-#[derive(Clone, Copy)]
-pub enum Float64 {
-    Finite(f64),
-    NotFinite,
-}
-
 // Whether block i has a right check.
 fn check(s: &[u8], i: usize) -> bool
     requires { (512 * i + 512 ≤ length s.now) × (i < 65536) }
@@ -53,36 +29,26 @@ fn check(s: &[u8], i: usize) -> bool
 {
     let base = BLOCK * i;
     let mut sum = i as u32;
-    let mut k = 0usize;
-    while k < WORDS {
-        sum = std::num::wrapping_add_u32(sum, little_endian::u32_le(s, base + 4 * k));
-        k += 1;
+    for k in 0..WORDS {
+        sum = sum.wrapping_add(little_endian::u32_le(s, base + 4 * k));
     }
     sum == little_endian::u32_le(s, base + PAYLOAD)
 }
 
-// Conditions 1 and 2.
-pub fn check_blocks(s: &[u8]) -> Blocks
+// Conditions 1 and 2: how many whole blocks there are, each with a right check.
+pub fn check_blocks(s: &[u8]) -> Result<usize, Refusal>
     ensures { BlocksChecked s.now result }
 {
     let n = s.len() / BLOCK;
-    if s.len() == 0 {
-        return Blocks::Size;
+    if s.len() == 0 || s.len() % BLOCK != 0 || n > MAX_BLOCKS {
+        return Err(Refusal::Size);
     }
-    if s.len() % BLOCK != 0 {
-        return Blocks::Size;
-    }
-    if n > MAX_BLOCKS {
-        return Blocks::Size;
-    }
-    let mut i = 0usize;
-    while i < n {
+    for i in 0..n {
         if !check(s, i) {
-            return Blocks::Check;
+            return Err(Refusal::Check);
         }
-        i += 1;
     }
-    Blocks::Valid(n)
+    Ok(n)
 }
 
 // The part that starts at the block of the payload's byte p, which has the offset p % 508 there.
@@ -117,17 +83,18 @@ pub fn byte(part: &[u8], off: usize, i: usize) -> u8
     part[stream_offset(off + i)]
 }
 
-// Where the byte i stands, and whether the n bytes from it on lie in one block, with no check between them. Of every
-// part that has these bytes it says where they stand side by side.
-pub fn contiguous_at(off: usize, i: usize, n: usize) -> Contiguous
+// Where the byte i stands: `Ok` where the n bytes from it on lie in one block, with no check between them. Of every
+// part that has these bytes this says that they stand side by side.
+pub fn contiguous_at(off: usize, i: usize, n: usize) -> Result<usize, usize>
     requires { stream_offset (off + i) + n < 18446744073709551616 }
-    ensures at_value { (result.at ≡ stream_offset (off + i)) × (result.some ≡ one_block off i n) }
-    ensures are_contiguous { result.some ≡ true → AreContiguous off i n result.at }
+    ensures at_value { result ≡ contiguous_if (one_block off i n) (stream_offset (off + i)) }
+    ensures are_contiguous { IfOk result (AreContiguous off i n) }
 {
     let at = stream_offset(off + i);
-    Contiguous {
-        some: at % BLOCK + n <= PAYLOAD,
-        at,
+    if at % BLOCK + n <= PAYLOAD {
+        Ok(at)
+    } else {
+        Err(at)
     }
 }
 
@@ -135,10 +102,11 @@ pub fn u16_at(part: &[u8], off: usize, i: usize) -> u16
     requires { (off ≤ room part.now) × (i + 2 ≤ length (rest part.now off)) }
     ensures { result ≡ u16_at (rest part.now off) i }
 {
-    little_endian::join16(byte(part, off, i), byte(part, off, i + 1))
+    u16::from_le_bytes([byte(part, off, i), byte(part, off, i + 1)])
 }
 
-// Four bytes are read side by side where no check stands between them, else as two numbers of two bytes.
+// Four bytes are read side by side where no check stands between them, else as two numbers of two bytes. Each width
+// reads its halves by the reader of the next smaller one: a reader generic over the width would need them as a trait.
 pub fn u32_at(part: &[u8], off: usize, i: usize) -> u32
     requires { (off ≤ room part.now) × (i + 4 ≤ length (rest part.now off)) }
     ensures { result ≡ u32_at (rest part.now off) i }
@@ -147,7 +115,7 @@ pub fn u32_at(part: &[u8], off: usize, i: usize) -> u32
     if at % BLOCK + 4 <= PAYLOAD {
         return little_endian::u32_le(part, at);
     }
-    little_endian::join32(u16_at(part, off, i), u16_at(part, off, i + 2))
+    u32::from(u16_at(part, off, i)) + 65536 * u32::from(u16_at(part, off, i + 2))
 }
 
 // Eight bytes, as `u32_at` reads four. A caller that wants a float's value soon takes its bits from here and `float_of`
@@ -160,10 +128,11 @@ pub fn u64_at(part: &[u8], off: usize, i: usize) -> u64
     if at % BLOCK + 8 <= PAYLOAD {
         return little_endian::u64_le(part, at);
     }
-    little_endian::join64(u32_at(part, off, i), u32_at(part, off, i + 4))
+    u64::from(u32_at(part, off, i)) + 4294967296 * u64::from(u32_at(part, off, i + 4))
 }
 
-pub fn float(part: &[u8], off: usize, i: usize) -> Float64
+// A NaN or an infinity has no value: reading comes before condition 4.
+pub fn float(part: &[u8], off: usize, i: usize) -> Option<f64>
     requires { (off ≤ room part.now) × (i + 8 ≤ length (rest part.now off)) }
     ensures { result ≡ float_at (rest part.now off) i }
 {

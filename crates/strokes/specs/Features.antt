@@ -6,7 +6,7 @@ use Rattle.values.specs.declared.Point.{Point}
 use Rattle.values.specs.Warnings.{Warning}
 use Rattle.densify.specs.Densify.{c90}
 use Rattle.values.specs.Points.{points_of}
-use Rattle.geojson.specs.declared.Feature.{Feature}
+use Rattle.geojson.specs.Features.{Feature}
 use Rattle.geojson.specs.Rfc7946.{Geometry}
 use Rattle.strokes.specs.Strokes.{Event, drew, need, feature, warned}
 

@@ -5,8 +5,7 @@ use Rattle.values.specs.declared.Point.{Point}
 use Rattle.values.specs.Warnings.{Warning}
 use Rattle.values.specs.Slices.{put}
 use Rattle.values.specs.Points.{flats}
-use Rattle.geojson.specs.declared.Feature.{Feature}
-use Rattle.geojson.specs.Features.{words_of}
+use Rattle.geojson.specs.Features.{Feature, words_of}
 use Rattle.strokes.specs.Strokes.{Event, drew, need, feature, warned}
 
 -- How many floats work has; the slices, and how much of each is used, in floats and words. `number` is 0 while everything has had room.

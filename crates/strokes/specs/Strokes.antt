@@ -1,12 +1,11 @@
 -- `geo_line`, `geo_ring` and `polyline_or_polygon` of the source's convert.rs: what a line, a ring or a point comes to, as a list of events in the source's order, with no regard to space.
-use Rattle.std.specs.Prelude.{ℕ, ◌+◌, Bool, true, false, ◌&&◌, cond, List, [], ◌∷◌, ◌++◌, map, length, eqb, ltb, leb}
+use Rattle.std.specs.Prelude.{ℕ, ◌+◌, Bool, true, false, ◌&&◌, cond, List, [], ◌∷◌, ◌++◌, map, length, eqb, ltb, leb, Option, None, Some, unwrap_or}
 use Rattle.values.specs.declared.Point.{Point}
-use Rattle.values.specs.Maybe.{Maybe, none, some, or_value}
 use Rattle.values.specs.Warnings.{Warning}
 use Rattle.budget.specs.declared.Budget.{Budget}
 use Rattle.densify.specs.Densify.{GrantedDraw, Made, close_ring_of, densify_polyline_of}
 use Rattle.projection.specs.Projection.{project_point}
-use Rattle.geojson.specs.declared.Feature.{Feature}
+use Rattle.geojson.specs.Features.{Feature, placement_of}
 use Rattle.strokes.specs.declared.state.Ctx.{Ctx}
 use Rattle.strokes.specs.declared.state.Props.{Props}
 
@@ -59,7 +58,7 @@ positions_of geometry ps = cond (eqb geometry 2) (first_repeated ps) ps
 
 unfoldable pub feature_of : Props → ℕ → ℕ → List Point → Event
 feature_of p geometry role ps =
-    feature (record { item = p.item; geometry = geometry; role = role; placement = p.placement; part = p.part; count = length ps }) ps
+    feature (record { item = p.item; geometry = geometry; role = role; placement = placement_of p.placement; part = p.part; count = length ps }) ps
 
 -- the canvas points, densified and carried to the Earth: a line (1) or a ring (2)
 unfoldable pub stroke_of : Ctx → Props → ℕ → ℕ → List Point → Budget → Trace
@@ -77,26 +76,26 @@ point_of cx p at b = one_event (feature_of p 0 0 (project_point cx.projection at
 
 -- ---- polyline_or_polygon
 -- a separate fill: of the closed outline where there is one, else of the closed points
-unfoldable pub fill_of : Ctx → Props → Maybe (List Point) → List Point → Budget → Trace
+unfoldable pub fill_of : Ctx → Props → Option (List Point) → List Point → Budget → Trace
 fill_of cx p outline ring b =
-    pick_trace (p.fill && leb 4 (length (or_value outline ring))) (stroke_of cx p 2 1 (or_value outline ring) b) (no_events b)
+    pick_trace (p.fill && leb 4 (length (unwrap_or outline ring))) (stroke_of cx p 2 1 (unwrap_or outline ring) b) (no_events b)
 
 -- with its points ps, which are `ring` where they are closed, and its closed outline
-unfoldable pub shape_trace : Ctx → Props → Bool → List Point → List Point → Maybe (List Point) → Budget → Trace
+unfoldable pub shape_trace : Ctx → Props → Bool → List Point → List Point → Option (List Point) → Budget → Trace
 shape_trace cx p closed ps ring outline b =
     pick_trace (ltb (length ps) 2) (no_events b)
     (pick_trace (closed && leb 4 (length ring)) (stroke_of cx p 2 0 ring b)
     (and_then_trace (fill_of cx p outline ring b) (λ r. pick_trace closed (draw_without_writing cx p.item ps r) (stroke_of cx p 1 0 ps r))))
 
-abbrev pub closed_outline : Maybe (List Point) → Maybe (List Point)
-closed_outline none = none
-closed_outline (some ps) = some (close_ring_of ps)
+abbrev pub closed_outline : Option (List Point) → Option (List Point)
+closed_outline None = None
+closed_outline (Some ps) = Some (close_ring_of ps)
 
 -- P + F + 1 points of work
-unfoldable pub work_of : Bool → List Point → List Point → Maybe (List Point) → ℕ
-work_of closed ps ring outline = length (cond closed ring ps) + length (or_value outline []) + 1
+unfoldable pub work_of : Bool → List Point → List Point → Option (List Point) → ℕ
+work_of closed ps ring outline = length (cond closed ring ps) + length (unwrap_or outline []) + 1
 
-unfoldable pub polyline_or_polygon_of : Ctx → Props → Bool → List Point → Maybe (List Point) → Budget → Trace
+unfoldable pub polyline_or_polygon_of : Ctx → Props → Bool → List Point → Option (List Point) → Budget → Trace
 polyline_or_polygon_of cx p closed ps outline b =
     let ring = close_ring_of ps in
     let closing = closed_outline outline in

@@ -8,5 +8,5 @@ mod workspace;
 
 pub use polylines::{draw_ring, polyline_or_polygon};
 pub use positions::point_feature;
-pub use state::{Ctx, Props, State, WARNING_ALLOWANCE_SPENT, WARNING_MISSING_GEOMETRY, warn};
+pub use state::{Ctx, Props, State, warn};
 pub use workspace::{load_path, load_points};

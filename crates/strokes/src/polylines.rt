@@ -1,13 +1,14 @@
 // Lines, paths and rings: the source's polyline_or_polygon.
-ghost use Rattle.std.specs.Prelude.{◌≡◌, true, ◌≤◌, length, take};
+ghost use Rattle.std.specs.Prelude.{◌≡◌, ◌≤◌, length, take, Ok};
 ghost use Rattle.strokes.specs.Inner.Space.{output_by, most, Fits, KeepsFit, Bounds};
 ghost use Rattle.strokes.specs.Inner.Space.{CanFill, CanDrawRing, Fills, DrawsLoaded, DrawsRing};
 
 use crate::positions::{draw_without_writing, stroke};
-use crate::state::{Ctx, Props, State, WORK_ROOM, out_of_room, with_budget};
+use crate::state::{Ctx, Props, State};
 use crate::workspace::Workspace;
 use densify::{PointCursor, close_ring};
-use geojson::{FILL, LINE, POLYGON};
+use geojson::{Geometry, Role};
+use values::Refusal;
 
 // A separate fill, of the outline where there is one, else of the points, closed.
 fn fill(
@@ -18,7 +19,7 @@ fn fill(
     positions: &mut [f64],
     features: &mut [u32],
     st: State,
-) -> State
+) -> Result<State, Refusal>
     requires { CanFill l (length work.old) positions.old features.old st }
     ensures fills { Fills cx p l
         work.old positions.old features.old st
@@ -29,22 +30,41 @@ fn fill(
         work.new positions.new features.new result }
 {
     if !p.fill {
-        return st;
+        return Ok(st);
     }
-    if l.outlined {
-        if l.outline - l.ring < 8 {
-            return st;
+    if let Some(end) = l.outline {
+        if end - l.ring < 8 {
+            return Ok(st);
         }
         return stroke(
-            cx, p, 2, 1, work, l.ring, l.outline, positions, features, st,
+            cx,
+            p,
+            Geometry::Polygon,
+            Role::Fill,
+            work,
+            l.ring,
+            end,
+            positions,
+            features,
+            st,
         );
     }
-    let ring = close_ring(st.budget, work, 0, l.points);
+    // One point more has room behind what was loaded.
+    let ring = close_ring(st.budget, work, 0, l.points).unwrap();
     if ring.at < 8 {
-        return st;
+        return Ok(st);
     }
     stroke(
-        cx, p, POLYGON, FILL, work, 0, ring.at, positions, features, st,
+        cx,
+        p,
+        Geometry::Polygon,
+        Role::Fill,
+        work,
+        0,
+        ring.at,
+        positions,
+        features,
+        st,
     )
 }
 
@@ -59,73 +79,84 @@ pub fn polyline_or_polygon(
     features: &mut [u32],
     warnings: &mut [u32],
     st: State,
-) -> State
-    requires { (l.ok ≡ true → Bounds l (length work.old) × (l.budget.left ≤ most))
-        × Fits (output_by (length work.old) positions.old features.old warnings.old st) st.budget }
+) -> Result<State, Refusal>
+    requires { Bounds l (length work.old) × (l.budget.left ≤ most)
+        × Fits (output_by (length work.old) positions.old features.old warnings.old (Ok st)) st.budget }
     ensures { DrawsLoaded cx p closed l
         work.old positions.old features.old warnings.old st
         work.new positions.new features.new warnings.new result }
 {
-    if st.number != 0 {
-        return st;
-    }
-    if !l.ok {
-        return out_of_room(st, WORK_ROOM);
-    }
-    let drawn = with_budget(st, l.budget);
+    let drawn = State {
+        budget: l.budget,
+        ..st
+    };
     if l.points < 4 {
-        return drawn;
+        return Ok(drawn);
     }
-    if closed {
-        if l.ring >= 8 {
-            return stroke(
-                cx, p, POLYGON, 0, work, 0, l.ring, positions, features, drawn,
-            );
-        }
+    if closed && l.ring >= 8 {
+        return stroke(
+            cx,
+            p,
+            Geometry::Polygon,
+            Role::Drawn,
+            work,
+            0,
+            l.ring,
+            positions,
+            features,
+            drawn,
+        );
     }
-    let filled = fill(cx, p, l, work, positions, features, drawn);
+    let filled = fill(cx, p, l, work, positions, features, drawn)?;
     if closed {
         return draw_without_writing(cx, p.item, work, 0, l.points, warnings, filled);
     }
     stroke(
-        cx, p, LINE, 0, work, 0, l.points, positions, features, filled,
+        cx,
+        p,
+        Geometry::Line,
+        Role::Drawn,
+        work,
+        0,
+        l.points,
+        positions,
+        features,
+        filled,
     )
 }
 
-// A ring whose points end at d.at.
+// A ring whose points end at d.at, where they had room.
 pub fn draw_ring(
     cx: Ctx,
     p: Props,
-    d: PointCursor,
+    d: Option<PointCursor>,
     work: &[f64],
     positions: &mut [f64],
     features: &mut [u32],
     st: State,
-) -> State
+) -> Result<State, Refusal>
     requires { CanDrawRing d (length work.now) positions.old features.old st }
     ensures { DrawsRing cx p d
         work.now positions.old features.old st
         positions.new features.new result }
 {
-    if st.number != 0 {
-        return st;
-    }
-    if !d.ok {
-        return out_of_room(st, WORK_ROOM);
-    }
-    if work.len() - d.at < 2 {
-        return out_of_room(st, WORK_ROOM);
+    let ring = d.ok_or(Refusal::WorkRoom)?;
+    if work.len() - ring.at < 2 {
+        return Err(Refusal::WorkRoom);
     }
     stroke(
         cx,
         p,
-        POLYGON,
-        0,
+        Geometry::Polygon,
+        Role::Drawn,
         work,
         0,
-        d.at,
+        ring.at,
         positions,
         features,
-        with_budget(st, d.budget),
+        State {
+            budget: ring.budget,
+            ..st
+        },
     )
 }

@@ -1,4 +1,2 @@
 pub mod Accepting
-pub mod Fitting
-pub mod Guards
-pub mod Showing
+pub mod Lengths

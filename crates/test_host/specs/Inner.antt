@@ -1,4 +1,5 @@
 -- Words in which contracts of the parts are said. What a host is promised is not said in them.
 pub mod Answer
+pub mod Answers
 pub mod Drawings
 pub mod Guarded

@@ -7,14 +7,15 @@ ghost use Rattle.budget.specs.Budget.{fresh, take_of};
 ghost use Rattle.densify.specs.Densify.{arc_vertices_of, segment_want, path_points_of, densify_polyline_of, ellipse_ring_of, box_ring_of};
 ghost use Rattle.densify.specs.Inner.Written.{drawn_by, on_points};
 ghost use Rattle.values.specs.Inner.Points.{points_in};
-ghost use Rattle.test_host.specs.Inner.Drawings.{Shown, path_fits, undrawn};
+ghost use Rattle.test_host.specs.Inner.Answers.{path_of};
+ghost use Rattle.test_host.specs.Inner.Drawings.{done_by, Shown, path_fits, undrawn};
 
+use crate::answers::Path;
 use budget::Budget;
 use densify::{
     PointCursor, arc_vertices, box_ring, densify_polyline, ellipse_ring, path_points, segment_want,
 };
 use projection::{Registration, project_points, projection_of};
-use scene::Path;
 
 // Whether the points had room, where they end, and the budget after them.
 #[repr(C)]
@@ -35,16 +36,24 @@ pub struct Grant {
     pub hit: bool,
 }
 
-fn drawing_of(d: PointCursor) -> Drawing
-    ensures { (result.ok ≡ d.ok) × (result.at ≡ d.at) × (result.left ≡ d.budget.left)
-        × (result.hit ≡ d.budget.hit) }
-{
-    let b = d.budget;
-    Drawing {
-        ok: d.ok,
-        at: d.at,
-        left: b.left,
-        hit: b.hit,
+impl From<Option<PointCursor>> for Drawing {
+    ghost from_gives = { λ o r. done_by r ≡ o };
+
+    fn from(o: Option<PointCursor>) -> Drawing {
+        match o {
+            Some(d) => Drawing {
+                ok: true,
+                at: d.at,
+                left: d.budget.left,
+                hit: d.budget.hit,
+            },
+            None => Drawing {
+                ok: false,
+                at: 0,
+                left: 0,
+                hit: false,
+            },
+        }
     }
 }
 
@@ -58,6 +67,7 @@ fn fits(n: usize, at: usize, width: usize, count: usize) -> bool
     width * count <= n - at
 }
 
+#[tactic(auto, unfolding(crate::specs::Inner::Drawings::path_fits))]
 fn is_path(n: usize, p: Path) -> bool
     ensures { result ≡ path_fits n p }
 {
@@ -72,6 +82,7 @@ fn is_path(n: usize, p: Path) -> bool
 }
 
 // The points of a path that stands in a payload; nothing is written where it does not lie within.
+#[tactic(auto, using(crate::proofs::Lengths::lengths, records::specs::Laws::Tests::and_left, records::specs::Laws::Tests::and_right), unfolding(crate::specs::Inner::Drawings::path_fits, stream::specs::Inner::Payload::rest))]
 #[unsafe(no_mangle)]
 pub extern "C" fn densify_path(
     s: &[u8],
@@ -82,7 +93,7 @@ pub extern "C" fn densify_path(
 ) -> Drawing
     ensures shown { path_fits (room s.now) p ≡ true
         → Shown work.old work.new
-        (path_points_of tol (drawn_by (payload s.now) p) (fresh left)) result }
+        (path_points_of tol (drawn_by (payload s.now) (path_of p)) (fresh left)) result }
     ensures work_unchanged { path_fits (room s.now) p ≡ false
         → (work.new ≡ work.old) × (result ≡ undrawn left) }
 {
@@ -95,7 +106,15 @@ pub extern "C" fn densify_path(
         };
     }
     let b = Budget { left, hit: false };
-    drawing_of(path_points(s, p, tol, b, work, 0))
+    let path = scene::Path {
+        closed: p.closed,
+        curve: p.curve,
+        start: p.start,
+        at: p.at,
+        count: p.count,
+        next: p.next,
+    };
+    path_points(s, path, tol, b, work, 0).into()
 }
 
 #[unsafe(no_mangle)]
@@ -114,7 +133,7 @@ pub extern "C" fn densify_ellipse(
         (ellipse_ring_of step scale tol (record { x = x; y = y }) rx ry (fresh left)) result }
 {
     let b = Budget { left, hit: false };
-    drawing_of(ellipse_ring(step, scale, tol, [x, y], rx, ry, b, work, 0))
+    ellipse_ring(step, scale, tol, [x, y], rx, ry, b, work, 0).into()
 }
 
 #[unsafe(no_mangle)]
@@ -134,7 +153,7 @@ pub extern "C" fn densify_box(
         (box_ring_of step scale tol (record { x = x; y = y }) w h rad (fresh left)) result }
 {
     let b = Budget { left, hit: false };
-    drawing_of(box_ring(step, scale, tol, [x, y], w, h, rad, b, work, 0))
+    box_ring(step, scale, tol, [x, y], w, h, rad, b, work, 0).into()
 }
 
 // The positions of the polyline in `work`.
@@ -153,11 +172,10 @@ pub extern "C" fn densify_line(
 {
     let b = Budget { left, hit: false };
     let d = densify_polyline(step, reg.scale, work, 0, work.len(), b, out, 0);
-    if !d.ok {
-        return drawing_of(d);
+    if let Some(cursor) = d {
+        project_points(projection_of(reg), out, 0, cursor.at);
     }
-    project_points(projection_of(reg), out, 0, d.at);
-    drawing_of(d)
+    d.into()
 }
 
 // What a segment and a full circle want, and a draw: what the draw lists are made of.

@@ -3,19 +3,24 @@ ghost use Rattle.std.specs.Prelude.{◌≡◌};
 ghost use Rattle.stream.specs.Payload.{payload};
 ghost use Rattle.records.specs.Inner.Refusals.{refusal_of};
 ghost use Rattle.scene.specs.Scene.{scene_of};
-ghost use Rattle.values.specs.Maybe.{Maybe};
-ghost use Rattle.scene.specs.Inner.Answers.{maybe_float, maybe_point, frame_by, features_at, features_by, variables_at, variables_by, places_at, places_by, items_at, items_by, points_from, points_by, paths_from, paths_by};
+ghost use Rattle.scene.specs.Inner.Answers.{features_at, variables_at, places_at, items_at, points_from, paths_from};
+ghost use Rattle.test_host.specs.Inner.Answers.{float_in, point_in, frame_in, features_in, variables_in, places_in};
+ghost use Rattle.test_host.specs.Inner.Answers.{items_in, points_in, paths_in};
 ghost use Rattle.test_host.specs.Inner.Guarded.{spot_in, label_in};
 
-use scene::{
+use crate::answers::{
     Feature, FrameOption, Item, OptionalFloat, OptionalPoint, Path, Place, Points, Variable,
 };
+use records::PointsRole;
 
 #[unsafe(no_mangle)]
 pub extern "C" fn scene_refusal(s: &[u8]) -> u32
     ensures { result ≡ refusal_of s.now }
 {
-    records::refusal(s)
+    match records::check_stream(s) {
+        Ok(()) => 0,
+        Err(r) => r.number(),
+    }
 }
 
 #[unsafe(no_mangle)]
@@ -27,30 +32,30 @@ pub extern "C" fn scene_rescale(s: &[u8]) -> f64
 
 #[unsafe(no_mangle)]
 pub extern "C" fn scene_frame(s: &[u8]) -> FrameOption
-    ensures { frame_by result ≡ (scene_of (payload s.now)).frame }
+    ensures { frame_in result ≡ (scene_of (payload s.now)).frame }
 {
-    scene::frame(s)
+    scene::frame(s).into()
 }
 
 #[unsafe(no_mangle)]
 pub extern "C" fn scene_anchor(s: &[u8]) -> OptionalPoint
-    ensures { maybe_point result ≡ (scene_of (payload s.now)).anchor }
+    ensures { point_in result ≡ (scene_of (payload s.now)).anchor }
 {
-    scene::anchor(s)
+    scene::anchor(s).into()
 }
 
 #[unsafe(no_mangle)]
 pub extern "C" fn scene_scale(s: &[u8]) -> OptionalFloat
-    ensures { maybe_float result ≡ (scene_of (payload s.now)).scale }
+    ensures { float_in result ≡ (scene_of (payload s.now)).scale }
 {
-    scene::scale(s)
+    scene::scale(s).into()
 }
 
 #[unsafe(no_mangle)]
 pub extern "C" fn scene_bearing(s: &[u8]) -> OptionalFloat
-    ensures { maybe_float result ≡ (scene_of (payload s.now)).bearing }
+    ensures { float_in result ≡ (scene_of (payload s.now)).bearing }
 {
-    scene::bearing(s)
+    scene::bearing(s).into()
 }
 
 #[unsafe(no_mangle)]
@@ -69,94 +74,87 @@ pub extern "C" fn scene_step(s: &[u8]) -> f64
 
 #[unsafe(no_mangle)]
 pub extern "C" fn scene_view_scale(s: &[u8]) -> OptionalFloat
-    ensures { maybe_float result ≡ (scene_of (payload s.now)).view_scale }
+    ensures { float_in result ≡ (scene_of (payload s.now)).view_scale }
 {
-    scene::view_scale(s)
+    scene::view_scale(s).into()
 }
 
 #[unsafe(no_mangle)]
 pub extern "C" fn scene_feature(s: &[u8], p: usize) -> Feature
-    ensures { features_at (payload s.now) p ≡ features_by (payload s.now) result }
+    ensures { features_at (payload s.now) p ≡ features_in (payload s.now) result }
 {
-    scene::next_feature(s, p)
+    scene::next_feature(s, p).into()
 }
 
 #[unsafe(no_mangle)]
 pub extern "C" fn scene_variable(s: &[u8], p: usize) -> Variable
-    ensures { variables_at (payload s.now) p ≡ variables_by (payload s.now) result }
+    ensures { variables_at (payload s.now) p ≡ variables_in (payload s.now) result }
 {
-    scene::next_variable(s, p)
+    scene::next_variable(s, p).into()
 }
 
 #[unsafe(no_mangle)]
 pub extern "C" fn scene_place(s: &[u8], p: usize) -> Place
-    ensures { places_at (payload s.now) p ≡ places_by (payload s.now) result }
+    ensures { places_at (payload s.now) p ≡ places_in (payload s.now) result }
 {
-    scene::next_place(s, p)
+    scene::next_place(s, p).into()
 }
 
 #[unsafe(no_mangle)]
 pub extern "C" fn scene_item(s: &[u8], p: usize) -> Item
-    ensures { items_at (payload s.now) p ≡ items_by (payload s.now) result }
+    ensures { items_at (payload s.now) p ≡ items_in (payload s.now) result }
 {
-    scene::next_item(s, p)
+    scene::next_item(s, p).into()
 }
 
 #[unsafe(no_mangle)]
 pub extern "C" fn scene_points(s: &[u8], p: usize, role: u8) -> Points
-    ensures { points_from (payload s.now) p role ≡ points_by (payload s.now) result }
+    ensures { points_from (payload s.now) p role ≡ points_in (payload s.now) result }
 {
-    scene::points_of(s, p, role)
+    match PointsRole::try_from(role) {
+        Ok(r) => scene::points_of(s, p, r).into(),
+        Err(_) => None.into(),
+    }
 }
 
 #[unsafe(no_mangle)]
 pub extern "C" fn scene_path(s: &[u8], p: usize, role: u8) -> Path
-    ensures { paths_from (payload s.now) p role ≡ paths_by (payload s.now) role result }
+    ensures { paths_from (payload s.now) p role ≡ paths_in (payload s.now) role result }
 {
-    scene::next_path(s, p, role)
+    match PointsRole::try_from(role) {
+        Ok(r) => scene::next_path(s, p, r).into(),
+        Err(_) => None.into(),
+    }
 }
 
 // The i-th point of those from `at` on, if the payload goes that far.
+#[tactic(auto, using(crate::proofs::Lengths::lengths), unfolding(crate::specs::Inner::Guarded::spot_in, stream::specs::Inner::Payload::rest))]
 #[unsafe(no_mangle)]
 pub extern "C" fn scene_point(s: &[u8], at: usize, i: usize) -> OptionalPoint
-    ensures { maybe_point result ≡ spot_in (payload s.now) at i }
+    ensures { point_in result ≡ spot_in (payload s.now) at i }
 {
     let room = stream::remaining(s, 0);
     if at > room {
-        return none();
+        return None.into();
     }
     if i >= (room - at) / 16 {
-        return none();
+        return None.into();
     }
-    let p = scene::point_at(s, at, i);
-    OptionalPoint {
-        some: true,
-        x: p.x,
-        y: p.y,
-    }
+    Some(scene::point_at(s, at, i)).into()
 }
 
 // The point that the label of n bytes at `at` names, if the payload goes that far.
+#[tactic(auto, using(crate::proofs::Lengths::lengths), unfolding(crate::specs::Inner::Guarded::label_in, scene::specs::Scene::scene_of, stream::specs::Inner::Payload::rest))]
 #[unsafe(no_mangle)]
 pub extern "C" fn scene_label(s: &[u8], at: usize, n: usize) -> OptionalPoint
-    ensures { maybe_point result ≡ label_in (payload s.now) at n }
+    ensures { point_in result ≡ label_in (payload s.now) at n }
 {
     let room = stream::remaining(s, 0);
     if at > room {
-        return none();
+        return None.into();
     }
     if n > room - at {
-        return none();
+        return None.into();
     }
-    scene::point_of_label(s, 0, at, n)
-}
-
-fn none() -> OptionalPoint
-    ensures { maybe_point result ≡ Maybe.none }
-{
-    OptionalPoint {
-        some: false,
-        x: 0.0,
-        y: 0.0,
-    }
+    scene::point_of_label(s, 0, at, n).into()
 }

@@ -1,3 +1,4 @@
 -- Words in which contracts of the parts are said. What a host is promised is not said in them.
 pub mod Points
+pub mod Refusals
 pub mod Warnings

@@ -1,12 +1,11 @@
 -- A scene whose draws did not fall short comes to the same events where more is left: draws, needs of work, features with their positions, warnings.
-use Rattle.std.specs.Prelude.{ℕ, suc, ◌+◌, ◌≡◌, refl, Bool, true, false, ◌&&◌, cond, length, ltb}
+use Rattle.std.specs.Prelude.{ℕ, suc, ◌+◌, ◌≡◌, refl, Bool, true, false, ◌&&◌, cond, length, ltb, Option, None, Some, unwrap_or}
 use Rattle.std.proofs.Common.{sym, subst}
 use mathlib.Core.List.{List, [], ◌∷◌, ◌++◌, map}
 use Rattle.std.proofs.Math.Dec.{leb}
 use Rattle.budget.specs.declared.Budget.{Budget}
 use Rattle.scene.specs.Scene.{DrawnPath, DrawnItem}
 use Rattle.values.specs.declared.Point.{Point}
-use Rattle.values.specs.Maybe.{Maybe, none, some, or_value}
 use Rattle.projection.specs.Projection.{project_point}
 use Rattle.densify.specs.Densify.{Made, close_ring_of}
 use Rattle.densify.specs.Laws.Allowances.{NoLess, Enough, Keeps, enough_append, path_keeps, densify_keeps, ellipse_keeps, box_keeps}
@@ -82,22 +81,22 @@ module _ (cx : Ctx) where
     unwritten_keeps ps a b n h =
         made_keeps (λ qs r. missing p.item r) (densify_keeps cx.step cx.projection.registration.scale ps a b n) (λ qs. still_keeps _) h
 
-    fill_keeps : (outline : Maybe (List Point)) (ring : List Point) → TraceKeepsFrom (fill_of cx p outline ring)
+    fill_keeps : (outline : Option (List Point)) (ring : List Point) → TraceKeepsFrom (fill_of cx p outline ring)
     unfolding fill_of
     fill_keeps outline ring a b n h =
-        pick_keeps (p.fill && leb 4 (length (or_value outline ring))) (stroke_keeps 2 1 (or_value outline ring) a b n) (still_keeps [] a b n) h
+        pick_keeps (p.fill && leb 4 (length (unwrap_or outline ring))) (stroke_keeps 2 1 (unwrap_or outline ring) a b n) (still_keeps [] a b n) h
 
     last_keeps : (closed : Bool) (ps : List Point) → TraceKeepsFrom (λ (r : Budget). pick_trace closed (draw_without_writing cx p.item ps r) (stroke_of cx p 1 0 ps r))
     last_keeps closed ps a b n h = pick_keeps closed (unwritten_keeps ps a b n) (stroke_keeps 1 0 ps a b n) h
 
-    shape_keeps : (closed : Bool) (ps ring : List Point) (outline : Maybe (List Point)) → TraceKeepsFrom (shape_trace cx p closed ps ring outline)
+    shape_keeps : (closed : Bool) (ps ring : List Point) (outline : Option (List Point)) → TraceKeepsFrom (shape_trace cx p closed ps ring outline)
     unfolding shape_trace
     shape_keeps closed ps ring outline a b n h =
         pick_keeps (ltb (length ps) 2) (still_keeps [] a b n)
         (pick_keeps (closed && leb 4 (length ring)) (stroke_keeps 2 0 ring a b n)
         (then_keeps (fill_keeps outline ring a b n) (last_keeps closed ps))) h
 
-    polyline_keeps : (closed : Bool) (ps : List Point) (outline : Maybe (List Point)) → TraceKeepsFrom (polyline_or_polygon_of cx p closed ps outline)
+    polyline_keeps : (closed : Bool) (ps : List Point) (outline : Option (List Point)) → TraceKeepsFrom (polyline_or_polygon_of cx p closed ps outline)
     unfolding polyline_or_polygon_of
     polyline_keeps closed ps outline a b n h =
         let ring = close_ring_of ps in
@@ -110,21 +109,21 @@ module _ (cx : Ctx) where
         made_keeps (λ ps r. and_then_trace (one_event (need (length ps + 1)) r) (λ q. stroke_of cx p 2 0 ps q)) k
         (λ ps a b n. then_keeps (still_keeps (need (length ps + 1) ∷ []) a b n) (stroke_keeps 2 0 ps)) h
 
-    outline_keeps : (closed : Bool) (ps : List Point) (o : Maybe DrawnPath) → TraceKeepsFrom (outline_of cx p closed ps o)
+    outline_keeps : (closed : Bool) (ps : List Point) (o : Option DrawnPath) → TraceKeepsFrom (outline_of cx p closed ps o)
     unfolding outline_of
-    outline_keeps closed ps none a b n h = polyline_keeps closed ps none a b n h
-    outline_keeps closed ps (some o) a b n h =
-        made_keeps (λ qs r. polyline_or_polygon_of cx p closed ps (some qs) r) (path_keeps cx.flatten o a b n) (λ qs. polyline_keeps closed ps (some qs)) h
+    outline_keeps closed ps None a b n h = polyline_keeps closed ps None a b n h
+    outline_keeps closed ps (Some o) a b n h =
+        made_keeps (λ qs r. polyline_or_polygon_of cx p closed ps (Some qs) r) (path_keeps cx.flatten o a b n) (λ qs. polyline_keeps closed ps (Some qs)) h
 
-    path_of_keeps : (path : DrawnPath) (o : Maybe DrawnPath) → TraceKeepsFrom (path_of cx p path o)
+    path_of_keeps : (path : DrawnPath) (o : Option DrawnPath) → TraceKeepsFrom (path_of cx p path o)
     unfolding path_of
     path_of_keeps path o a b n h =
         made_keeps (λ qs r. outline_of cx p path.closed qs o r) (path_keeps cx.flatten path a b n) (λ qs. outline_keeps path.closed qs o) h
 
-    points_keeps : (closed : Bool) (ps outline : Maybe (List Point)) → TraceKeepsFrom (points_trace cx p closed ps outline)
+    points_keeps : (closed : Bool) (ps outline : Option (List Point)) → TraceKeepsFrom (points_trace cx p closed ps outline)
     unfolding points_trace
-    points_keeps closed none outline a b n h = still_keeps _ a b n h
-    points_keeps closed (some ps) outline a b n h = polyline_keeps closed ps outline a b n h
+    points_keeps closed None outline a b n h = still_keeps _ a b n h
+    points_keeps closed (Some ps) outline a b n h = polyline_keeps closed ps outline a b n h
 
   paths_keeps : (p : Props) (many : Bool) (i : ℕ) (qs outlines : List DrawnPath) → TraceKeepsFrom (paths_of cx p many i qs outlines)
   unfolding paths_of

@@ -1,6 +1,6 @@
 -- The draws of a trace, replayed through `take` from the budget that it was handed, give the budget that it hands back; and warning 6 stands where that budget was hit.
 -- Assumes nothing.
-use Rattle.std.specs.Prelude.{ℕ, suc, ◌≡◌, refl, Bool, true, false, ◌&&◌, ◌||◌, cond, length, eqb, ltb}
+use Rattle.std.specs.Prelude.{ℕ, suc, ◌≡◌, refl, Bool, true, false, ◌&&◌, ◌||◌, cond, length, eqb, ltb, Option, None, Some, unwrap_or}
 use Rattle.std.proofs.Common.{sym, ap, subst, ◌∙◌}
 use Rattle.std.proofs.Math.Bool.{or_assoc}
 use mathlib.Core.List.{List, [], ◌∷◌, ◌++◌, map}
@@ -10,7 +10,6 @@ use Rattle.budget.specs.declared.Budget.{Budget}
 use Rattle.budget.specs.Draws.{left_after}
 use Rattle.scene.specs.Scene.{DrawnPath, DrawnItem}
 use Rattle.values.specs.declared.Point.{Point}
-use Rattle.values.specs.Maybe.{Maybe, none, some, or_value}
 use Rattle.values.specs.Warnings.{Warning}
 use Rattle.densify.specs.Densify.{GrantedDraw, Made, close_ring_of, densify_polyline_of}
 use Rattle.densify.specs.Laws.Bounds.{each_append}
@@ -134,18 +133,18 @@ module _ (cx : Ctx) where
     unfolding draw_without_writing
     told-not_written ps b = told_then (told-densified ps b) (told-missing p.item _)
 
-    told_fill : (outline : Maybe (List Point)) (ring : List Point) (b : Budget) → Told b (fill_of cx p outline ring b)
+    told_fill : (outline : Option (List Point)) (ring : List Point) (b : Budget) → Told b (fill_of cx p outline ring b)
     unfolding fill_of
-    told_fill outline ring b = told-pick (p.fill && leb 4 (length (or_value outline ring))) (told_stroke 2 1 (or_value outline ring) b) (told_no_events b)
+    told_fill outline ring b = told-pick (p.fill && leb 4 (length (unwrap_or outline ring))) (told_stroke 2 1 (unwrap_or outline ring) b) (told_no_events b)
 
-    told_shape : (closed : Bool) (ps ring : List Point) (outline : Maybe (List Point)) (b : Budget) → Told b (shape_trace cx p closed ps ring outline b)
+    told_shape : (closed : Bool) (ps ring : List Point) (outline : Option (List Point)) (b : Budget) → Told b (shape_trace cx p closed ps ring outline b)
     unfolding shape_trace
     told_shape closed ps ring outline b =
         told-pick (ltb (length ps) 2) (told_no_events b)
         (told-pick (closed && leb 4 (length ring)) (told_stroke 2 0 ring b)
         (told_then (told_fill outline ring b) (told-pick closed (told-not_written ps _) (told_stroke 1 0 ps _))))
 
-    told-polyline : (closed : Bool) (ps : List Point) (outline : Maybe (List Point)) (b : Budget) → Told b (polyline_or_polygon_of cx p closed ps outline b)
+    told-polyline : (closed : Bool) (ps : List Point) (outline : Option (List Point)) (b : Budget) → Told b (polyline_or_polygon_of cx p closed ps outline b)
     unfolding polyline_or_polygon_of
     told-polyline closed ps outline b = told_then (told_need _ b) (told_shape closed ps (close_ring_of ps) (closed_outline outline) b)
 
@@ -153,19 +152,19 @@ module _ (cx : Ctx) where
     unfolding ring_trace
     told-ring {b} {m} r = told_then (told_draws r) (told_then (told_need _ _) (told_stroke 2 0 m.points _))
 
-    told_outline : (closed : Bool) (ps : List Point) (o : Maybe DrawnPath) (b : Budget) → Told b (outline_of cx p closed ps o b)
+    told_outline : (closed : Bool) (ps : List Point) (o : Option DrawnPath) (b : Budget) → Told b (outline_of cx p closed ps o b)
     unfolding outline_of
-    told_outline closed ps none b = told-polyline closed ps none b
-    told_outline closed ps (some o) b = told_then (told_draws (path_replays cx.flatten o b)) (told-polyline closed ps _ _)
+    told_outline closed ps None b = told-polyline closed ps None b
+    told_outline closed ps (Some o) b = told_then (told_draws (path_replays cx.flatten o b)) (told-polyline closed ps _ _)
 
-    told-path : (path : DrawnPath) (o : Maybe DrawnPath) (b : Budget) → Told b (path_of cx p path o b)
+    told-path : (path : DrawnPath) (o : Option DrawnPath) (b : Budget) → Told b (path_of cx p path o b)
     unfolding path_of
     told-path path o b = told_then (told_draws (path_replays cx.flatten path b)) (told_outline path.closed _ o _)
 
-    told-points : (closed : Bool) (ps outline : Maybe (List Point)) (b : Budget) → Told b (points_trace cx p closed ps outline b)
+    told-points : (closed : Bool) (ps outline : Option (List Point)) (b : Budget) → Told b (points_trace cx p closed ps outline b)
     unfolding points_trace
-    told-points closed none outline b = told-missing p.item b
-    told-points closed (some ps) outline b = told-polyline closed ps outline b
+    told-points closed None outline b = told-missing p.item b
+    told-points closed (Some ps) outline b = told-polyline closed ps outline b
 
   told_paths : (p : Props) (many : Bool) (i : ℕ) (qs outlines : List DrawnPath) (b : Budget) → Told b (paths_of cx p many i qs outlines b)
   unfolding paths_of

@@ -1,5 +1,5 @@
 -- Every feature of a scene is what RFC 7946 says, and lies on the Earth: of a sound registration, and of items whose numbers are at most 1,000,000 in magnitude. Assumes nothing.
-use Rattle.std.specs.Prelude.{ℕ, suc, ◌≤◌, ◌≡◌, refl, Bool, true, false, ◌&&◌, ◌||◌, cond, length, ltb, Float}
+use Rattle.std.specs.Prelude.{ℕ, suc, ◌≤◌, ◌≡◌, refl, Bool, true, false, ◌&&◌, ◌||◌, cond, length, ltb, Float, Option, None, Some, unwrap_or}
 use Rattle.std.proofs.Common.{arith, sym, ap, lit≤}
 use Rattle.std.proofs.Math.Path.{subst}
 use mathlib.Core.List.{List, [], ◌∷◌, ◌++◌, map}
@@ -19,7 +19,6 @@ use Rattle.projection.specs.Laws.Project.{Sound, geo_in}
 use Rattle.records.specs.Laws.Tests.{and_right}
 use Rattle.scene.specs.Scene.{Cubic, Form, curve, polyline, DrawnPath, DrawnItem}
 use Rattle.values.specs.declared.Point.{Point}
-use Rattle.values.specs.Maybe.{Maybe, none, some, or_value}
 use Rattle.scene.specs.Laws.Near as R
 use Rattle.scene.specs.Laws.Near.{Holds, NearItem}
 use Rattle.budget.specs.declared.Budget.{Budget}
@@ -127,13 +126,13 @@ Drawable ps = Each (InPoint 22) ps
 close_drawable : (ps : List Point) → Drawable ps → Drawable (close_ring_of ps)
 close_drawable ps h = close-each (InPoint 22) ps h
 
-outline_drawable : (o : Maybe (List Point)) → Holds Drawable o → Holds Drawable (closed_outline o)
-outline_drawable none h = tt
-outline_drawable (some ps) h = close_drawable ps h
+outline_drawable : (o : Option (List Point)) → Holds Drawable o → Holds Drawable (closed_outline o)
+outline_drawable None h = tt
+outline_drawable (Some ps) h = close_drawable ps h
 
-or_holds : {A : Type 0} (Q : A → Type 0) (o : Maybe A) (x : A) → Holds Q o → Q x → Q (or_value o x)
-or_holds Q none x h k = k
-or_holds Q (some y) x h k = h
+or_holds : {A : Type 0} (Q : A → Type 0) (o : Option A) (x : A) → Holds Q o → Q x → Q (unwrap_or o x)
+or_holds Q None x h k = k
+or_holds Q (Some y) x h k = h
 
 -- ---- what condition 4 says of an item, in densify's words
 near-point : (p : Point) → R.NearPoint p → NearPoint p
@@ -152,9 +151,9 @@ near_form : (f : Form) → R.NearForm f → NearForm f
 near_form (curve start cs) h = (near-point start h.0, near-cubics cs h.1)
 near_form (polyline ps) h = near-points ps h
 
-listed_drawable : (o : Maybe (List Point)) → Holds R.NearPoints o → Holds Drawable o
-listed_drawable none h = tt
-listed_drawable (some ps) h = nears_in ps (near-points ps h.points)
+listed_drawable : (o : Option (List Point)) → Holds R.NearPoints o → Holds Drawable o
+listed_drawable None h = tt
+listed_drawable (Some ps) h = nears_in ps (near-points ps h.points)
 
 path_drawable : (tol : Float) (p : DrawnPath) (b : Budget) → R.NearPath p → Drawable (path_points_of tol p b).points
 path_drawable tol p b h = nears_in (path_points_of tol p b).points (path-near tol p b (near_form p.form h))
@@ -190,38 +189,38 @@ module _ (it : DrawnItem) (N : NearItem it) where
   unfolding box_of
   box_measured = go it.at it.w it.h N.at N.w N.h
     where
-      go : (c : Maybe Point) (w h : Maybe Float) → Holds R.NearPoint c → Holds Near w → Holds Near h → Measured (box_shape c w h (or_value it.rad K.zero))
-      go (some c) (some w) (some h) i j k = record { near = (near-point c i, j, k, or_holds Near it.rad K.zero N.rad zero-near) }
-      go (some c) (some w) none i j k = record { near = tt }
-      go (some c) none h i j k = record { near = tt }
-      go none w h i j k = record { near = tt }
+      go : (c : Option Point) (w h : Option Float) → Holds R.NearPoint c → Holds Near w → Holds Near h → Measured (box_shape c w h (unwrap_or it.rad K.zero))
+      go (Some c) (Some w) (Some h) i j k = record { near = (near-point c i, j, k, or_holds Near it.rad K.zero N.rad zero-near) }
+      go (Some c) (Some w) None i j k = record { near = tt }
+      go (Some c) None h i j k = record { near = tt }
+      go None w h i j k = record { near = tt }
 
   ellipse_measured : Measured (ellipse_of it)
   unfolding ellipse_of
   ellipse_measured = go it.at it.w it.h N.at N.w N.h
     where
-      go : (c : Maybe Point) (w h : Maybe Float) → Holds R.NearPoint c → Holds Near w → Holds Near h → Measured (ellipse_shape c w h)
-      go (some c) (some w) (some h) i j k = record { near = (near-point c i, j, k) }
-      go (some c) (some w) none i j k = record { near = tt }
-      go (some c) none h i j k = record { near = tt }
-      go none w h i j k = record { near = tt }
+      go : (c : Option Point) (w h : Option Float) → Holds R.NearPoint c → Holds Near w → Holds Near h → Measured (ellipse_shape c w h)
+      go (Some c) (Some w) (Some h) i j k = record { near = (near-point c i, j, k) }
+      go (Some c) (Some w) None i j k = record { near = tt }
+      go (Some c) None h i j k = record { near = tt }
+      go None w h i j k = record { near = tt }
 
   circle_measured : Measured (circle_of it)
   unfolding circle_of
   circle_measured = go it.at it.r N.at N.r
     where
-      go : (c : Maybe Point) (r : Maybe Float) → Holds R.NearPoint c → Holds Near r → Measured (circle_shape c r)
-      go (some c) (some r) i j = record { near = (near-point c i, j) }
-      go (some c) none i j = record { near = tt }
-      go none r i j = record { near = tt }
+      go : (c : Option Point) (r : Option Float) → Holds R.NearPoint c → Holds Near r → Measured (circle_shape c r)
+      go (Some c) (Some r) i j = record { near = (near-point c i, j) }
+      go (Some c) None i j = record { near = tt }
+      go None r i j = record { near = tt }
 
   dot_measured : Measured (dot_of it)
   unfolding dot_of
   dot_measured = go it.at N.at
     where
-      go : (c : Maybe Point) → Holds R.NearPoint c → Measured (dot_shape c)
-      go (some c) i = record { near = near-point c i }
-      go none i = record { near = tt }
+      go : (c : Option Point) → Holds R.NearPoint c → Measured (dot_shape c)
+      go (Some c) i = record { near = near-point c i }
+      go None i = record { near = tt }
 
   shape_measured : (e : ℕ) → Measured (shape_of e it)
   unfolding shape_of
@@ -285,13 +284,13 @@ module _ (r : Registration) (S : Sound r) (step flatten : Float) where
         let e : Each Earthly (project_point (projection_of r) q ∷ []) = (placed_earthly q (record { x = wider 22 24 q.x (lit≤ tt) i.x; y = wider 22 24 q.y (lit≤ tt) i.y }), tt) in
         formed_feature p 0 0 (project_point (projection_of r) q ∷ []) b (positions (project_point (projection_of r) q ∷ []) e, refl) e
 
-    formed_fill : (outline : Maybe (List Point)) (ring : List Point) (b : Budget) → Holds Drawable outline → Drawable ring → Formed (fill_of cx p outline ring b)
+    formed_fill : (outline : Option (List Point)) (ring : List Point) (b : Budget) → Holds Drawable outline → Drawable ring → Formed (fill_of cx p outline ring b)
     unfolding fill_of
     formed_fill outline ring b h k =
-        let ps = or_value outline ring in
+        let ps = unwrap_or outline ring in
         formed_pick (p.fill && leb 4 (length ps)) (λ t. formed_ring 1 ps b (or_holds Drawable outline ring h k) (leb-true _ _ (and_right p.fill _ t))) (λ t. formed_no_events b)
 
-    formed_shape : (closed : Bool) (ps ring : List Point) (outline : Maybe (List Point)) (b : Budget) →
+    formed_shape : (closed : Bool) (ps ring : List Point) (outline : Option (List Point)) (b : Budget) →
         Drawable ps → Drawable ring → Holds Drawable outline → Formed (shape_trace cx p closed ps ring outline b)
     unfolding shape_trace
     formed_shape closed ps ring outline b h i j =
@@ -299,7 +298,7 @@ module _ (r : Registration) (S : Sound r) (step flatten : Float) where
         formed_pick (closed && leb 4 (length ring)) (λ t. formed_ring 0 ring b i (leb-true _ _ (and_right closed _ t))) (λ t.
         formed_then (formed_fill outline ring b j i) (formed_pick closed (λ t. formed_not_written ps _) (λ t. formed_line 0 ps _ h (omega (arith, ltb-false (length ps) 2 n))))))
 
-    formed_polyline : (closed : Bool) (ps : List Point) (outline : Maybe (List Point)) (b : Budget) → Drawable ps → Holds Drawable outline → Formed (polyline_or_polygon_of cx p closed ps outline b)
+    formed_polyline : (closed : Bool) (ps : List Point) (outline : Option (List Point)) (b : Budget) → Drawable ps → Holds Drawable outline → Formed (polyline_or_polygon_of cx p closed ps outline b)
     unfolding polyline_or_polygon_of
     formed_polyline closed ps outline b h i =
         formed_then (formed_need _ b) (formed_shape closed ps (close_ring_of ps) (closed_outline outline) b h (close_drawable ps h) (outline_drawable outline i))
@@ -308,19 +307,19 @@ module _ (r : Registration) (S : Sound r) (step flatten : Float) where
     unfolding ring_trace
     formed_made m h l = formed_then (formed_draws m) (formed_then (formed_need _ m.after) (formed_ring 0 m.points _ h l))
 
-    formed_outline : (closed : Bool) (ps : List Point) (o : Maybe DrawnPath) (b : Budget) → Drawable ps → Holds R.NearPath o → Formed (outline_of cx p closed ps o b)
+    formed_outline : (closed : Bool) (ps : List Point) (o : Option DrawnPath) (b : Budget) → Drawable ps → Holds R.NearPath o → Formed (outline_of cx p closed ps o b)
     unfolding outline_of
-    formed_outline closed ps none b h i = formed_polyline closed ps none b h tt
-    formed_outline closed ps (some o) b h i = formed_then (formed_draws (path_points_of flatten o b)) (formed_polyline closed ps (some _) _ h (path_drawable flatten o b i))
+    formed_outline closed ps None b h i = formed_polyline closed ps None b h tt
+    formed_outline closed ps (Some o) b h i = formed_then (formed_draws (path_points_of flatten o b)) (formed_polyline closed ps (Some _) _ h (path_drawable flatten o b i))
 
-    formed_path : (path : DrawnPath) (o : Maybe DrawnPath) (b : Budget) → R.NearPath path → Holds R.NearPath o → Formed (path_of cx p path o b)
+    formed_path : (path : DrawnPath) (o : Option DrawnPath) (b : Budget) → R.NearPath path → Holds R.NearPath o → Formed (path_of cx p path o b)
     unfolding path_of
     formed_path path o b h i = formed_then (formed_draws (path_points_of flatten path b)) (formed_outline path.closed _ o _ (path_drawable flatten path b h) i)
 
-    formed_points : (closed : Bool) (ps outline : Maybe (List Point)) (b : Budget) → Holds Drawable ps → Holds Drawable outline → Formed (points_trace cx p closed ps outline b)
+    formed_points : (closed : Bool) (ps outline : Option (List Point)) (b : Budget) → Holds Drawable ps → Holds Drawable outline → Formed (points_trace cx p closed ps outline b)
     unfolding points_trace
-    formed_points closed none outline b h i = formed_missing p.item b
-    formed_points closed (some ps) outline b h i = formed_polyline closed ps outline b h i
+    formed_points closed None outline b h i = formed_missing p.item b
+    formed_points closed (Some ps) outline b h i = formed_polyline closed ps outline b h i
 
   formed_paths : (p : Props) (many : Bool) (i : ℕ) (qs outlines : List DrawnPath) (b : Budget) → Each R.NearPath qs → Each R.NearPath outlines → Formed (paths_of cx p many i qs outlines b)
   unfolding paths_of

@@ -1,10 +1,13 @@
 -- Laws of what an item draws: its ring, its points or its paths. Assumes nothing.
-use Rattle.std.specs.Prelude.{ℕ, suc, ◌≤◌, ◌≡◌, refl, Bool, true, false, cond, List, [], ◌∷◌, length, ltb, Float}
+use Rattle.std.specs.Prelude.{ℕ, suc, ◌≤◌, ◌≡◌, refl, Bool, List, [], ◌∷◌, length, ltb, Float, Option, None, Some, is_some, Result, Ok}
 use Rattle.std.proofs.Common.{arith, zero-add, lt-ltb}
 use Rattle.budget.specs.declared.Budget.{Budget}
+use Rattle.std.specs.Option.{ForSome}
+use Rattle.values.specs.declared.refusal.Refusal.{Refusal}
 use Rattle.scene.specs.Scene.{DrawnPath, DrawnItem}
+use Rattle.scene.specs.declared.readers.Path.{Path}
+use Rattle.scene.specs.Inner.Answers.{paths_from, paths_by}
 use Rattle.values.specs.declared.Point.{Point}
-use Rattle.values.specs.Maybe.{Maybe, none, some}
 use Rattle.densify.specs.declared.append.PointCursor.{PointCursor}
 use Rattle.densify.specs.Densify.{Made, ellipse_ring_of, box_ring_of}
 use Rattle.densify.specs.Inner.Written.{Written}
@@ -25,7 +28,7 @@ use Rattle.strokes.specs.Inner.Space.{most, output_by, Applied, Small, DrawsQuie
 
 -- from a work slice of the same length
 pub applied_from : {a : Trace} {j k : ℕ} {ps : List Float} {fs v : List ℕ} (st : State) {u : Output} {b : Budget} → j ≡ k
-    → Applied a (output_by j ps fs v st) u b → Applied a (output_by k ps fs v st) u b
+    → Applied a (output_by j ps fs v (Ok st)) u b → Applied a (output_by k ps fs v (Ok st)) u b
 applied_from st e h = rw e at h
 
 -- ---- rings
@@ -49,52 +52,55 @@ module _ (step scale tol : Float) (c : Point) (b : Budget) (left : b.left ≤ mo
         small = record { few = omega (arith, box-most step scale tol c w h rad b); left = omega (arith, left_falls (box_replays step scale tol c w h rad b)) };
       }
 
-module _ {w w' : List Float} {m : Made} {d : PointCursor} (one : Written w w' 0 m d) (round : Round m) where
-  ends : d.ok ≡ true → d.at ≡ length (flats m.points)
-  ends fits = omega (arith, one.next fits)
+module _ {w w' : List Float} {m : Made} (round : Round m) where
+  ends : {d : PointCursor} → Written w w' 0 m (Some d) → d.at ≡ length (flats m.points)
+  ends one = omega (arith, one.next)
 
-  ringed : RingLoaded w' m d
-  ringed =
+  ringed : (r : Option PointCursor) → Written w w' 0 m r → RingLoaded w' m r
+  ringed None one = record { asked = rw one.kept (rw zero-add at one.asked); points = tt; end = tt; after = tt; left = tt; few = tt }
+  ringed (Some d) one =
       record {
         asked = rw one.kept (rw zero-add at one.asked);
-        points = λ fits. written_points one fits;
-        end = ends;
+        points = written_points one;
+        end = ends one;
         after = one.left;
-        left = λ fits. rw (one.left fits) round.small.left;
-        few = λ fits. omega (arith, ends fits, flats-length m.points, round.small.few);
+        left = rw one.left round.small.left;
+        few = omega (arith, ends one, flats-length m.points, round.small.few);
       }
 
   -- where it ends, as draw_ring asks for it
-  pub ring_in : d.ok ≡ true → RingEnds d (length w')
-  ring_in fits =
+  pub ring_in : (r : Option PointCursor) → Written w w' 0 m r → ForSome r (λ d. RingEnds d (length w'))
+  ring_in r one d is =
+      let there : Written w w' 0 m (Some d) = rw is at one in
+      let loaded = ringed (Some d) there in
       record {
-        some = omega (arith, ends fits, flats-length m.points, round.some);
-        within = next_in one fits;
-        few = ringed.few fits;
-        left = ringed.left fits;
+        some = omega (arith, ends there, flats-length m.points, round.some);
+        within = next_in there;
+        few = loaded.few;
+        left = loaded.left;
       }
 
   -- and drawn
-  pub ring_applied : (cx : Ctx) (p : Props) {st r : State} {ps ps' : List Float} {fs fs' : List ℕ} → DrawsRing cx p d w' ps fs st ps' fs' r
-      → DrawsQuietly (ring_trace cx p m) w ps fs st w' ps' fs' r
-  ring_applied cx p {st = st} drawn v h = applied_from st one.kept (drawn m ringed v (rw one.kept h))
+  pub ring_applied : (cx : Ctx) (p : Props) (d : Option PointCursor) → Written w w' 0 m d → {st : State} (r : Result State Refusal) {ps ps' : List Float} {fs fs' : List ℕ}
+      → DrawsRing cx p d w' ps fs st ps' fs' r → DrawsQuietly (ring_trace cx p m) w ps fs st w' ps' fs' r
+  ring_applied cx p d one {st} r drawn v h = applied_from st one.kept (drawn m (ringed d one) v (rw one.kept h))
 
 -- ---- points
-module _ (cx : Ctx) (p : Props) (closed : Bool) {ps : Maybe (List Point)} (outline : Maybe (List Point)) (b : Budget) {c : Budget} {t u : Output} where
-  pub points-missing : ps ≡ none → Applied (missing p.item b) t u c → Applied (points_trace cx p closed ps outline b) t u c
+module _ (cx : Ctx) (p : Props) (closed : Bool) {ps : Option (List Point)} (outline : Option (List Point)) (b : Budget) {c : Budget} {t u : Output} where
+  pub points-missing : ps ≡ None → Applied (missing p.item b) t u c → Applied (points_trace cx p closed ps outline b) t u c
   unfolding points_trace
   points-missing e h = rw e h
 
-  pub points-drawn : {qs : List Point} {o : Maybe (List Point)} → ps ≡ some qs → outline ≡ o → Applied (polyline_or_polygon_of cx p closed qs o b) t u c
+  pub points-drawn : {qs : List Point} {o : Option (List Point)} → ps ≡ Some qs → outline ≡ o → Applied (polyline_or_polygon_of cx p closed qs o b) t u c
       → Applied (points_trace cx p closed ps outline b) t u c
   unfolding points_trace
   points-drawn e f h = rw (e, f) h
 
 -- ---- paths
 -- there is a second path where an answer says so
-pub many_is : {qs : List DrawnPath} (q : DrawnPath) (rest : List DrawnPath) (more : Bool) → qs ≡ cond more (q ∷ rest) [] → ltb 0 (length qs) ≡ more
-many_is q rest true e = rw e (lt-ltb 0 (suc (length rest)) (omega arith))
-many_is q rest false e = rw e refl
+pub many_is : (l : List ℕ) (q : ℕ) (r : Option Path) → paths_from l q 0 ≡ paths_by l 0 r → ltb 0 (length (paths_from l q 0)) ≡ is_some r
+many_is l q (Some p) e = rw e (lt-ltb 0 (suc (length (paths_from l p.next 0))) (omega arith))
+many_is l q None e = rw e refl
 
 module _ (cx : Ctx) (p : Props) {qs : List DrawnPath} (outlines : List DrawnPath) (b : Budget) {c : Budget} {t u : Output} where
   pub paths_missing : qs ≡ [] → Applied (missing p.item b) t u c → Applied (paths_trace cx p qs outlines b) t u c

@@ -1,14 +1,15 @@
 -- The loops over a scene's paths and items: what is done, one turn, and how they end. Assumes nothing.
-use Rattle.std.specs.Prelude.{ℕ, ◌+◌, ◌≤◌, ◌<◌, ◌≡◌, Bool, true, false, not, cond, List, [], ◌∷◌, length, Float}
+use Rattle.std.specs.Prelude.{ℕ, ◌+◌, ◌≤◌, ◌<◌, ◌≡◌, Bool, true, false, not, cond, List, length, Float, Option, None, Some, option_map, Result, Ok, Err}
 use Rattle.std.proofs.Math.Numerals.{add-one}
 use Rattle.std.proofs.Common.{arith, subst, ◌∙◌}
 use Rattle.std.proofs.Math.Path.{refl}
 use borrow.Author.Tests.{not-true, not-false}
+use Rattle.values.specs.declared.refusal.Refusal.{Refusal}
+use Rattle.records.specs.Inner.Numbers.{kind_of}
 use Rattle.scene.specs.declared.readers.Item.{Item}
 use Rattle.scene.specs.declared.readers.Path.{Path}
 use Rattle.scene.specs.Scene.{DrawnPath, DrawnItem}
 use Rattle.values.specs.declared.Point.{Point}
-use Rattle.values.specs.Maybe.{Maybe, none, some, given}
 use Rattle.scene.specs.Inner.Answers.{paths_from, paths_by, item_by, items_at, items_by, PathWithin}
 use Rattle.budget.specs.declared.Budget.{Budget}
 use Rattle.densify.specs.Densify.{path_points_of}
@@ -20,48 +21,63 @@ use Rattle.strokes.specs.declared.state.State.{State}
 use Rattle.convert.specs.Convert.{first_path, later_paths, outline_of, path_of, with_part, paths_of, item_of, items_of, spent_of, convert_of}
 use Rattle.strokes.specs.Strokes.{Trace, no_events, one_event, warned, and_then_trace, polyline_or_polygon_of}
 use Rattle.strokes.specs.Space.{Output}
-use Rattle.strokes.specs.Inner.Space.{output_by, most, Fits, Applied, Bounds, Loads, LoadsPath, outline_by}
-use Rattle.strokes.specs.Laws.Applying.{applied_no_events, applied_stuck, applied_then, applied_drawn, Onward, onward_next}
+use Rattle.convert.specs.Inner.Outlines.{outlines_from}
+use Rattle.strokes.specs.Inner.Space.{state_by, output_by, most, Fits, Applied, Bounds, Loads, LoadsPath, outline_by}
+use Rattle.strokes.specs.Laws.Applying.{applied_no_events, applied_then, applied_stop, applied_drawn, Onward, onward_next}
 use Rattle.strokes.specs.Laws.Loading.{loaded_bounds}
+use Rattle.strokes.specs.Laws.Polygons.{shape_lacks}
 
 -- ---- one path
 pub path_fits_lem : {n q : ℕ} {r : Path} → PathWithin n q r → PathFits n r
 path_fits_lem h = record { start = h.start; cubics = h.cubics; points = h.points }
 
-module _ (w w' : List Float) (tol : Float) (path : DrawnPath) (b : Budget) (l : Workspace) where
-  path_bounds : (outline : Maybe DrawnPath) → LoadsPath w w' tol path outline b l → l.ok ≡ true → Bounds l (length w') × (l.budget.left ≤ most)
-  path_bounds none h fits = (loaded_bounds h fits, h.left fits)
-  path_bounds (some o) h fits = (loaded_bounds h fits, h.left fits)
+module _ (w w' : List Float) (tol : Float) (path : DrawnPath) (b : Budget) where
+  path_bounds : {l : Workspace} (outline : Option DrawnPath) → LoadsPath w w' tol path outline b (Ok l) → Bounds l (length w') × (l.budget.left ≤ most)
+  path_bounds None h = (loaded_bounds h, h.left)
+  path_bounds (Some o) h = (loaded_bounds h, h.left)
 
-  path-kept : (outline : Maybe DrawnPath) → LoadsPath w w' tol path outline b l → length w' ≡ length w
-  path-kept none h = h.kept
-  path-kept (some o) h = h.kept
+  path-kept : (r : Result Workspace Refusal) (outline : Option DrawnPath) → LoadsPath w w' tol path outline b r → length w' ≡ length w
+  path-kept r None h = h.kept
+  path-kept r (Some o) h = h.kept
 
   -- what drawing it asks for
-  pub path-ready : (outline : Maybe DrawnPath) → LoadsPath w w' tol path outline b l → {positions : List Float} {features warnings : List ℕ} {st : State} → Fits (output_by (length w) positions features warnings st) st.budget
-      → (l.ok ≡ true → Bounds l (length w') × (l.budget.left ≤ most)) × Fits (output_by (length w') positions features warnings st) st.budget
-  path-ready outline h fits = (path_bounds outline h, rw (path-kept outline h) fits)
+  pub path-ready : {l : Workspace} (outline : Option DrawnPath) → LoadsPath w w' tol path outline b (Ok l) → {positions : List Float} {features warnings : List ℕ} {st : State}
+      → Fits (output_by (length w) positions features warnings (Ok st)) st.budget
+      → Bounds l (length w') × (l.budget.left ≤ most) × Fits (output_by (length w') positions features warnings (Ok st)) st.budget
+  path-ready {l} outline h fits = let bounds = path_bounds outline h in (bounds.0, bounds.1, rw (path-kept (Ok l) outline h) fits)
 
--- laid out, then drawn
-path-drawn : (cx : Ctx) (p : Props) (path : DrawnPath) (outline : Maybe DrawnPath) (b : Budget) (w w' : List Float) (l : Workspace) {t u : Output} {c : Budget} → LoadsPath w w' cx.flatten path outline b l
-    → ((v : List Float) (ps : List Point) (o : Maybe (List Point)) (d : Budget) → Loads v w' path.closed ps o d l → Applied (polyline_or_polygon_of cx p path.closed ps o d) t u c)
+-- laid out or without room for it, then drawn
+path-drawn : (cx : Ctx) (p : Props) (path : DrawnPath) (outline : Option DrawnPath) (b : Budget) (w w' : List Float) (r : Result Workspace Refusal) {t u : Output} {c : Budget}
+    → LoadsPath w w' cx.flatten path outline b r
+    → ((v : List Float) (ps : List Point) (o : Option (List Point)) (d : Budget) → Loads v w' path.closed ps o d r → Applied (polyline_or_polygon_of cx p path.closed ps o d) t u c)
     → Applied (path_of cx p path outline b) t u c
 unfolding path_of outline_of
-path-drawn cx p path none b w w' l h draw =
+path-drawn cx p path None b w w' r h draw =
     let m = path_points_of cx.flatten path b in
-    applied_drawn m (λ r. outline_of cx p path.closed m.points none r) (draw w m.points none m.after h)
-path-drawn cx p path (some o) b w w' l h draw =
+    applied_drawn m (λ r. outline_of cx p path.closed m.points None r) (draw w m.points None m.after h)
+path-drawn cx p path (Some o) b w w' r h draw =
     let m = path_points_of cx.flatten path b in
     let n = path_points_of cx.flatten o m.after in
-    applied_drawn m (λ r. outline_of cx p path.closed m.points (some o) r)
-    (applied_drawn n (λ r. polyline_or_polygon_of cx p path.closed m.points (some n.points) r) (draw w m.points (some n.points) n.after h))
+    applied_drawn m (λ r. outline_of cx p path.closed m.points (Some o) r)
+    (applied_drawn n (λ r. polyline_or_polygon_of cx p path.closed m.points (Some n.points) r) (draw w m.points (Some n.points) n.after h))
 
-pub path_applied : (cx : Ctx) {p props : Props} (path : DrawnPath) (outline : Maybe DrawnPath) (w w' : List Float) (l : Workspace) {positions : List Float} {features warnings : List ℕ} (st : State) {u : Output} {c : Budget}
-    → LoadsPath w w' cx.flatten path outline st.budget l → props ≡ p
-    → ((v : List Float) (ps : List Point) (o : Maybe (List Point)) (d : Budget) → Loads v w' path.closed ps o d l → Applied (polyline_or_polygon_of cx props path.closed ps o d) (output_by (length w') positions features warnings st) u c)
-    → Applied (path_of cx p path outline st.budget) (output_by (length w) positions features warnings st) u c
-path_applied cx path outline w w' l st h e draw =
-    rw (← e, ← path-kept w w' cx.flatten path st.budget l outline h) (path-drawn cx _ path outline st.budget w w' l h draw)
+module _ (cx : Ctx) (path : DrawnPath) (outline : Option DrawnPath) (w w' : List Float) {positions : List Float} {features warnings : List ℕ} (st : State) where
+  pub path_applied : {p props : Props} (l : Workspace) {u : Output} {c : Budget} → LoadsPath w w' cx.flatten path outline st.budget (Ok l) → props ≡ p
+      → ((v : List Float) (ps : List Point) (o : Option (List Point)) (d : Budget) → Loads v w' path.closed ps o d (Ok l)
+      → Applied (polyline_or_polygon_of cx props path.closed ps o d) (output_by (length w') positions features warnings (Ok st)) u c)
+      → Applied (path_of cx p path outline st.budget) (output_by (length w) positions features warnings (Ok st)) u c
+  path_applied l h e draw =
+      rw (← e, ← path-kept w w' cx.flatten path st.budget (Ok l) outline h) (path-drawn cx _ path outline st.budget w w' (Ok l) h draw)
+
+  -- no room
+  pub path_lacks : (p : Props) (e : Refusal) → LoadsPath w w' cx.flatten path outline st.budget (Err e) → Fits (output_by (length w) positions features warnings (Ok st)) st.budget
+      → Applied (path_of cx p path outline st.budget) (output_by (length w) positions features warnings (Ok st))
+      (output_by (length w') positions features warnings (Err e)) (state_by (Err e)).budget
+  path_lacks p e h fits =
+      rw (← path-kept w w' cx.flatten path st.budget (Err e) outline h)
+      (path-drawn cx p path outline st.budget w w' (Err e) h
+      (λ v ps o d lays. shape_lacks cx p lays {t = output_by (length w') positions features warnings (Ok st)} refl refl {a = st.budget}
+      (rw (path-kept w w' cx.flatten path st.budget (Err e) outline h) fits)))
 
 -- ---- a loop: i are done, which lie before q; what plays the rest from sheet t on plays the whole from t₀ on
 pub record Loop (whole : Trace) (t₀ t : Output) (rest : Trace) (b : Budget) (q i : ℕ) : Type 0 where
@@ -82,9 +98,10 @@ module _ {whole rest : Trace} {t₀ t : Output} {b : Budget} {q i : ℕ} (d : Lo
   all_done : rest ≡ no_events b → Applied whole t₀ t b
   all_done e = d.onward t b (rw e (applied_no_events t b d.fits))
 
-  -- something has lacked room
-  pub no_more : (t.number ≡ 0 → ⊥) → Applied whole t₀ t b
-  no_more n = d.onward t b (applied_stuck rest t b n d.fits)
+  -- what comes next lacks room
+  stops : {a : Trace} {n : ℕ} {ps : List Float} {fs v : List ℕ} (e : Refusal) (f : Budget → Trace) → rest ≡ and_then_trace a f
+      → Applied a t (output_by n ps fs v (Err e)) (state_by (Err e)).budget → Applied whole t₀ (output_by n ps fs v (Err e)) (state_by (Err e)).budget
+  stops e f is one = d.onward _ _ (rw is (applied_stop e f one))
 
   one-done : {a : Trace} {u : Output} {c : Budget} {next : ℕ} (f : Budget → Trace) → rest ≡ and_then_trace a f → Applied a t u c → q < next → Loop whole t₀ u (f c) c next (i + 1)
   one-done f e one more =
@@ -99,39 +116,61 @@ module _ {whole rest : Trace} {t₀ t : Output} {b : Budget} {q i : ℕ} (d : Lo
       }
 
 -- ---- the paths of an item
-head-given : (b : Bool) (p : DrawnPath) (ps : List DrawnPath) → first_path (cond b (p ∷ ps) []) ≡ given b p
-head-given true p ps = refl
-head-given false p ps = refl
+head-given : (l : List ℕ) (outline : Option Path) → first_path (paths_by l 1 outline) ≡ outline_by l outline
+head-given l None = refl
+head-given l (Some o) = refl
 
-tail-given : (b : Bool) (p : DrawnPath) (ps : List DrawnPath) → later_paths (cond b (p ∷ ps) []) ≡ cond b ps []
-tail-given true p ps = refl
-tail-given false p ps = refl
+tail-given : (l : List ℕ) (outline : Option Path) → later_paths (paths_by l 1 outline) ≡ outlines_from l (option_map (λ (r : Path). r.next) outline)
+tail-given l None = refl
+tail-given l (Some o) = refl
 
 module _ (cx : Ctx) (p : Props) (many : Bool) (l : List ℕ) (outlines : List DrawnPath) {whole : Trace} {t₀ t : Output} {b : Budget} {q i : ℕ}
-    (d : Loop whole t₀ t (paths_of cx p many i (paths_from l q 0) outlines b) b q i) (path : Path) (e : paths_from l q 0 ≡ paths_by l 0 path) where
-  pub all_paths : not path.some ≡ true → Applied whole t₀ t b
+    (d : Loop whole t₀ t (paths_of cx p many i (paths_from l q 0) outlines b) b q i) where
+  pub all_paths : paths_from l q 0 ≡ paths_by l 0 None → Applied whole t₀ t b
   unfolding paths_of
-  all_paths n = all_done d (rw (e, not-true path.some n) refl)
+  all_paths e = all_done d (rw e refl)
 
-  pub one-path : not path.some ≡ false → q < path.next → (outline : Path) → outlines ≡ paths_by l 1 outline → {u : Output} {c : Budget}
-      → Applied (path_of cx (with_part p (cond many (i + 1) 0)) (drawn_by l path) (outline_by l outline) b) t u c
-      → Loop whole t₀ u (paths_of cx p many (i + 1) (paths_from l path.next 0) (cond outline.some (paths_from l outline.next 1) []) c) c path.next (i + 1)
-  unfolding paths_of
-  one-path n more outline k one =
-      one-done d (λ r. paths_of cx p many (i + 1) (paths_from l path.next 0) (cond outline.some (paths_from l outline.next 1) []) r)
-      (rw (e, not-false path.some n, k, head-given, tail-given, add-one) refl) one more
+  module _ (path : Path) (e : paths_from l q 0 ≡ paths_by l 0 (Some path)) (outline : Option Path) (k : outlines ≡ paths_by l 1 outline) where
+    abbrev later : Budget → Trace
+    later r = paths_of cx p many (i + 1) (paths_from l path.next 0) (outlines_from l (option_map (λ (o : Path). o.next) outline)) r
+
+    next_is : paths_of cx p many i (paths_from l q 0) outlines b ≡ and_then_trace (path_of cx (with_part p (cond many (i + 1) 0)) (drawn_by l path) (outline_by l outline) b) later
+    unfolding paths_of
+    next_is = rw (e, k, head-given, tail-given, add-one) refl
+
+    pub one-path : q < path.next → {u : Output} {c : Budget}
+        → Applied (path_of cx (with_part p (cond many (i + 1) 0)) (drawn_by l path) (outline_by l outline) b) t u c
+        → Loop whole t₀ u (later c) c path.next (i + 1)
+    one-path more one = one-done d later next_is one more
+
+    pub path-stops : {n : ℕ} {ps : List Float} {fs v : List ℕ} (x : Refusal)
+        → Applied (path_of cx (with_part p (cond many (i + 1) 0)) (drawn_by l path) (outline_by l outline) b) t (output_by n ps fs v (Err x)) (state_by (Err x)).budget
+        → Applied whole t₀ (output_by n ps fs v (Err x)) (state_by (Err x)).budget
+    path-stops x one = stops d x later next_is one
 
 -- ---- the items of a scene
 module _ (entry : ℕ → ℕ) (cx : Ctx) (l : List ℕ) {whole : Trace} {t₀ t : Output} {b : Budget} {q i : ℕ}
-    (d : Loop whole t₀ t (items_of entry cx i (items_at l q) b) b q i) (it : Item) (e : items_at l q ≡ items_by l it) where
-  pub all_items : not it.some ≡ true → Applied whole t₀ t b
+    (d : Loop whole t₀ t (items_of entry cx i (items_at l q) b) b q i) where
+  pub all_items : items_at l q ≡ items_by l None → Applied whole t₀ t b
   unfolding items_of
-  all_items n = all_done d (rw (e, not-true it.some n) refl)
+  all_items e = all_done d (rw e refl)
 
-  pub one-item : not it.some ≡ false → q < it.next → {k : ℕ} {u : Output} {c : Budget} → k ≡ entry it.kind → Applied (item_of k cx i (item_by l it) b) t u c
-      → Loop whole t₀ u (items_of entry cx (i + 1) (items_at l it.next) c) c it.next (i + 1)
-  unfolding items_of item_by
-  one-item n more same one = one-done d (λ r. items_of entry cx (i + 1) (items_at l it.next) r) (rw (e, not-false it.some n, add-one, same) refl) one more
+  module _ (it : Item) (e : items_at l q ≡ items_by l (Some it)) {k : ℕ} (same : k ≡ entry (kind_of it.kind)) where
+    abbrev later_items : Budget → Trace
+    later_items r = items_of entry cx (i + 1) (items_at l it.next) r
+
+    next_item_is : items_of entry cx i (items_at l q) b ≡ and_then_trace (item_of k cx i (item_by l it) b) later_items
+    unfolding items_of item_by
+    next_item_is = rw (e, add-one, same) refl
+
+    pub one-item : q < it.next → {u : Output} {c : Budget} → Applied (item_of k cx i (item_by l it) b) t u c
+        → Loop whole t₀ u (later_items c) c it.next (i + 1)
+    one-item more one = one-done d later_items next_item_is one more
+
+    pub item-stops : {n : ℕ} {ps : List Float} {fs v : List ℕ} (x : Refusal)
+        → Applied (item_of k cx i (item_by l it) b) t (output_by n ps fs v (Err x)) (state_by (Err x)).budget
+        → Applied whole t₀ (output_by n ps fs v (Err x)) (state_by (Err x)).budget
+    item-stops x one = stops d x later_items next_item_is one
 
 -- ---- all items, then the warning that the allowance was spent
 module _ (b : Budget) where

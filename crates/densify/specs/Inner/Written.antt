@@ -1,5 +1,5 @@
 -- What a producer leaves in a lent slice, two floats a point.
-use Rattle.std.specs.Prelude.{◌≡◌, ℕ, ◌+◌, ◌-◌, ◌*◌, ◌≤◌, true, false, cond, List, [], ◌∷◌, length, take, nat_le, slice_index_or, Float}
+use Rattle.std.specs.Prelude.{◌≡◌, ℕ, ◌+◌, ◌-◌, ◌*◌, ◌≤◌, true, false, cond, List, [], ◌∷◌, length, take, nat_le, slice_index_or, Float, Option, is_some, IfSome}
 use Rattle.values.specs.Inner.Points.{point_in}
 use Rattle.scene.specs.declared.readers.Path.{Path}
 use Rattle.scene.specs.Scene.{DrawnPath}
@@ -22,12 +22,12 @@ closing p q = cond (same_point p q) [] (p ∷ [])
 unfoldable pub closing_in : List Float → ℕ → ℕ → List Point
 closing_in w from at = cond (nat_le (from + 2) at) (closing (point_of w from) (point_of w (at - 2))) []
 
--- The answer is `ok` exactly where the points have room from `at` on; then they stand there, and nothing else is changed. Without room, what stood before `at` is as it was.
-pub record Written (w w' : List Float) (at : ℕ) (m : Made) (r : PointCursor) : Type 0 where
-  pub asked : r.ok ≡ nat_le (at + length (flats m.points)) (length w)
-  pub next : r.ok ≡ true → r.at ≡ at + length (flats m.points)
-  pub left : r.ok ≡ true → r.budget ≡ m.after
-  pub holds : r.ok ≡ true → w' ≡ put w at (flats m.points)
+-- There is an answer exactly where the points have room from `at` on; then they stand there, and nothing else is changed. Without room, what stood before `at` is as it was.
+pub record Written (w w' : List Float) (at : ℕ) (m : Made) (r : Option PointCursor) : Type 0 where
+  pub asked : is_some r ≡ nat_le (at + length (flats m.points)) (length w)
+  pub next : IfSome r (λ d. d.at ≡ at + length (flats m.points))
+  pub left : IfSome r (λ d. d.budget ≡ m.after)
+  pub holds : IfSome r (λ d. w' ≡ put w at (flats m.points))
   pub before : take at w' ≡ take at w
   pub kept : length w' ≡ length w
 

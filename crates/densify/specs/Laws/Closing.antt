@@ -1,5 +1,5 @@
 -- Laws of a ring's closing point. Assumes nothing.
-use Rattle.std.specs.Prelude.{◌≡◌, ℕ, suc, ◌+◌, ◌-◌, ◌<◌, ◌≤◌, Bool, true, false, cond, List, [], ◌∷◌, ◌++◌, length, get_or, take, drop, slice_index_or, refl, Float}
+use Rattle.std.specs.Prelude.{◌≡◌, ℕ, suc, ◌+◌, ◌-◌, ◌<◌, ◌≤◌, Bool, true, false, cond, List, [], ◌∷◌, ◌++◌, length, get_or, take, drop, slice_index_or, refl, Float, Option, Some, None}
 use Rattle.std.proofs.Common.{sym, ◌∙◌, append-nil, arith, add_assoc, length-take-le, get_or-append-add, le-leb}
 use Rattle.std.proofs.Math.Numerals.{unary_clauses}
 use Rattle.std.proofs.Math.ListN.{get_or-append}
@@ -88,12 +88,12 @@ pub closing_in_lem : (w : List Float) (from : ℕ) (ps : List Point) → from + 
 closing_in_lem w from ps h = rw (closer_in w from ps h) (closer-added ps)
 
 -- ---- a ring's points, then what closes it
-module _ {w w₁ : List Float} {from : ℕ} {m : Made} {r : PointCursor} {d : List GrantedDraw} (one : Written w w₁ from m r) where
-  pub closed_done : {w₂ : List Float} {s : PointCursor} → r.ok ≡ true → Written w₁ w₂ r.at (without_draws (closing_in w₁ from r.at) r.budget) s
-      → Written w w₂ from (record { points = close_ring_of m.points; after = m.after; draws = d }) s
-  closed_done fits two =
-      let added = without_draws (closing_in w₁ from r.at) in
-      written_as _ _ (rw (one.holds fits, one.next fits) (sym (closing_in_lem w from m.points (written_room one fits)))) refl (join_done one added fits two)
+module _ {w w₁ : List Float} {from : ℕ} {m : Made} {draws : List GrantedDraw} where
+  pub closed_done : {d : PointCursor} → Written w w₁ from m (Some d) → {w₂ : List Float} {s : Option PointCursor} → Written w₁ w₂ d.at (without_draws (closing_in w₁ from d.at) d.budget) s
+      → Written w w₂ from (record { points = close_ring_of m.points; after = m.after; draws = draws }) s
+  closed_done {d} one two =
+      let added = without_draws (closing_in w₁ from d.at) in
+      written_as _ _ (rw (one.holds, one.next) (sym (closing_in_lem w from m.points (written_room one)))) refl (join_done one added two)
 
-  pub closed_short : r.ok ≡ false → Written w w₁ from (record { points = close_ring_of m.points; after = m.after; draws = d }) r
-  closed_short short = written_as _ _ (sym (closer-added m.points)) refl (join_short one (without_draws (closer m.points)) short)
+  pub closed_short : Written w w₁ from m None → Written w w₁ from (record { points = close_ring_of m.points; after = m.after; draws = draws }) None
+  closed_short one = written_as _ _ (sym (closer-added m.points)) refl (join_short one (without_draws (closer m.points)))

@@ -1,6 +1,6 @@
 -- Laws of points that stand in a slice, and of the loops over a polyline's segments. Assumes nothing.
-use Rattle.std.specs.Prelude.{◌≡◌, ℕ, zero, suc, ◌+◌, ◌-◌, ◌*◌, ◌/◌, ◌<◌, ◌≤◌, true, false, List, [], ◌∷◌, ◌++◌, length, refl, Float}
-use Rattle.std.proofs.Common.{sym, subst, ◌∙◌, leb-false}
+use Rattle.std.specs.Prelude.{◌≡◌, ℕ, suc, ◌+◌, ◌-◌, ◌/◌, ◌<◌, ◌≤◌, List, [], ◌∷◌, length, Float, Option, Some, None}
+use Rattle.std.proofs.Common.{subst}
 use native.Mathlib.Omega.{arith}
 use Rattle.budget.specs.declared.Budget.{Budget}
 use Rattle.budget.specs.declared.Taken.{Taken}
@@ -10,10 +10,9 @@ use Rattle.densify.specs.declared.append.PointCursor.{PointCursor}
 use Rattle.densify.specs.Densify.{Made, without_draws, and_then, along_of, samples_to, segment_want, segment_of, segments_of, densify_polyline_of}
 use Rattle.densify.specs.Inner.Written.{Written}
 use Rattle.values.specs.Inner.Points.{points_in}
-use Rattle.values.specs.Points.{flats, point_of, points_of}
-use Rattle.densify.specs.Laws.Writing.{written_short, join_short, join_done, written_as, Leads, leads_next, leads_short, leads_end}
-use Rattle.values.specs.Laws.Points.{flats-length}
-use Rattle.densify.specs.Laws.Counts.{parts_within, samples-length}
+use Rattle.values.specs.Points.{point_of, points_of}
+use Rattle.densify.specs.Laws.Writing.{join_short, join_done, written_as, Leads, leads_next, leads_short, leads_end}
+use Rattle.densify.specs.Laws.Counts.{parts_within}
 
 -- ---- points that stand in a slice
 module _ (w : List Float) (i to : ℕ) where
@@ -24,46 +23,6 @@ module _ (w : List Float) (i to : ℕ) where
   pub points-next : i + 2 ≤ to → points_in w i to ≡ point_of w i ∷ points_in w (i + 2) to
   unfolding points_in points_of
   points-next h = let n : (to - i) / 2 ≡ suc ((to - (i + 2)) / 2) = omega arith in rw n
-
--- ---- a segment's samples, one by one
--- an answer that says so of what had room
-written_fits : {w w' : List Float} {at : ℕ} {m : Made} {r : PointCursor} → Written w w' at m r → r.ok ≡ true → Written w w' at m (record { ok = true; at = r.at; budget = m.after })
-written_fits h fits =
-    record {
-      asked = sym fits ∙ h.asked;
-      next = λ e. h.next fits;
-      left = λ e. refl;
-      holds = λ e. h.holds fits;
-      before = h.before;
-      kept = h.kept;
-    }
-
-module _ (f : ℕ → Point) where
-  abbrev pub sampled : ℕ → Budget → Made
-  sampled k b = without_draws (samples_to f k) b
-
-  samples-more : (k : ℕ) → 1 ≤ k → samples_to f (k - 1) ++ (f k ∷ []) ≡ samples_to f k
-  unfolding samples_to
-  samples-more zero h = absurd (omega arith)
-  samples-more (suc k) h = let n : suc k - 1 ≡ k = omega arith in rw n
-
-  samples-room : (k : ℕ) → length (flats (samples_to f k)) ≡ 2 * k
-  samples-room k = rw (flats-length, samples-length)
-
-  module _ {w w₁ w₂ : List Float} {at next : ℕ} {b : Budget} {r : PointCursor} (k : ℕ) (some : 1 ≤ k)
-      (done : Written w w₁ at (sampled (k - 1) b) (record { ok = true; at = next; budget = b }))
-      (one : Written w₁ w₂ next (without_draws (f k ∷ []) b) r) where
-    one_more : Written w w₂ at (sampled k b) r
-    one_more = written_as (without_draws _ b) (sampled k b) (samples-more k some) refl (join_done done (without_draws (f k ∷ [])) refl one)
-
-    pub sample_next : r.ok ≡ true → Written w w₂ at (sampled (k + 1 - 1) b) (record { ok = true; at = r.at; budget = b })
-    sample_next fits = let n : k + 1 - 1 ≡ k = omega arith in rw n (written_fits one_more fits)
-
-    -- no room for the k-th: none for all n
-    pub sample_short : (n : ℕ) → k ≤ n → r.ok ≡ false → Written w w₂ at (sampled n b) r
-    sample_short n h short =
-        let few : length w < at + length (flats (samples_to f k)) = leb-false _ _ (sym one_more.asked ∙ short) in
-        written_short w at (sampled n b) w₂ r (omega (arith, samples-room k, samples-room n)) short one_more.before one_more.kept
 
 -- ---- a polyline's segments, one by one
 -- a segment has no more parts than `sample_segment` takes
@@ -106,29 +65,32 @@ module _ (step scale : Float) (w : List Float) (i to : ℕ) (b : Budget) where
 -- the same, written
 module _ (step scale : Float) (work : List Float) (i to : ℕ) (b : Budget) where
   module _ (p : Point) {w w₁ : List Float} {at next : ℕ} {m : Made} (l : Leads w at m w₁ next (segments_of step scale p (points_in work i to) b)) where
-    pub segments_end : to < i + 2 → next ≤ length w₁ → Written w w₁ at m (record { ok = true; at = next; budget = b })
+    pub segments_end : to < i + 2 → next ≤ length w₁ → Written w w₁ at m (Some (record { at = next; budget = b }))
     segments_end h k = leads_end (rw (segments_none step scale work i to b p h) at l) k
 
-    module _ (h : i + 2 ≤ to) {w₂ : List Float} {r : PointCursor} (taken : Taken) (drawn : taken ≡ take_of b (segment_want step scale p (point_of work i)) 1)
-        (one : Written w₁ w₂ next (sampled (λ k. along_of p (point_of work i) k taken.granted) taken.granted taken.budget) r) where
+    module _ (h : i + 2 ≤ to) (taken : Taken) (drawn : taken ≡ take_of b (segment_want step scale p (point_of work i)) 1) where
+      -- a segment's samples
+      abbrev Sampled : List Float → Option PointCursor → Type 0
+      Sampled w₂ r = Written w₁ w₂ next (without_draws (samples_to (λ k. along_of p (point_of work i) k taken.granted) taken.granted) taken.budget) r
+
       turned : Leads w at m w₁ next (and_then (segment_of step scale p (point_of work i) b) (onwards step scale work i to))
       turned = subst (λ (x : Made). Leads w at m w₁ next x) (segments_next step scale work i to b p h) l
 
-      written : Written w₁ w₂ next (segment_of step scale p (point_of work i) b) r
+      written : {w₂ : List Float} {r : Option PointCursor} → Sampled w₂ r → Written w₁ w₂ next (segment_of step scale p (point_of work i) b) r
       unfolding segment_of
-      written = written_as _ _ (rw drawn) (rw drawn) one
+      written one = written_as _ _ (rw drawn) (rw drawn) one
 
-      pub segment-short : r.ok ≡ false → Written w w₂ at m r
-      segment-short short = leads_short (onwards step scale work i to) turned written short
+      pub segment-short : {w₂ : List Float} → Sampled w₂ None → Written w w₂ at m None
+      segment-short one = leads_short (onwards step scale work i to) turned (written one)
 
-      pub segment-next : r.ok ≡ true → Leads w at m w₂ r.at (onwards step scale work i to taken.budget)
-      segment-next fits = rw (one.left fits) at (leads_next (onwards step scale work i to) turned written fits)
+      pub segment-next : {w₂ : List Float} {d : PointCursor} → Sampled w₂ (Some d) → Leads w at m w₂ d.at (onwards step scale work i to d.budget)
+      segment-next one = leads_next (onwards step scale work i to) turned (written one)
 
   -- the first point, and then the segments
-  module _ (h : i + 2 ≤ to) {w w₁ : List Float} {at : ℕ} {r : PointCursor} (first : Written w w₁ at (without_draws (point_of work i ∷ []) b) r) where
-    pub polyline-short : r.ok ≡ false → Written w w₁ at (densify_polyline_of step scale (points_in work i to) b) r
-    polyline-short short = rw (polyline-first step scale work i to b h) (join_short first (onwards step scale work i to) short)
+  module _ (h : i + 2 ≤ to) {w w₁ : List Float} {at : ℕ} where
+    pub polyline-short : Written w w₁ at (without_draws (point_of work i ∷ []) b) None → Written w w₁ at (densify_polyline_of step scale (points_in work i to) b) None
+    polyline-short first = rw (polyline-first step scale work i to b h) (join_short first (onwards step scale work i to))
 
-    pub polyline-done : r.ok ≡ true → {w₂ : List Float} {s : PointCursor} → Written w₁ w₂ r.at (onwards step scale work i to b) s
-        → Written w w₂ at (densify_polyline_of step scale (points_in work i to) b) s
-    polyline-done fits rest = rw (polyline-first step scale work i to b h) (join_done first (onwards step scale work i to) fits (rw (first.left fits) rest))
+    pub polyline-done : {d : PointCursor} → Written w w₁ at (without_draws (point_of work i ∷ []) b) (Some d) → {w₂ : List Float} {s : Option PointCursor}
+        → Written w₁ w₂ d.at (onwards step scale work i to d.budget) s → Written w w₂ at (densify_polyline_of step scale (points_in work i to) b) s
+    polyline-done first rest = rw (polyline-first step scale work i to b h) (join_done first (onwards step scale work i to) rest)

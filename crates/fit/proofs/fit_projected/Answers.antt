@@ -1,14 +1,27 @@
-use native.Mathlib.Omega.{arith}
-use borrow.Author.Tests.{not-true, not-false}
-use Rattle.fit.specs.Laws.Projected.{fit_none, fit_once, fit_twice}
+use Rattle.std.proofs.Common.{◌≡◌, refl, sym, ◌∙◌, List, [], ◌∷◌, Some, None}
+use Rattle.std.proofs.lemmas.Option.{none-some, same_Some}
+use Rattle.std.specs.List.{slice_get}
+use Rattle.fit.specs.declared.ProjectedControl.{ProjectedControl}
+use Rattle.fit.specs.Fit.{round_of, again, fit_projected}
 use Rattle.fit.proofs.fit_projected.Goals as goal
 
-pub returns-then-n-eq0 : goal.returns-then-n-eq0
-returns-then-n-eq0 c = fit_none c.args.projected.now (omega (arith, c.if-n-eq0)) c.no_fit.ensures
+no_first : (ms : List ProjectedControl) → None ≡ slice_get ms 0 → fit_projected ms ≡ None
+unfolding fit_projected
+no_first [] e = refl
+no_first (m ∷ ms) e = absurd (none-some m e)
 
-pub returns-then-not-f : goal.returns-then-not-f
-returns-then-not-f c = fit_once c.args.projected.now c.args.n (omega (arith, c.if-n-eq0)) c.projected_at-m.ensures c.fit_about-f.ensures (not-true c.fit_about-f.result.some c.if-not-f.true) c.no_fit-then-not-f.ensures
+first_is : (ms : List ProjectedControl) (m : ProjectedControl) → Some m ≡ slice_get ms 0 → fit_projected ms ≡ again (round_of (record { x = m.e; y = m.n }) ms) ms
+unfolding fit_projected
+first_is [] m e = absurd (none-some m (sym e))
+first_is (l ∷ ms) m e = rw (same_Some m l e) refl
+
+pub returns-in_err-m : goal.returns-in_err-m
+returns-in_err-m c = c.from_residual.ensures ∙ sym (no_first _ c.in_err-m.ensures.value)
+
+pub returns-in_err-f : goal.returns-in_err-f
+unfolding again
+returns-in_err-f c = rw (first_is _ _ c.in_ok-m.ensures.value, ← c.in_err-f.ensures) c.from_residual-in_err-f.ensures
 
 pub returns : goal.returns
-returns c = fit_twice c.args.projected.now c.args.n (omega (arith, c.if-n-eq0)) c.projected_at-m.ensures c.fit_about-f.ensures (not-false c.fit_about-f.result.some c.if-not-f.false)
-    c.mercator_forward.ensures c.fit_about.ensures
+unfolding again
+returns c = rw (first_is _ _ c.in_ok-m.ensures.value, ← c.in_ok-f.ensures, ← c.mercator_forward.ensures) c.fit_about-2.ensures

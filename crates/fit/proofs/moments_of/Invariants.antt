@@ -1,11 +1,7 @@
-use mathlib.Core.Path.{◌≡◌}
-use Prim.Native.Nat.{◌≤◌, ◌-◌}
+-- The rest of the points, added to the moments so far, gives the moments of all.
+use Rattle.std.proofs.Common.{◌≡◌, drop}
 use Rattle.fit.specs.Fit.{no_moments, moments_of}
-use Rattle.fit.specs.Inner.Projected.{all_projected_in}
 use Rattle.fit.proofs.moments_of.Given as goal
 
-abbrev pub invariant-loop-k : goal.invariant-loop-k
-invariant-loop-k l = (l.k ≤ l.n) × (l.s ≡ moments_of l.a l.c (all_projected_in l.projected l.k) no_moments)
-
-abbrev pub decreases-loop-k : goal.decreases-loop-k
-decreases-loop-k l = l.n - l.k
+abbrev pub invariant-loop-m : goal.invariant-loop-m
+invariant-loop-m l = moments_of l.a l.c (drop l.m-index l.projected) l.s ≡ moments_of l.a l.c l.projected no_moments

@@ -1,7 +1,6 @@
 -- Where a fit of up to 64 placed control points lies. Assumes nothing.
-use Rattle.std.specs.Prelude.{◌≡◌, refl, List, [], ◌∷◌, map, Bool, true, not, ◌&&◌, ◌||◌, ℕ, suc, ◌+◌, ◌*◌, ◌^◌, ◌≤◌, ◌<◌, pos, T, length, Float}
-use Rattle.std.proofs.Common.{sym, subst, true≢false, zero-lt-suc, mul-le-mul_right, arith, lit≤}
-use Rattle.std.proofs.Math.Bool.{false}
+use Rattle.std.specs.Prelude.{◌≡◌, refl, List, [], ◌∷◌, map, Bool, true, false, not, ◌&&◌, ◌||◌, ℕ, suc, ◌+◌, ◌*◌, ◌^◌, ◌≤◌, ◌<◌, pos, T, length, Float, Option, Some, None, IfSome, if◌then◌else◌}
+use Rattle.std.proofs.Common.{sym, subst, zero-lt-suc, mul-le-mul_right, arith, lit≤}
 use Rattle.std.proofs.lemmas.List.{length-map}
 use Rattle.std.specs.Float.{fin}
 use Rattle.std.specs.Float.Ieee.{binary64, of_int, fits, neg, add, sub, div, lt, le, of_bits}
@@ -26,7 +25,7 @@ use Rattle.geodesy.specs.Laws.Finite.{m180, edge, inverse_in, forward_east, forw
 use Rattle.fit.specs.declared.Control.{Control}
 use Rattle.fit.specs.declared.Fit.{Fit}
 use Rattle.fit.specs.declared.ProjectedControl.{ProjectedControl}
-use Rattle.fit.specs.Fit.{projected_of, no_sums, added, sums_of, divided_by, means_of, no_moments, moments_of, degenerate, pick_fit, fit_at, solved_of, round_of, again, fit_projected, fit_of}
+use Rattle.fit.specs.Fit.{projected_of, no_sums, added, sums_of, divided_by, means_of, no_moments, moments_of, fit_at, solved_of, round_of, again, fit_projected, fit_of}
 use Rattle.fit.specs.Laws.Bearing.{hypot_parts, bearing_in}
 
 -- ---- control points, and their projected positions
@@ -82,12 +81,12 @@ unfolding means_of divided_by
 means_are a ms = rw (sums_are a ms no_sums)
 
 -- up to 64 points, at least one
-record Some (ms : List ProjectedControl) : Type 0 where
+record Filled (ms : List ProjectedControl) : Type 0 where
   least : 0 < length ms
   most : length ms ≤ 64
   each : Each ProjectedIn ms
 
-mean_in : (a b c d : ℕ) (f : ProjectedControl → Float) (ms : List ProjectedControl) → Some ms → 64 * (a + b + c + d) ≤ 2 ^ 53 → ((m : ProjectedControl) → ProjectedIn m → Spans a b c d (f m)) → Spans a b c d (mean_of f ms)
+mean_in : (a b c d : ℕ) (f : ProjectedControl → Float) (ms : List ProjectedControl) → Filled ms → 64 * (a + b + c + d) ≤ 2 ^ 53 → ((m : ProjectedControl) → ProjectedIn m → Spans a b c d (f m)) → Spans a b c d (mean_of f ms)
 mean_in a b c d f ms S w g =
     mean_spans a b c d (map f ms) (length ms) (sym (length-map ms f)) S.least (few (length ms) S.most) (all (length ms) S.most) (each_map f ProjectedIn (Spans a b c d) g ms S.each)
   where
@@ -108,14 +107,14 @@ record Centred (a : Metres) (c : ProjectedControl) : Type 0 where
   e : Within 42 (add binary64 a.x c.e)
   n : Sized 20330313 (add binary64 a.y c.n)
 
-east_in : (a : Metres) (ms : List ProjectedControl) → Near a → Some ms → Within 42 (add binary64 a.x (mean_of (east a) ms))
+east_in : (a : Metres) (ms : List ProjectedControl) → Near a → Filled ms → Within 42 (add binary64 a.x (mean_of (east a) ms))
 east_in a ms N S =
     let i = within_spans 40 a.x N.x in
     spans_within 42 (add binary64 a.x (mean_of (east a) ms))
     (looser 0 (2 ^ 42) (2 ^ 42) 0 (lit≤ tt) (lit≤ tt) (add_spans (lit≤ tt) i (mean_in 0 (2 ^ 25 + 2 ^ 40) (2 ^ 25 + 2 ^ 40) 0 (east a) ms S (lit≤ tt) (λ m h. sub_spans (lit≤ tt) h.e i))))
 
 -- with A the anchor's ordinate cut to a whole number, no ordinate is more than 20330312 - A above the anchor; so the mean is not, and A + 1 more is 20330313. Likewise from below
-north_in : (a : Metres) (ms : List ProjectedControl) → Near a → Some ms → Sized 20330313 (add binary64 a.y (mean_of (north a) ms))
+north_in : (a : Metres) (ms : List ProjectedControl) → Near a → Filled ms → Sized 20330313 (add binary64 a.y (mean_of (north a) ms))
 north_in a ms N S =
     let F = floor 40 a.y N.y in
     at F.plus F.minus F.most F.spans
@@ -125,7 +124,7 @@ north_in a ms N S =
         looser 0 20330313 20330313 0 (omega arith) (omega arith)
         (add_spans (omega arith) i (mean_in (0 + q) (20330312 + suc p) (20330312 + q) (0 + p) (north a) ms S (omega arith) (λ m k. sub_spans (omega arith) k.n i)))
 
-centred : (a : Metres) (ms : List ProjectedControl) → Near a → Some ms → Centred a (means_of a ms)
+centred : (a : Metres) (ms : List ProjectedControl) → Near a → Filled ms → Centred a (means_of a ms)
 centred a ms N S = rw (means_are a ms) (record {
   x = mean_in 0 1000000 1000000 0 (λ (m : ProjectedControl). m.x) ms S (lit≤ tt) (λ m h. h.x);
   y = mean_in 0 1000000 1000000 0 (λ (m : ProjectedControl). m.y) ms S (lit≤ tt) (λ m h. h.y);
@@ -157,10 +156,7 @@ ordinate_test = tt
 latitude_in : (y : Float) → Sized 20330313 y → Between m89·5 c89·5 (latitude_of (div binary64 y radius))
 latitude_in y s = anchor_in (div binary64 y radius) (enclosed (over (var 0) (lit radius)) (iv (neg wide) wide ∷ []) (y ∷ []) m3·25 c3·25 ordinate_test (spans_ends 20330313 wide y whole_wide s, tt))
 
-some_no : {A : Type 0} → degenerate.some ≡ true → A
-some_no h = absurd (true≢false (sym h))
-
-fit_at_lem : (a : Metres) (c : ProjectedControl) (A B : Float) → Centred a c → (fit_at a c A B).some ≡ true → Fitted (fit_at a c A B)
+fit_at_lem : (a : Metres) (c : ProjectedControl) (A B : Float) → Centred a c → IfSome (fit_at a c A B) Fitted
 unfolding fit_at
 fit_at_lem a c A B C = go (finite (hypot_of A B) && lt K.zero (hypot_of A B)) (λ t. t)
   where
@@ -171,10 +167,10 @@ fit_at_lem a c A B C = go (finite (hypot_of A B) && lt K.zero (hypot_of A B)) (�
     anchor = mercator_inverse_of o
 
     found : Fit
-    found = record { some = true; lon = anchor.lon; lat = anchor.lat; x = c.x; y = c.y; scale = hypot_of A B; bearing = to_degrees_of (atan2_of (neg B) A) }
+    found = record { lon = anchor.lon; lat = anchor.lat; x = c.x; y = c.y; scale = hypot_of A B; bearing = to_degrees_of (atan2_of (neg B) A) }
 
-    go : (b : Bool) → (T b → T (finite (hypot_of A B) && lt K.zero (hypot_of A B))) → (pick_fit b found degenerate).some ≡ true → Fitted (pick_fit b found degenerate)
-    go true t h =
+    go : (b : Bool) → (T b → T (finite (hypot_of A B) && lt K.zero (hypot_of A B))) → IfSome (if b then Some found else None) Fitted
+    go true t =
         let f = and_l (finite (hypot_of A B)) (lt K.zero (hypot_of A B)) (t tt) in
         let p = hypot_parts A B f in
         record {
@@ -187,46 +183,39 @@ fit_at_lem a c A B C = go (finite (hypot_of A B) && lt K.zero (hypot_of A B)) (�
           bearing = bearing_in (neg B) A (finite_neg B p.1) p.0;
           of_format = unfold to_degrees_of in mul-fits binary64 (atan2_of (neg B) A) (div binary64 K.c180 K.pi);
         }
-    go false t h = some_no h
+    go false t = tt
 
-round_in : (a : Metres) (ms : List ProjectedControl) → Near a → Some ms → (round_of a ms).some ≡ true → Fitted (round_of a ms)
+round_in : (a : Metres) (ms : List ProjectedControl) → Near a → Filled ms → IfSome (round_of a ms) Fitted
 unfolding round_of solved_of
 round_in a ms N S =
     let c = means_of a ms in
     let s = moments_of a c ms no_moments in
     go (le s.den K.zero || not (finite s.den)) (fit_at a c (div binary64 s.a s.den) (div binary64 s.b s.den)) (fit_at_lem a c (div binary64 s.a s.den) (div binary64 s.b s.den) (centred a ms N S))
   where
-    go : (b : Bool) (f : Fit) → (f.some ≡ true → Fitted f) → (pick_fit b degenerate f).some ≡ true → Fitted (pick_fit b degenerate f)
-    go true f k h = some_no h
-    go false f k h = k h
+    go : (b : Bool) (f : Option Fit) → IfSome f Fitted → IfSome (if b then None else f) Fitted
+    go true f k = tt
+    go false f k = k
 
 -- ---- both rounds
-again_in : (f : Fit) (ms : List ProjectedControl) → Some ms → (f.some ≡ true → Fitted f) → (again f ms).some ≡ true → Fitted (again f ms)
+again_in : (f : Option Fit) (ms : List ProjectedControl) → Filled ms → IfSome f Fitted → IfSome (again f ms) Fitted
 unfolding again
-again_in f ms S k = go f.some k
-  where
-    p : LonLat
-    p = record { lon = f.lon; lat = f.lat }
+again_in None ms S F = tt
+again_in (Some f) ms S F =
+    let p : LonLat = record { lon = f.lon; lat = f.lat } in
+    round_in (mercator_forward_of p) ms (record { x = wider 25 40 (mercator_forward_of p).x (lit≤ tt) (forward_east p F.lon); y = forward_anchor p F.lat }) S
 
-    near : Fitted f → Near (mercator_forward_of p)
-    near F = record { x = wider 25 40 (mercator_forward_of p).x (lit≤ tt) (forward_east p F.lon); y = forward_anchor p F.lat }
-
-    go : (b : Bool) → (b ≡ true → Fitted f) → (pick_fit b (round_of (mercator_forward_of p) ms) degenerate).some ≡ true → Fitted (pick_fit b (round_of (mercator_forward_of p) ms) degenerate)
-    go true k h = round_in (mercator_forward_of p) ms (near (k refl)) S h
-    go false k h = some_no h
-
-projected_in_lem : (ms : List ProjectedControl) → length ms ≤ 64 → Each ProjectedIn ms → (fit_projected ms).some ≡ true → Fitted (fit_projected ms)
+projected_in_lem : (ms : List ProjectedControl) → length ms ≤ 64 → Each ProjectedIn ms → IfSome (fit_projected ms) Fitted
 unfolding fit_projected
-projected_in_lem [] l h k = some_no k
-projected_in_lem (m ∷ ms) l h k =
-    let S : Some (m ∷ ms) = record { least = zero-lt-suc (length ms); most = l; each = h } in
+projected_in_lem [] l h = tt
+projected_in_lem (m ∷ ms) l h =
+    let S : Filled (m ∷ ms) = record { least = zero-lt-suc (length ms); most = l; each = h } in
     let a : Metres = record { x = m.e; y = m.n } in
     let N : Near a = record {
       x = spans_within 40 m.e (looser 0 (2 ^ 40) (2 ^ 40) 0 (lit≤ tt) (lit≤ tt) h.0.e);
       y = spans_within 40 m.n (looser 0 (2 ^ 40) (2 ^ 40) 0 (lit≤ tt) (lit≤ tt) h.0.n);
     } in
-    again_in (round_of a (m ∷ ms)) (m ∷ ms) S (round_in a (m ∷ ms) N S) k
+    again_in (round_of a (m ∷ ms)) (m ∷ ms) S (round_in a (m ∷ ms) N S)
 
-pub fit_in : (cs : List Control) → length cs ≤ 64 → Each ControlWithin cs → (fit_of cs).some ≡ true → Fitted (fit_of cs)
+pub fit_in : (cs : List Control) → length cs ≤ 64 → Each ControlWithin cs → IfSome (fit_of cs) Fitted
 unfolding fit_of
-fit_in cs l h k = projected_in_lem (map projected_of cs) (subst (λ (n : ℕ). n ≤ 64) (sym (length-map cs projected_of)) l) (each_map projected_of ControlWithin ProjectedIn projected cs h) k
+fit_in cs l h = projected_in_lem (map projected_of cs) (subst (λ (n : ℕ). n ≤ 64) (sym (length-map cs projected_of)) l) (each_map projected_of ControlWithin ProjectedIn projected cs h)

@@ -1,5 +1,6 @@
-use Rattle.float.proofs.Cases.{finite_test}
+use Rattle.std.proofs.Common.{◌∙◌}
+use Rattle.float.proofs.Cases.{finite_is}
 use Rattle.float.proofs.is_finite.Goals as goal
 
 pub returns : goal.returns
-returns c = finite_test c.args.x
+returns c = c.is_finite.ensures.value ∙ finite_is c.args.x

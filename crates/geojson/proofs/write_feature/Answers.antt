@@ -1,29 +1,13 @@
-use mathlib.Core.Path.{sym}
-use native.Mathlib.Omega.{arith}
-use Prim.Native.Nat.{◌+◌}
-use lib.ListN.{length, length-set}
-use borrow.Author.Tests.{le-leb, lt-leb}
-use Rattle.geojson.specs.Laws.Words.{line-put, lined, unlined}
+use Rattle.std.proofs.Common.{◌+◌, length, refl, arith, leb-false}
+use borrow.Rule.Slice.PartMut.{Post-is}
+use Rattle.values.specs.Slices.{put}
 use Rattle.geojson.proofs.write_feature.Goals as goal
 
-pub returns-then-out-at-lt-FEATURE_WORDS : goal.returns-then-out-at-lt-FEATURE_WORDS
-returns-then-out-at-lt-FEATURE_WORDS c = let a = c.args in
-    record { value = sym (lt-leb (a.at + 6) (length a.out.now) (omega arith)); feature_written = unlined a.out.now a.at a.f (omega arith) }
-
-pub bounds-out-at-2 : goal.bounds-out-at-2
-bounds-out-at-2 c = simp length-set (omega arith)
-
-pub bounds-out-at-3 : goal.bounds-out-at-3
-bounds-out-at-3 c = simp length-set (omega arith)
-
-pub bounds-out-at-4 : goal.bounds-out-at-4
-bounds-out-at-4 c = simp length-set (omega arith)
-
-pub bounds-out-at-5 : goal.bounds-out-at-5
-bounds-out-at-5 c = simp length-set (omega arith)
-
-pub bounds-out-at-6 : goal.bounds-out-at-6
-bounds-out-at-6 c = simp length-set (omega arith)
-
-pub returns : goal.returns
-returns c = let a = c.args in record { value = sym (le-leb (a.at + 6) (length a.out.now) (omega arith)); feature_written = lined a.out.now a.at a.f (omega arith) (line-put a.out.now a.at a.f (omega arith)) }
+pub returns-clause-feature_written : goal.returns-clause-feature_written
+unfolding put
+returns-clause-feature_written c =
+    let a = c.args in
+    record {
+      fits = λ t. rw (c.copy_from_slice.ensures.after, c.number.ensures, c.number-2.ensures, c.number-3.ensures, Post-is a.at (a.at + 6) a.out.now (omega arith)) refl;
+      short = λ t. absurd (omega (arith, leb-false (a.at + 6) (length a.out.now) t));
+    }

@@ -1,8 +1,32 @@
--- A feature line in a lent slice, where it has room.
+-- A feature line of the code by its numbers, and such a line in a lent slice, where it has room.
 use Rattle.std.specs.Prelude.{ℕ, ◌+◌, ◌≡◌, true, false, List, length, leb}
-use Rattle.geojson.specs.declared.Feature.{Feature}
-use Rattle.geojson.specs.Features.{words_of}
+use Rattle.geojson.specs.declared.Geometry.{Geometry}
+use Rattle.geojson.specs.declared.Geometry.TheVariants.{Point, Line, Polygon}
+use Rattle.geojson.specs.declared.Role.{Role}
+use Rattle.geojson.specs.declared.Role.TheVariants.{Drawn, Fill}
+use Rattle.geojson.specs.declared.Feature as code
+use Rattle.geojson.specs.Features.{Feature, words_of, placement_of}
 use Rattle.values.specs.Slices.{put}
+
+abbrev pub geometry_of : Geometry → ℕ
+geometry_of Point = 0
+geometry_of Line = 1
+geometry_of Polygon = 2
+
+abbrev pub role_of : Role → ℕ
+role_of Drawn = 0
+role_of Fill = 1
+
+abbrev pub feature_by : code.Feature → Feature
+feature_by f =
+    record {
+      item = f.item;
+      geometry = geometry_of f.geometry;
+      role = role_of f.role;
+      placement = placement_of f.placement;
+      part = f.part;
+      count = f.count;
+    }
 
 -- written where it has room, and nothing changed where it has none
 pub record FeatureWritten (w w' : List ℕ) (at : ℕ) (f : Feature) : Type 0 where

@@ -1,26 +1,28 @@
-use mathlib.Core.Path.{sym, ◌∙◌}
+use mathlib.Core.Path.{sym}
 use native.Mathlib.Omega.{arith}
+use Rattle.std.proofs.lemmas.Result.{err_from_is_err_and}
 use Rattle.register.specs.Laws.Registrable.{is_registrable}
 use Rattle.geopic.specs.Laws.Calls.{table_opens, stream_opens, registration_opens, registered_opens}
 use Rattle.geopic.proofs.open_stream.Goals as goal
 
-pub returns-then-unusable-ne0 : goal.returns-then-unusable-ne0
-returns-then-unusable-ne0 c = table_opens c.args.s.now c.args.kinds.now c.table_refusal-unusable.ensures c.if-unusable-ne0.true
+pub returns-in_err-check_table : goal.returns-in_err-check_table
+returns-in_err-check_table c =
+    let failed = err_from_is_err_and c.from_residual.result c.from_residual.ensures.1 in
+    rw (failed.1, failed.2) (table_opens c.args.s.now c.args.kinds.now c.in_err-check_table.ensures)
 
-pub returns-then-number-ne0 : goal.returns-then-number-ne0
-returns-then-number-ne0 c = stream_opens c.args.s.now c.args.kinds.now (sym c.table_refusal-unusable.ensures ∙ c.if-unusable-ne0.false) c.refusal-number.ensures c.if-number-ne0.true
+pub returns-in_err-check_stream : goal.returns-in_err-check_stream
+returns-in_err-check_stream c =
+    let failed = err_from_is_err_and c.from_residual-in_err-check_stream.result c.from_residual-in_err-check_stream.ensures.1 in
+    rw (failed.1, failed.2) (stream_opens c.args.s.now c.args.kinds.now (sym c.in_ok-check_table.ensures) c.in_err-check_stream.ensures)
 
-pub register-o-requires : goal.register-o-requires
-register-o-requires c = let read = sym c.refusal-number.ensures ∙ c.if-number-ne0.false in
-    (is_registrable c.args.s.now read c.survey_stream-survey.ensures, c.requires)
+pub register-requires : goal.register-requires
+register-requires c = (is_registrable c.args.s.now (sym c.in_ok-check_stream.ensures) c.survey_stream-survey.ensures, c.requires)
 
-pub returns-then-o-ne0 : goal.returns-then-o-ne0
-returns-then-o-ne0 c = let usable = sym c.table_refusal-unusable.ensures ∙ c.if-unusable-ne0.false in
-    let read = sym c.refusal-number.ensures ∙ c.if-number-ne0.false in
-    registration_opens c.args.s.now c.args.kinds.now usable read c.register-o.ensures.value c.if-o-ne0.true
+pub returns-in_err-r : goal.returns-in_err-r
+returns-in_err-r c =
+    let failed = err_from_is_err_and c.from_residual-in_err-r.result c.from_residual-in_err-r.ensures.1 in
+    rw (failed.1, failed.2) (registration_opens c.args.s.now c.args.kinds.now (sym c.in_ok-check_table.ensures) (sym c.in_ok-check_stream.ensures) c.in_err-r.ensures.value)
 
 pub returns : goal.returns
-returns c = let usable = sym c.table_refusal-unusable.ensures ∙ c.if-unusable-ne0.false in
-    let read = sym c.refusal-number.ensures ∙ c.if-number-ne0.false in
-    let none = c.if-o-ne0.false in
-    registered_opens c.args.s.now c.args.kinds.now usable read c.register-o.ensures.value none c.survey_stream-survey.ensures (omega (arith, c.kept-1.given, c.requires)) (c.register-o.ensures.kept none)
+returns c =
+    registered_opens c.args.s.now c.args.kinds.now (sym c.in_ok-check_table.ensures) (sym c.in_ok-check_stream.ensures) c.in_ok-r.ensures.value c.survey_stream-survey.ensures (omega (arith, c.requires)) c.in_ok-r.ensures.kept

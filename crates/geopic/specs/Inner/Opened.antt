@@ -1,20 +1,16 @@
 -- What an answer of `open_stream` stands for: document 01's number, or the registration.
-use Rattle.std.specs.Prelude.{ℕ, ◌≡◌, List}
+use Rattle.std.specs.Prelude.{ℕ, ◌≡◌, List, Result, IfOk}
 use Rattle.stream.specs.Conditions.{first_of}
 use Rattle.stream.specs.Payload.{payload}
+use Rattle.values.specs.declared.refusal.Refusal.{Refusal}
+use Rattle.values.specs.Inner.Refusals.{number_by}
 use Rattle.scene.specs.Scene.{scene_of}
 use Rattle.projection.specs.declared.Registration.{Registration}
 use Rattle.register.specs.declared.survey.Survey.{Survey}
 use Rattle.register.specs.Register.{registration_of}
 use Rattle.register.specs.Inner.Survey.{Registrable}
 use Rattle.register.specs.Inner.Gathered.{KeptControls}
-use Rattle.geopic.specs.declared.Opened.{Opened}
-use Rattle.geopic.specs.declared.Opened.TheVariants.{Refused, Registered}
 use Rattle.geopic.specs.Geopic.{early}
-
-abbrev pub number_by : Opened → ℕ
-number_by (Refused n) = n
-number_by (Registered v r) = 0
 
 -- no early condition holds, and these are the scene's
 pub record Registers (s kinds : List ℕ) (v : Survey) (r : Registration) (kept : List ℕ) : Type 0 where
@@ -23,11 +19,7 @@ pub record Registers (s kinds : List ℕ) (v : Survey) (r : Registration) (kept 
   pub registrable : Registrable s v
   pub controls : KeptControls (scene_of (payload s)) r.controls kept
 
-abbrev pub OpenedAs : List ℕ → List ℕ → List ℕ → Opened → Type 0
-OpenedAs s kinds kept (Refused n) = n ≡ 0 → ⊥
-OpenedAs s kinds kept (Registered v r) = Registers s kinds v r kept
-
 -- the number of the first early condition that holds; the registration where none does
-pub record Opens (s kinds kept : List ℕ) (o : Opened) : Type 0 where
+pub record Opens (s kinds kept : List ℕ) (o : Result (Survey × Registration) Refusal) : Type 0 where
   pub number : number_by o ≡ first_of (early s kinds)
-  pub comes : OpenedAs s kinds kept o
+  pub comes : IfOk o (λ p. Registers s kinds p.0 p.1 kept)

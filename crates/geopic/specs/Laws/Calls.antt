@@ -1,5 +1,5 @@
 -- What the host's call draws and answers, case by case. Assumes nothing.
-use Rattle.std.specs.Prelude.{ℕ, ◌+◌, ◌≡◌, Bool, cond, List, [], ◌∷◌, map, length, leb, Float}
+use Rattle.std.specs.Prelude.{ℕ, ◌+◌, ◌≡◌, Bool, cond, List, [], ◌∷◌, map, length, leb, Float, Result, Ok, Err}
 use Rattle.std.proofs.Math.Path.{refl}
 use Rattle.std.proofs.Common.{sym, ap, subst, ◌∙◌, arith}
 use Rattle.std.proofs.Math.Bool.{true, false}
@@ -16,14 +16,15 @@ use Rattle.scene.specs.Laws.Answers.{scene_lists}
 use Rattle.projection.specs.declared.Projection.{Projection}
 use Rattle.projection.specs.declared.Registration.{Registration}
 use Rattle.projection.specs.Projection.{projection_of}
-use Rattle.values.specs.declared.WarningCursor.{WarningCursor}
-use Rattle.register.specs.declared.outcome.Outcome.{Outcome}
+use Rattle.values.specs.declared.refusal.Refusal.{Refusal}
+use Rattle.values.specs.declared.refusal.Refusal.TheVariants.{WarningRoom}
+use Rattle.values.specs.Inner.Refusals as refusals
 use Rattle.register.specs.declared.survey.Survey.{Survey}
 use Rattle.register.specs.Inner.Survey.{Surveyed}
 use Rattle.register.specs.Inner.Gathered.{Kept}
 use Rattle.register.specs.Register.{f0, registration_of, register_warnings}
 use Rattle.values.specs.Warnings.{Warning}
-use Rattle.register.specs.Inner.Outcome.{register_refusal, accepted, refused_by, pick_outcome, outcome_of}
+use Rattle.register.specs.Inner.Outcome.{Outcome, outcome_by, register_refusal, accepted, refused_by, pick_outcome, outcome_of}
 use Rattle.register.specs.Laws.Kept.{controls_are}
 use Rattle.register.specs.Laws.Registrable.{is_registrable}
 use Rattle.values.specs.Inner.Warnings.{WarningSlice, pushed, all_pushed}
@@ -35,13 +36,11 @@ use Rattle.geopic.specs.declared.Answer.{Answer}
 use Rattle.convert.specs.Convert.{convert_of}
 use Rattle.strokes.specs.Strokes.{warned, Trace}
 use Rattle.strokes.specs.Space.{Output, out_of_room, with_warning}
-use Rattle.strokes.specs.Inner.Space.{output_by, Fits, Applied}
+use Rattle.strokes.specs.Inner.Space.{state_by, output_by, Fits, Applied}
 use Rattle.geopic.specs.Geopic.{ctx_of, trace_of, Buffers, unused, output_of, early, conditions, number_of, refusal, acceptance, answer_of, clear, slice_by, buffers_after}
-use Rattle.strokes.specs.Laws.Applying.{applied_no_events, applied_stuck, applied_then}
+use Rattle.strokes.specs.Laws.Applying.{applied_no_events, applied_stuck, applied_then, applied_err, applied_stop, refused_some}
 use Rattle.strokes.specs.Laws.Events.{warned_fits, warned_lacks}
-use Rattle.geopic.specs.declared.Opened.{Opened}
-use Rattle.geopic.specs.declared.Opened.TheVariants.{Refused, Registered}
-use Rattle.geopic.specs.Inner.Opened.{number_by, Registers, OpenedAs, Opens}
+use Rattle.geopic.specs.Inner.Opened.{Opens}
 use Rattle.geopic.specs.Laws.Conditions.{number_is, early-table, early-stream, early_registration, by_early, by_space}
 
 -- ---- the registration's warnings: what `register` pushes is what is played
@@ -112,25 +111,38 @@ module _ (s : List ℕ) where
   abbrev sc : Scene
   sc = scene_of (payload s)
 
-  module _ (tier : ℕ) (t : Buffers) {v : List ℕ} {w : WarningCursor} {number : ℕ} {whole : Budget} (told : record { out = v; cursor = w } ≡ all_pushed (register_warnings sc) (pushing t.warnings true 0))
-      (short : number ≡ cond w.ok 0 18) (is : whole ≡ fresh (allowance_of tier)) where
+  module _ (tier : ℕ) (t : Buffers) {v : List ℕ} {n : ℕ} {ok : Bool} (told : record { out = v; cursor = record { ok = ok; used = n } } ≡ all_pushed (register_warnings sc) (pushing t.warnings true 0)) where
+    room : {whole : Budget} → whole ≡ fresh (allowance_of tier) → Fits (unused t) whole
+    room is = record { positions = omega arith; features = omega arith; warnings = omega arith; left = rw is (omega (arith, allowance-most tier)) }
+
+    warns : {whole : Budget} → whole ≡ fresh (allowance_of tier) → Applied (telling (register_warnings sc) whole) (unused t) (told_by (unused t) (pushing v ok n)) whole
+    warns {whole} is =
+        subst (λ (r : Pushed). Applied (telling (register_warnings sc) whole) (unused t) (told_by (unused t) r) whole) (sym told)
+        (all_told (register_warnings sc) whole (unused t) refl (room is))
+
+  -- the warnings have room
+  module _ (tier : ℕ) (t : Buffers) {v : List ℕ} {n : ℕ} (told : record { out = v; cursor = record { ok = true; used = n } } ≡ all_pushed (register_warnings sc) (pushing t.warnings true 0))
+      {whole : Budget} (is : whole ≡ fresh (allowance_of tier)) where
     -- the sheet with which the items begin
     abbrev begin : Output
-    begin = output_by (length t.work) t.positions t.features v (record { number = number; positions = 0; features = 0; warnings = w.used; budget = whole })
-
-    room : Fits (unused t) whole
-    room = record { positions = omega arith; features = omega arith; warnings = omega arith; left = rw is (omega (arith, allowance-most tier)) }
+    begin = output_by (length t.work) t.positions t.features v (Ok (record { positions = 0; features = 0; warnings = n; budget = whole }))
 
     pub begun : Applied (telling (register_warnings sc) whole) (unused t) begin whole
-    begun =
-        rw short
-        (subst (λ (r : Pushed). Applied (telling (register_warnings sc) whole) (unused t) (told_by (unused t) r) whole) (sym told)
-        (all_told (register_warnings sc) whole (unused t) refl room))
+    begun = warns tier t told is
 
     pub drawn : (kinds : List ℕ) {r : Registration} {p : Projection} {step tol : Float} {u : Output} {b : Budget} → r ≡ registration_of sc → p ≡ projection_of r → step ≡ sc.step → tol ≡ sc.flatten
         → Applied (convert_of (entry_of kinds) (record { projection = p; step = step; flatten = tol }) (items_at (payload s) 0) whole) begin u b → Applied (trace_of kinds (allowance_of tier) sc) (unused t) u b
     unfolding trace_of
     drawn kinds e f g h d = rw (← is) (applied_then (convert_of (entry_of kinds) (ctx_of sc) sc.items) begun (rw (f, e, g, h, ← (scene_lists (payload s)).3) at d))
+
+  -- a warning lacks room
+  pub warning_lacks : (kinds : List ℕ) (tier : ℕ) (t : Buffers) {v : List ℕ} {n : ℕ}
+      → record { out = v; cursor = record { ok = false; used = n } } ≡ all_pushed (register_warnings sc) (pushing t.warnings true 0)
+      → Applied (trace_of kinds (allowance_of tier) sc) (unused t) (output_by (length t.work) t.positions t.features v (Err WarningRoom)) (state_by (Err WarningRoom)).budget
+  unfolding trace_of
+  warning_lacks kinds tier t told =
+      applied_stop WarningRoom (convert_of (entry_of kinds) (ctx_of sc) sc.items)
+      (applied_err WarningRoom refl (warns tier t told {whole = fresh (allowance_of tier)} refl))
 
 -- ---- what registration says
 module _ (sc : Scene) {o : Outcome} (e : o ≡ outcome_of sc) where
@@ -218,38 +230,32 @@ module _ (s kinds : List ℕ) (tier : ℕ) (t : Buffers) where
 
 -- ---- what `open_stream` comes to
 module _ (s kinds : List ℕ) where
-  pub table_opens : {kept : List ℕ} {n : ℕ} → n ≡ first_of (of_kind_table kinds) → (n ≡ 0 → ⊥) → Opens s kinds kept (Refused n)
-  table_opens e some = record { number = e ∙ sym (early-table s kinds (λ z. some (e ∙ z))); comes = some }
+  pub table_opens : {kept : List ℕ} {e : Refusal} → refusals.number_of e ≡ first_of (of_kind_table kinds) → Opens s kinds kept (Err e)
+  table_opens {e = e} is = record { number = is ∙ sym (early-table s kinds (λ z. refused_some e (is ∙ z))); comes = tt }
 
-  pub stream_opens : {kept : List ℕ} {n : ℕ} → first_of (of_kind_table kinds) ≡ 0 → n ≡ refusal_of s → (n ≡ 0 → ⊥) → Opens s kinds kept (Refused n)
-  stream_opens usable e some = record { number = e ∙ sym (early-stream s kinds usable (λ z. some (e ∙ z))); comes = some }
+  module _ (usable : first_of (of_kind_table kinds) ≡ 0) where
+    pub stream_opens : {kept : List ℕ} {e : Refusal} → refusals.number_of e ≡ refusal_of s → Opens s kinds kept (Err e)
+    stream_opens {e = e} is = record { number = is ∙ sym (early-stream s kinds usable (λ z. refused_some e (is ∙ z))); comes = tt }
 
-  module _ (usable : first_of (of_kind_table kinds) ≡ 0) (read : refusal_of s ≡ 0) {o : Outcome} (is : o ≡ outcome_of (sc s)) where
-    number : o.number ≡ first_of (early s kinds)
-    number = outcome_number (sc s) is ∙ sym (early_registration s kinds usable read)
+    module _ (read : refusal_of s ≡ 0) where
+      number : (o : Result Registration Refusal) → outcome_by o ≡ outcome_of (sc s) → refusals.number_by o ≡ first_of (early s kinds)
+      number (Ok r) is = outcome_number (sc s) is ∙ sym (early_registration s kinds usable read)
+      number (Err e) is = outcome_number (sc s) is ∙ sym (early_registration s kinds usable read)
 
-    pub registration_opens : {kept : List ℕ} → (o.number ≡ 0 → ⊥) → Opens s kinds kept (Refused o.number)
-    registration_opens some = record { number = number; comes = some }
+      pub registration_opens : {kept : List ℕ} {e : Refusal} → outcome_by (Err e) ≡ outcome_of (sc s) → Opens s kinds kept (Err e)
+      registration_opens {e = e} is = record { number = number (Err e) is; comes = tt }
 
-    pub registered_opens : {v : Survey} {kept : List ℕ} → o.number ≡ 0 → Surveyed (payload s) v → length kept ≡ 64 → Kept (scene_of (payload s)) kept → Opens s kinds kept (Registered v o.registration)
-    registered_opens z w n k =
-        let none = sym number ∙ z in
-        let r = outcome_is (sc s) is z in
-        record {
-          number = sym none;
-          comes =
-              record {
-                none = none;
-                is = r;
-                registrable = is_registrable s read w;
-                controls = record { count = controls_are (sc s) r; kept-room = n; numbers = k };
-              };
-        }
-
-  -- the same by the answer's case
-  module _ {kept : List ℕ} {o : Opened} (h : Opens s kinds kept o) where
-    pub is-registered : {v : Survey} {r : Registration} → o ≡ Registered v r → Registers s kinds v r kept
-    is-registered e = subst (λ (x : Opened). OpenedAs s kinds kept x) e h.comes
-
-    pub is_refused : {n : ℕ} → o ≡ Refused n → (n ≡ first_of (early s kinds)) × (n ≡ 0 → ⊥)
-    is_refused e = (sym (ap number_by e) ∙ h.number, subst (λ (x : Opened). OpenedAs s kinds kept x) e h.comes)
+      pub registered_opens : {v : Survey} {r : Registration} {kept : List ℕ} → outcome_by (Ok r) ≡ outcome_of (sc s) → Surveyed (payload s) v → length kept ≡ 64 → Kept (scene_of (payload s)) kept → Opens s kinds kept (Ok (v, r))
+      registered_opens {r = r} is w n k =
+          let none = number (Ok r) is in
+          let same = outcome_is (sc s) is refl in
+          record {
+            number = none;
+            comes =
+                record {
+                  none = sym none;
+                  is = same;
+                  registrable = is_registrable s read w;
+                  controls = record { count = controls_are (sc s) same; kept-room = n; numbers = k };
+                };
+          }

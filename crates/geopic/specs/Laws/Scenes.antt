@@ -1,5 +1,5 @@
 -- What an accepted stream's events are, and what the host then holds. Assumes nothing.
-use Rattle.std.specs.Prelude.{ℕ, zero, suc, ◌*◌, ◌/◌, ◌≡◌, Bool, true, false, not, ◌&&◌, cond, length, drop, eqb, Float}
+use Rattle.std.specs.Prelude.{ℕ, zero, suc, ◌*◌, ◌/◌, ◌≡◌, Bool, true, false, not, ◌&&◌, cond, length, drop, eqb, Float, Option, None, Some, is_some}
 use Rattle.std.proofs.Math.Path.{refl, sym, ap}
 use Rattle.std.proofs.Common.{◌∙◌, arith, eq-eqb}
 use Rattle.std.proofs.lemmas.Bool.{false≢true}
@@ -7,15 +7,12 @@ use mathlib.Core.List.{List, [], ◌∷◌, ◌++◌, map}
 use Rattle.std.specs.Float.Ieee.{lt}
 use Rattle.stream.specs.Conditions.{first_of}
 use Rattle.stream.specs.Payload.{payload}
-use Rattle.stream.specs.declared.Float64.{Float64}
-use Rattle.stream.specs.declared.Float64.TheVariants.{Finite, NotFinite}
 use Rattle.records.specs.Limits.{is_finite}
 use Rattle.records.specs.Values.{one, thousand, step_in, outside_bounds}
 use Rattle.records.specs.Laws.Refusals.{is-step, is_finite_step}
 use Rattle.kind_table.specs.KindTable.{entry_of}
 use Rattle.scene.specs.Scene.{value_of, NamedFeature, NamedValue, Scene, scene_of}
 use Rattle.values.specs.declared.Point.{Point}
-use Rattle.values.specs.Maybe.{Maybe, none, some, is_some}
 use Rattle.projection.specs.Projection.{geo_of, project_point}
 use Rattle.projection.specs.Laws.Projects.{geo_projects}
 use Rattle.register.specs.Register as register
@@ -65,23 +62,23 @@ unfolding any_of_kind
 only_no_six true w h = rw h
 only_no_six false w h = refl
 
-event_no_six : (m : Maybe Point) (b : Bool) (lon lat : Float) (lost again : Warning) (es : List register.Event) → eqb lost.kind 6 ≡ false → eqb again.kind 6 ≡ false
+event_no_six : (m : Option Point) (b : Bool) (lon lat : Float) (lost again : Warning) (es : List register.Event) → eqb lost.kind 6 ≡ false → eqb again.kind 6 ≡ false
     → NoSix (register.warnings_in es) → NoSix (register.warnings_in (event_of m b lon lat lost again ∷ es))
 unfolding event_of register.warnings_in any_of_kind
-event_no_six none b lon lat lost again es h k n = rw h n
-event_no_six (some p) true lon lat lost again es h k n = rw k n
-event_no_six (some p) false lon lat lost again es h k n = n
+event_no_six None b lon lat lost again es h k n = rw h n
+event_no_six (Some p) true lon lat lost again es h k n = rw k n
+event_no_six (Some p) false lon lat lost again es h k n = n
 
 features_no_six : (sc : Scene) (i : ℕ) (fs : List NamedFeature) (es : List register.Event) → NoSix (register.warnings_in es) → NoSix (register.warnings_in (feature_events sc i fs ++ es))
 unfolding feature_events feature_event
 features_no_six sc i [] es n = n
 features_no_six sc i (f ∷ fs) es n = event_no_six _ _ _ _ _ _ _ refl refl (features_no_six sc (suc i) fs es n)
 
-lon_no_six : (sc : Scene) (i : ℕ) (name : List ℕ) (lon : Float) (m : Maybe Float) (es : List register.Event) → NoSix (register.warnings_in es)
+lon_no_six : (sc : Scene) (i : ℕ) (name : List ℕ) (lon : Float) (m : Option Float) (es : List register.Event) → NoSix (register.warnings_in es)
     → NoSix (register.warnings_in (lon_event sc i name lon m ∷ es))
 unfolding lon_event register.warnings_in any_of_kind
-lon_no_six sc i name lon none es n = n
-lon_no_six sc i name lon (some lat) es n =
+lon_no_six sc i name lon None es n = n
+lon_no_six sc i name lon (Some lat) es n =
     event_no_six (resolved sc name) (mentioned name sc.features) lon lat (record { kind = 2; index = i }) (record { kind = 3; index = i }) es refl refl n
 
 onto_no_six : (b : Bool) (e : register.Event) (es : List register.Event) → NoSix (register.warnings_in (e ∷ es)) → NoSix (register.warnings_in es) → NoSix (register.warnings_in (cons_if b e es))
@@ -152,10 +149,10 @@ module _ (sc : Scene) (kinds : List ℕ) (allowance : ℕ) where
       ∙ rw (register_no_six sc) (spent-warned (entry_of kinds) (ctx_of sc) sc.items (fresh allowance))
 
 -- ---- a step that condition 19 lets pass
-within_bounds : (x : Float64) → is_finite x ≡ true → outside_bounds x ≡ false → (x ≡ Finite (value_of x)) × (lt (value_of x) one ≡ false) × (lt thousand (value_of x) ≡ false)
+within_bounds : (x : Option Float) → is_finite x ≡ true → outside_bounds x ≡ false → (x ≡ Some (value_of x)) × (lt (value_of x) one ≡ false) × (lt thousand (value_of x) ≡ false)
 unfolding is_finite outside_bounds value_of
-within_bounds NotFinite f h = absurd (false≢true f)
-within_bounds (Finite v) f h = let n = both_false (lt v one) (lt thousand v) h in (refl, n.0, n.1)
+within_bounds None f h = absurd (false≢true f)
+within_bounds (Some v) f h = let n = both_false (lt v one) (lt thousand v) h in (refl, n.0, n.1)
 
 module _ (s : List ℕ) where
   abbrev sc : Scene
@@ -185,7 +182,7 @@ module _ (s : List ℕ) where
         rw (warnings_features (register_warnings sc))
         (convert_well_formed (entry_of kinds) (registration_of sc) sc.step sc.flatten sc.items (fresh allowance) (accepted_sound s read registered) (accepted_tame s read).points.items)
 
-    pub scene-step : (step_in (payload s) ≡ Finite sc.step) × (lt sc.step one ≡ false) × (lt thousand sc.step ≡ false)
+    pub scene-step : (step_in (payload s) ≡ Some sc.step) × (lt sc.step one ≡ false) × (lt thousand sc.step ≡ false)
     unfolding scene_of
     scene-step = let read = (early-none s kinds is-early).0 in within_bounds (step_in (payload s)) (is_finite_step s read) (is-step s read)
 

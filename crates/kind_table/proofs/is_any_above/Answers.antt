@@ -1,16 +1,10 @@
-use native.Mathlib.Omega.{arith}
-use mathlib.Core.Path.{refl}
-use Rattle.kind_table.specs.Laws.KindTable.{above_here, above-later, above-none}
+use Rattle.std.proofs.Common.{ltb, ◌∙◌, rules, tests}
+use Rattle.std.proofs.lemmas.Iterator.{YieldsList-from_slice}
+use Rattle.std.proofs.lemmas.Iterator.Search.{any_from_yields_List}
+use Rattle.kind_table.specs.Laws.KindTable.{any_above_listed}
 use Rattle.kind_table.proofs.is_any_above.Goals as goal
 
-pub loop-k-init : goal.loop-k-init
-loop-k-init c = (omega arith, refl, refl)
-
-pub returns-then-kinds-k-gt-NOT_DRAWN : goal.returns-then-kinds-k-gt-NOT_DRAWN
-returns-then-kinds-k-gt-NOT_DRAWN c = above_here _ _ c.loop-k.invariant.2 c.loop-k-test.true c.if-kinds-k-gt-NOT_DRAWN.true
-
-pub loop-k-preserved : goal.loop-k-preserved
-loop-k-preserved c = (omega arith, refl, above-later _ _ c.loop-k.invariant.2 c.loop-k-test.true (omega arith))
-
 pub returns : goal.returns
-returns c = above-none c.args.kinds.now c.loop-k.k c.loop-k.invariant.2 (omega arith)
+returns c =
+    any_from_yields_List (ltb 2) _ _ _ c.any.ensures.ran (YieldsList-from_slice c.args.kinds.now cc) (λ x b q k. search (rules, tests))
+    ∙ any_above_listed c.args.kinds.now

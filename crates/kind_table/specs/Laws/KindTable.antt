@@ -1,8 +1,7 @@
 -- The table's entries one by one, condition 20, and the built-in table beside the rule that stood in its place. Assumes nothing.
-use Rattle.std.specs.Prelude.{ℕ, zero, suc, ◌+◌, ◌<◌, ◌≤◌, ◌≡◌, true, false, ◌||◌, cond, List, [], ◌∷◌, length, drop, get_or, eqb}
-use Rattle.std.proofs.Math.Path.{refl, sym}
-use Rattle.std.proofs.Common.{◌∙◌, add-one, arith, drop_of_length-le, drop-cons}
-use borrow.Author.Tests.{lt-ltb, le-ltb, eq-eqb, ne_eqb}
+use Rattle.std.specs.Prelude.{ℕ, zero, suc, ◌+◌, ◌<◌, ◌≤◌, ◌≡◌, true, false, ◌||◌, cond, List, [], ◌∷◌, length, get_or, eqb, ltb}
+use Rattle.std.specs.List.{list_any}
+use Rattle.std.proofs.Common.{refl, arith, eq-eqb, ne_eqb}
 use Rattle.stream.specs.Conditions.{first_of}
 use Rattle.stream.specs.Laws.Conditions.{Numbered}
 use Rattle.kind_table.specs.KindTable.{entry_of, any_above, unusable, of_kind_table, built_in}
@@ -24,19 +23,11 @@ entry_none [] k h = refl
 entry_none (e ∷ es) zero h = absurd (omega arith)
 entry_none (e ∷ es) (suc k) h = entry_none es k (omega arith)
 
--- ---- the entries from the k-th on, where none before it is above 2
-module _ (kinds : List ℕ) (k : ℕ) (so : any_above kinds ≡ any_above (drop k kinds)) where
-  pub above_here : k < length kinds → 2 < get_or kinds k 0 → true ≡ any_above kinds
-  unfolding any_above
-  above_here h above = sym (so ∙ rw (drop-cons kinds k 0 h, lt-ltb 2 (get_or kinds k 0) above) refl)
-
-  pub above-later : k < length kinds → get_or kinds k 0 ≤ 2 → any_above kinds ≡ any_above (drop (k + 1) kinds)
-  unfolding any_above
-  above-later h within = so ∙ rw (drop-cons kinds k 0 h, le-ltb 2 (get_or kinds k 0) within, add-one) refl
-
-  pub above-none : length kinds ≤ k → false ≡ any_above kinds
-  unfolding any_above
-  above-none h = sym (so ∙ rw (drop_of_length-le kinds {i = k} h) refl)
+-- ---- std's test of all entries
+pub any_above_listed : (kinds : List ℕ) → list_any (ltb 2) kinds ≡ any_above kinds
+unfolding any_above
+any_above_listed [] = refl
+any_above_listed (e ∷ es) = rw (any_above_listed es)
 
 -- ---- condition 20, test by test
 module _ (kinds : List ℕ) where

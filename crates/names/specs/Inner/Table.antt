@@ -1,10 +1,12 @@
 -- A table of names: entries, each the position of a name's length in the payload, in the order of the names, none
 -- twice. Lengths are `more` too great: 4 where the names are those of `_lon` variables without their ending.
-use Rattle.std.specs.Prelude.{◌≡◌, ◌⊎◌, Bool, true, false, cond, List, ◌∷◌, ℕ, zero, suc, ◌+◌, ◌-◌, ◌/◌, ◌%◌, ◌≤◌, ◌<◌, length, get_or, eqb}
+use Rattle.std.specs.Prelude.{◌≡◌, ◌⊎◌, true, cond, Result, MatchResult, List, ◌∷◌, ℕ, zero, suc, ◌+◌, ◌-◌, ◌/◌, ◌%◌, ◌≤◌, ◌<◌, length, get_or, eqb}
+use Rattle.std.specs.declared.cmp.Ordering.{Ordering}
+use Rattle.std.specs.Ordering.{nat_cmp}
+use Rattle.std.specs.Cmp.Lexicographic.{slice_cmp}
 use Rattle.stream.specs.Inner.Payload.{room}
 use Rattle.records.specs.Layout.{before}
 use Rattle.records.specs.Records.{bytes_at}
-use Rattle.scene.specs.Labels.{same_bytes}
 
 -- the name whose length stands at p
 unfoldable pub name_at : ℕ → List ℕ → ℕ → List ℕ
@@ -21,8 +23,8 @@ mark_of e = e / 33554432
 abbrev pub key_of : List ℕ → List ℕ
 key_of x = length x ∷ x
 
-unfoldable pub order_of : List ℕ → List ℕ → ℕ
-order_of a b = cond (same_bytes a b) 1 (cond (before (key_of a) (key_of b)) 0 2)
+unfoldable pub order_of : List ℕ → List ℕ → Ordering
+order_of a b = slice_cmp nat_cmp (key_of a) (key_of b)
 
 -- a name stands at p, with eight more bytes behind it
 pub record NameFits (more : ℕ) (l : List ℕ) (p : ℕ) : Type 0 where
@@ -61,6 +63,11 @@ pub record Contains (more : ℕ) (l t : List ℕ) (n : ℕ) (x : List ℕ) : Typ
   pub within : at < n
   pub is : name_of more l (get_or t at 0) ≡ x
 
+-- it is the one at k
+pub record Stands (more : ℕ) (l t : List ℕ) (n : ℕ) (x : List ℕ) (k : ℕ) : Type 0 where
+  pub within : k < n
+  pub is : name_of more l (get_or t k 0) ≡ x
+
 -- none is, and x belongs at k
 pub record Gap (more : ℕ) (l t : List ℕ) (n : ℕ) (x : List ℕ) (k : ℕ) : Type 0 where
   pub within : k ≤ n
@@ -68,16 +75,8 @@ pub record Gap (more : ℕ) (l t : List ℕ) (n : ℕ) (x : List ℕ) (k : ℕ) 
   pub high : (i : ℕ) → k ≤ i → i < n → before (key_of x) (key_of (name_of more l (get_or t i 0))) ≡ true
 
 -- what a search for x says
-pub record Searched (more : ℕ) (l t : List ℕ) (n : ℕ) (x : List ℕ) (b : Bool) (k : ℕ) : Type 0 where
-  pub within : b ≡ true → k < n
-  pub is : b ≡ true → name_of more l (get_or t k 0) ≡ x
-  pub gap : b ≡ false → Gap more l t n x k
-
--- entries from `at` to n - 1 moved up by one
-pub record ShiftedUp (t t' : List ℕ) (at n : ℕ) : Type 0 where
-  pub size : length t' ≡ length t
-  pub low : (i : ℕ) → i ≤ at → get_or t' i 0 ≡ get_or t i 0
-  pub high : (i : ℕ) → at ≤ i → i < n → get_or t' (i + 1) 0 ≡ get_or t i 0
+abbrev pub Searched : ℕ → List ℕ → List ℕ → ℕ → List ℕ → Result ℕ ℕ → Type 0
+Searched more l t n x r = MatchResult r (Stands more l t n x) (Gap more l t n x)
 
 -- x became one of them, unless it was
 pub record Inserted (more : ℕ) (l t t' : List ℕ) (n r : ℕ) (x : List ℕ) : Type 0 where

@@ -1,16 +1,13 @@
 -- `geo_by` in stages: the longitude that is given out with the ordinate on the plane, and the latitude of the arc tangent
 -- of its exponential.
-use Rattle.std.specs.Prelude.{Float}
+use Rattle.std.specs.Prelude.{◌≡◌, Float}
 use Rattle.std.specs.Float.{binary64}
 use Rattle.std.specs.Float.Ieee.{neg, add, sub, mul}
 use Rattle.geodesy.specs.declared.LonLat.{LonLat}
 use Rattle.geodesy.specs.declared.Metres.{Metres}
 use Rattle.geodesy.specs.Inner.Stages.{longitude_of, latitude_of}
 use Rattle.values.specs.declared.Point.{Point}
-use Rattle.elementary.specs.Inner.Stages.{atan_first, atan_second, atan_third}
 use Rattle.projection.specs.declared.Projection.{Projection}
-use Rattle.projection.specs.declared.project.Stage.{Stage}
-use Rattle.projection.specs.declared.project.Stage.TheVariants.{First, Second, Last}
 use Rattle.projection.specs.Projection.{round9_of}
 
 -- the point's position on the plane
@@ -33,10 +30,9 @@ rounded_latitude_of a = round9_of (latitude_of a)
 unfoldable pub plane_stage_by : Projection → Point → Point
 plane_stage_by t p = let g = plane_stage_of t p.x p.y in record { x = g.lon; y = g.lat }
 
-unfoldable pub stage_of : Stage → Float → Float
-stage_of First v = atan_first v
-stage_of Second v = atan_second v
-stage_of Last v = rounded_latitude_of (atan_third v)
+-- the results that `post` allows are those of g
+abbrev pub AreOf : (Float → Float → Type 0) → (Float → Float) → Type 0
+AreOf post g = (v r : Float) → post v r → r ≡ g v
 
 -- x as it is
 abbrev pub on_y : (Float → Float) → Point → Point

@@ -17,9 +17,9 @@ use Rattle.values.specs.Laws.Points.{flats-length, put_next, points-count, point
 use Rattle.geodesy.specs.declared.LonLat.{LonLat}
 use Rattle.geodesy.specs.Inner.Stages.{exp_ordinate_of}
 use Rattle.projection.specs.declared.Projection.{Projection}
-use Rattle.projection.specs.declared.project.Stage.TheVariants.{First, Second, Last}
+use Rattle.elementary.specs.Inner.Stages.{atan_first, atan_second, atan_third}
 use Rattle.projection.specs.Projection.{geo_by, project_point}
-use Rattle.projection.specs.Inner.Stages.{plane_stage_of, plane_stage_by, stage_of, on_y}
+use Rattle.projection.specs.Inner.Stages.{plane_stage_of, plane_stage_by, rounded_latitude_of, on_y}
 use Rattle.projection.specs.Laws.Project.{geo_staged}
 
 -- the two stores of one point more
@@ -35,11 +35,11 @@ pub record Passed (f : Point → Point) (w₀ : List Float) (from to : ℕ) (w :
   pub holds : w ≡ in_place f w₀ from i
   pub kept : length w ≡ length w₀
 
-pub pass_start : (f : Point → Point) (w : List Float) (from to : ℕ) → from ≤ to → to ≤ length w → Passed f w from to w from
+pub pass_start : (f : Point → Point) (w : List Float) (from to : ℕ) {i : ℕ} → i ≡ from → from ≤ to → to ≤ length w → Passed f w from to w i
 unfolding in_place points_in points_of flats
-pass_start f w from to h k =
-    let n : (from - from) / 2 ≡ 0 = omega arith in
-    record { within = h; room = k; even = omega arith; holds = rw n (sym (put-none w from)); kept = refl }
+pass_start f w from to {i} e h k =
+    let n : (i - from) / 2 ≡ 0 = omega arith in
+    record { within = omega arith; room = k; even = omega arith; holds = rw n (sym (put-none w from)); kept = refl }
 
 module _ {f : Point → Point} {w₀ : List Float} {from to : ℕ} {w : List Float} {i : ℕ} (h : Passed f w₀ from to w i) where
   pub pass_end : to < i + 2 → w ≡ in_place f w₀ from to
@@ -60,10 +60,10 @@ module _ {f : Point → Point} {w₀ : List Float} {from to : ℕ} {w : List Flo
   here j k = rw same (value_behind w₀ from (flats done) (omega arith) nan j (omega (arith, end)))
 
   -- the two stores of a point
-  pub pass_turn : i + 2 ≤ to → (p : Point) → p ≡ f (point_of w i) → Passed f w₀ from to (set (set w i p.x) (i + 1) p.y) (i + 2)
+  pub pass_turn : {j : ℕ} → j ≡ i + 2 → j ≤ to → (p : Point) → p ≡ f (point_of w i) → Passed f w₀ from to (set (set w i p.x) (i + 1) p.y) j
   unfolding in_place points_in
-  pass_turn k p e =
-      let n : (i + 2 - from) / 2 ≡ suc ((i - from) / 2) = omega arith in
+  pass_turn {j} d k p e =
+      let n : (j - from) / 2 ≡ suc ((i - from) / 2) = omega arith in
       let next : map f (points_of w₀ from (suc ((i - from) / 2))) ≡ done ++ (p ∷ []) =
       rw (points_last, map-append, ← h.even, e, here i (omega arith), here (i + 1) (omega arith)) in
       record {
@@ -76,21 +76,20 @@ module _ {f : Point → Point} {w₀ : List Float} {from to : ℕ} {w : List Flo
 
 -- no point
 pub pass_none : (f : Point → Point) (w : List Float) (from to : ℕ) → from ≤ to → to ≤ length w → to < from + 2 → w ≡ in_place f w from to
-pass_none f w from to h k few = pass_end (pass_start f w from to h k) few
+pass_none f w from to h k few = pass_end (pass_start f w from to refl h k) few
 
 -- the one store of a y
-pub pass_turn_y : (g : Float → Float) {w₀ : List Float} {from to : ℕ} {w : List Float} {i : ℕ} → Passed (on_y g) w₀ from to w i → i + 2 ≤ to
-    → (y : Float) → y ≡ g (get_or w (i + 1) nan) → Passed (on_y g) w₀ from to (set w (i + 1) y) (i + 2)
-pass_turn_y g {w = w} {i = i} h k y e = rw (set-get_or w i nan) at (pass_turn h k (record { x = get_or w i nan; y = y }) (rw e))
+pub pass_turn_y : (g : Float → Float) {w₀ : List Float} {from to : ℕ} {w : List Float} {i j : ℕ} → Passed (on_y g) w₀ from to w i → j ≡ i + 2 → j ≤ to
+    → (y : Float) → y ≡ g (get_or w (i + 1) nan) → Passed (on_y g) w₀ from to (set w (i + 1) y) j
+pass_turn_y g {w = w} {i = i} h d k y e = rw (set-get_or w i nan) at (pass_turn h d k (record { x = get_or w i nan; y = y }) (rw e))
 
 -- the y of a point and of the next
-pub pass_turn_both : (g : Float → Float) {w₀ : List Float} {from to : ℕ} {w : List Float} {i : ℕ} → Passed (on_y g) w₀ from to w i → i + 4 ≤ to
-    → (y z : Float) → y ≡ g (get_or w (i + 1) nan) → z ≡ g (get_or w (i + 3) nan) → Passed (on_y g) w₀ from to (set (set w (i + 1) y) (i + 3) z) (i + 4)
-pass_turn_both g {w₀ = w₀} {from = from} {to = to} {w = w} {i = i} h k y z d e =
-    let a : i + 2 + 1 ≡ i + 3 = omega arith in
-    let b : i + 2 + 2 ≡ i + 4 = omega arith in
+pub pass_turn_both : (g : Float → Float) {w₀ : List Float} {from to : ℕ} {w : List Float} {i j : ℕ} → Passed (on_y g) w₀ from to w i → j ≡ i + 4 → j ≤ to
+    → (y z : Float) → y ≡ g (get_or w (i + 1) nan) → z ≡ g (get_or w (i + 3) nan) → Passed (on_y g) w₀ from to (set (set w (i + 1) y) (i + 3) z) j
+pass_turn_both g {w₀ = w₀} {from = from} {to = to} {w = w} {i = i} h d k y z a b =
     let o : (i + 3 ≡ i + 1 → ⊥) = λ f. omega arith in
-    rw (a, b) at (pass_turn_y g (pass_turn_y g h (omega arith) y d) (omega arith) z (rw (a, get_or-set_other w (i + 1) (i + 3) y nan o) e))
+    let n : i + 2 + 1 ≡ i + 3 = omega arith in
+    rw n at (pass_turn_y g (pass_turn_y g h refl (omega arith) y a) (omega arith) k z (rw (n, get_or-set_other w (i + 1) (i + 3) y nan o) b))
 
 -- ---- one pass after another
 module _ (w : List Float) (from to : ℕ) (h : from ≤ to) (k : to ≤ length w) where
@@ -115,12 +114,15 @@ pub plane_is : (t : Projection) {g : LonLat} (p : Point) → g ≡ plane_stage_o
 unfolding plane_stage_by
 plane_is t p e = rw e
 
-placed_staged : (t : Projection) (p : Point) → on_y (stage_of Last) (on_y (stage_of Second) (on_y (stage_of First) (on_y exp_ordinate_of (plane_stage_by t p)))) ≡ project_point t p
-unfolding project_point plane_stage_by stage_of
+abbrev last_stage : Float → Float
+last_stage v = rounded_latitude_of (atan_third v)
+
+placed_staged : (t : Projection) (p : Point) → on_y last_stage (on_y atan_second (on_y atan_first (on_y exp_ordinate_of (plane_stage_by t p)))) ≡ project_point t p
+unfolding project_point plane_stage_by
 placed_staged t p = rw geo_staged
 
 pub five_passes : (t : Projection) (w : List Float) (from to : ℕ) → from ≤ to → to ≤ length w → {a b c d e : List Float} → a ≡ in_place (plane_stage_by t) w from to
     → b ≡ in_place (on_y exp_ordinate_of) a from to
-    → c ≡ in_place (on_y (stage_of First)) b from to → d ≡ in_place (on_y (stage_of Second)) c from to → e ≡ in_place (on_y (stage_of Last)) d from to
+    → c ≡ in_place (on_y atan_first) b from to → d ≡ in_place (on_y atan_second) c from to → e ≡ in_place (on_y last_stage) d from to
     → e ≡ in_place (project_point t) w from to
 five_passes t w from to h k ea eb ec ed ee = rw (ee, ed, ec, eb, ea, pass_then w from to h k, pass_then w from to h k, pass_then w from to h k, pass_then w from to h k) (λ i. in_place (λ p. placed_staged t p i) w from to)

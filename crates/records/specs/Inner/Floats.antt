@@ -1,11 +1,10 @@
 -- Condition 4's two tests of a float as one, by whether it is a canvas measure.
-use Rattle.std.specs.Prelude.{ℕ, ◌+◌, ◌*◌, Bool, true, false, List}
+use Rattle.std.specs.Prelude.{ℕ, ◌+◌, ◌*◌, Bool, true, false, List, Option, Float}
 use Rattle.stream.specs.Numbers.{float_at}
-use Rattle.stream.specs.declared.Float64.{Float64}
 use Rattle.records.specs.Records.{all_to}
 use Rattle.records.specs.Limits.{is_finite, on_canvas}
 
-abbrev pub within_limit : Bool → Float64 → Bool
+abbrev pub within_limit : Bool → Option Float → Bool
 within_limit true x = on_canvas x
 within_limit false x = is_finite x
 

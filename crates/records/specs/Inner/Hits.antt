@@ -1,5 +1,5 @@
 -- What an answer to a search stands for.
-use Rattle.std.specs.Prelude.{◌≡◌, cond, List, [], ◌∷◌, ℕ, ◌+◌, ◌≤◌, ◌<◌, drop}
+use Rattle.std.specs.Prelude.{◌≡◌, List, [], ◌∷◌, ℕ, ◌+◌, ◌≤◌, ◌<◌, drop, Result, Ok, Err}
 use Rattle.records.specs.declared.records.Record.{Record}
 use Rattle.records.specs.declared.records.Step.TheVariants.{Got}
 use Rattle.records.specs.declared.search.Hit.{Hit}
@@ -26,8 +26,14 @@ pub record RecordAt (l : List ℕ) (t k at next : ℕ) : Type 0 where
   pub key : key_of is ≡ k
 
 -- the first record that was asked for, and those from the next position on
-unfoldable pub hits_of : List ℕ → ℕ → ℕ → Hit → List (List ℕ)
-hits_of l t k h = cond h.some (drop h.at l ∷ records_at l h.next t k) []
+abbrev pub hits_of : List ℕ → ℕ → ℕ → Result Hit ℕ → List (List ℕ)
+hits_of l t k (Ok h) = drop h.at l ∷ records_at l h.next t k
+hits_of l t k (Err end) = []
+
+-- where the search ended: at the record, or where none can follow
+abbrev pub end_of : Result Hit ℕ → ℕ
+end_of (Ok h) = h.at
+end_of (Err end) = end
 
 -- records of greater tags, up to items, stand from q on, if from p on
 abbrev pub SkipsTo : List ℕ → ℕ → ℕ → ℕ → Type 0

@@ -96,6 +96,7 @@ pub record ChoiceAt (l : List ℕ) (o : ℕ) : Type 0 where
   pub frame : o ≡ 1 → get_or l 2 0 ≤ 1
 
 pub record ItemAt (l : List ℕ) (k f n m : ℕ) : Type 0 where
+  pub kind_is : k ≡ get_or l 1 0
   pub kind : k ≤ 10
   pub flags : f < 32
   pub label_is_lem : n ≡ get_or l 3 0
@@ -234,6 +235,7 @@ module _ (l : List ℕ) where
         fields = record {
           kind = leb-true (get_or l 1 0) 10 (and_left _ _ h₁);
           flags = ltb-true (get_or l 2 0) 32 (and_left _ _ h₂);
+          kind_is = refl;
           label_is_lem = refl;
           label = called;
           short = ⊎_elim (λ (e : n ≡ 0). omega arith) (λ (e : Name l 3 n). e.short) called;

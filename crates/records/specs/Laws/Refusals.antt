@@ -1,12 +1,11 @@
 -- What a stream is that conditions 1 to 6 and 19 let pass.
-use Rattle.std.specs.Prelude.{◌≡◌, refl, Bool, true, false, not, List, [], ◌∷◌, ℕ, ◌/◌, ◌%◌, ◌≤◌, length, eqb, leb}
+use Rattle.std.specs.Prelude.{◌≡◌, refl, Bool, true, false, not, List, [], ◌∷◌, ℕ, ◌/◌, ◌%◌, ◌≤◌, length, eqb, leb, Some}
 use Rattle.std.proofs.Common.{arith}
 use borrow.Author.Tests.{leb-true, eqb-true, not-false}
 use Rattle.stream.specs.Blocks.{sized, all_checked, of_blocks}
 use Rattle.stream.specs.Laws.Conditions.{Numbered, first-none, numbered_append, blocks_numbered}
 use Rattle.stream.specs.Payload.{payload}
 use Rattle.stream.specs.Inner.Payload.{room}
-use Rattle.stream.specs.declared.Float64.TheVariants.{Finite}
 use Rattle.records.specs.declared.records.Record.{Record}
 use Rattle.records.specs.declared.records.Record.TheVariants.{Rescale, Option, Feature, Variable, Place, Item, Points, Path}
 use Rattle.records.specs.Walk.{Entry, entries}
@@ -24,13 +23,13 @@ unfolding of_stream of_records of_values
 stream_numbered s = numbered_append (of_blocks s) (of_records (payload s)) (blocks_numbered s) (omega arith, (omega arith, (omega arith, (omega arith, (omega arith, tt)))))
 
 -- ---- condition 4: an option's float is finite
-found_finite : (b : List ℕ) (r : Record) (ls : List (List ℕ)) → limited_at b r ≡ true → is_finite (float_or ls (Finite hundred)) ≡ true
-    → is_finite (float_or (with_found (search_step_of 2 7 r) b ls) (Finite hundred)) ≡ true
+found_finite : (b : List ℕ) (r : Record) (ls : List (List ℕ)) → limited_at b r ≡ true → is_finite (float_or ls (Some hundred)) ≡ true
+    → is_finite (float_or (with_found (search_step_of 2 7 r) b ls) (Some hundred)) ≡ true
 unfolding search_step_of ends_search limited_at is_finite option_floats all_to
 found_finite b Rescale ls h k = k
 found_finite b (Option o) ls h k = by (eqb o 7) refl
   where
-    by : (t : Bool) → eqb o 7 ≡ t → is_finite (float_or (with_found (search_step_of 2 7 (Option o)) b ls) (Finite hundred)) ≡ true
+    by : (t : Bool) → eqb o 7 ≡ t → is_finite (float_or (with_found (search_step_of 2 7 (Option o)) b ls) (Some hundred)) ≡ true
     by true e = rw e (rw (eqb-true o 7 e) at h)
     by false e = rw e k
 found_finite b (Feature n) ls h k = refl
@@ -40,7 +39,7 @@ found_finite b (Item k f n m) ls h z = refl
 found_finite b (Points r c) ls h k = refl
 found_finite b (Path r c f m) ls h k = refl
 
-all_finite_lem : (es : List Entry) → all_limited es ≡ true → is_finite (float_or (records_of 2 7 es) (Finite hundred)) ≡ true
+all_finite_lem : (es : List Entry) → all_limited es ≡ true → is_finite (float_or (records_of 2 7 es) (Some hundred)) ≡ true
 unfolding records_of all_limited is_finite
 all_finite_lem [] h = refl
 all_finite_lem (e ∷ es) h = found_finite e.bytes e.parsed (records_of 2 7 es) (and_left _ _ h) (all_finite_lem es (and_right (limited_at e.bytes e.parsed) _ h))

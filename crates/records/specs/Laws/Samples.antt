@@ -1,10 +1,9 @@
 -- The definitions on known bytes: a record of each tag, the same cut off by a byte, for each rule a record that breaks
 -- it, and steps around their bounds.
-use Rattle.std.specs.Prelude.{◌≡◌, refl, true, false, List, [], ◌∷◌, ◌++◌, map, ℕ, ◌-◌, length, take, replicate}
+use Rattle.std.specs.Prelude.{◌≡◌, refl, true, false, List, [], ◌∷◌, ◌++◌, map, ℕ, ◌-◌, length, take, replicate, None, Some}
 use Rattle.std.specs.Float.{binary64}
 use Rattle.std.specs.Float.Ieee.{lt, of_bits}
 use Rattle.stream.specs.Numbers.{u16_at}
-use Rattle.stream.specs.declared.Float64.TheVariants.{Finite, NotFinite}
 use Rattle.records.specs.declared.records.Record.TheVariants.{Rescale, Option, Feature, Variable, Place, Item, Points, Path}
 use Rattle.records.specs.declared.records.Step.{Step}
 use Rattle.records.specs.declared.records.Step.TheVariants.{Got, End, Bad}
@@ -91,12 +90,12 @@ samples-agree = refl
 
 -- condition 19: 1 and 1,000, their neighbours beyond, zeros, what is not finite
 bounds-agree :
-    (outside_bounds (Finite one) ≡ false)
-    × (outside_bounds (Finite (of_bits binary64 0x3fefffffffffffff)) ≡ true)
-    × (outside_bounds (Finite thousand) ≡ false)
-    × (outside_bounds (Finite (of_bits binary64 0x408f400000000001)) ≡ true)
-    × (outside_bounds (Finite (of_bits binary64 0)) ≡ true)
-    × (outside_bounds (Finite (of_bits binary64 0x8000000000000000)) ≡ true)
-    × (outside_bounds NotFinite ≡ false)
+    (outside_bounds (Some one) ≡ false)
+    × (outside_bounds (Some (of_bits binary64 0x3fefffffffffffff)) ≡ true)
+    × (outside_bounds (Some thousand) ≡ false)
+    × (outside_bounds (Some (of_bits binary64 0x408f400000000001)) ≡ true)
+    × (outside_bounds (Some (of_bits binary64 0)) ≡ true)
+    × (outside_bounds (Some (of_bits binary64 0x8000000000000000)) ≡ true)
+    × (outside_bounds None ≡ false)
 unfolding outside_bounds of_bits lt
 bounds-agree = (refl, refl, refl, refl, refl, refl, refl)

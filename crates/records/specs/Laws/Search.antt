@@ -1,5 +1,5 @@
 -- A search: what it finds from one record on, and what a record that was found tells of its bytes.
-use Rattle.std.specs.Prelude.{◌≡◌, refl, List, [], ◌∷◌, Bool, true, false, ◌&&◌, ◌||◌, cond, ℕ, ◌+◌, ◌*◌, ◌≤◌, ◌<◌, length, get_or, drop, eqb, ltb}
+use Rattle.std.specs.Prelude.{◌≡◌, refl, List, [], ◌∷◌, Bool, true, false, ◌&&◌, ◌||◌, cond, ℕ, zero, suc, ◌+◌, ◌-◌, ◌*◌, ◌≤◌, ◌<◌, length, get_or, drop, eqb, ltb}
 use Rattle.std.proofs.Common.{sym, ◌∙◌, ⊎_elim, add-zero, arith, length-drop, get_or-drop, eq-eqb, eqb-true, ne_eqb, lt-ltb, le-ltb, ltb-true, ltb-false}
 use Rattle.std.proofs.Math.Path.{ap}
 use Rattle.stream.specs.Numbers.{u16_at}
@@ -14,18 +14,14 @@ use Rattle.records.specs.Walk.{more, entries, tag_of}
 use Rattle.records.specs.Search.{key_of, ends_search, pick_search_step, search_step_of, with_found, records_of}
 use Rattle.records.specs.Inner.Hits.{records_at, RecordAt}
 use Rattle.records.specs.Laws.Tests.{and_left, and_right, or_cases}
-use Rattle.records.specs.Laws.Records.{Name, Stands, stands, cubics-size, polyline-size}
-use Rattle.records.specs.Laws.Walk.{entries_bad, entries_end, entries_on}
+use Rattle.records.specs.Laws.Records.{Name, Fields, Stands, stands, cubics-size, polyline-size}
+use Rattle.records.specs.Laws.Walk.{entries_none, entries_on}
 
 -- ---- from one record on
 module _ (l : List ℕ) (p t key : ℕ) where
-  pub search_bad : record_of (drop p l) ≡ Bad → records_at l p t key ≡ []
+  pub search_none : {x : Step} → record_of (drop p l) ≡ x → ((r : Record) (k : ℕ) → x ≡ Got r k → ⊥) → records_at l p t key ≡ []
   unfolding records_of
-  search_bad e = ap (records_of t key) (entries_bad (drop p l) e)
-
-  pub search_end : record_of (drop p l) ≡ End → records_at l p t key ≡ []
-  unfolding records_of
-  search_end e = ap (records_of t key) (entries_end (drop p l) e)
+  search_none {x} e none = ap (records_of t key) (entries_none (drop p l) x e none)
 
   pub search_got : {r : Record} {k : ℕ} → record_of (drop p l) ≡ Got r k → records_at l p t key ≡ with_found (search_step_of t key r) (drop p l) (records_at l (p + k) t key)
   unfolding records_of
@@ -68,8 +64,8 @@ module _ (l : List ℕ) (p t key : ℕ) where
   search_closed h = ap (records_of t key) (entries_closed l p h)
 
   search_past : (x : Step) → record_of (drop p l) ≡ x → ends_search t (get_or l p 0) ≡ true → records_at l p t key ≡ []
-  search_past Bad e h = search_bad l p t key e
-  search_past End e h = search_end l p t key e
+  search_past Bad e h = search_none l p t key e (λ r k n. cc)
+  search_past End e h = search_none l p t key e (λ r k n. cc)
   search_past (Got r k) e h = search_got l p t key e ∙ rw (turn_past t key r (rw (tag_stands l p e) at h)) refl
 
   pub search_over : {x : ℕ} → x ≡ get_or l p 0 → (eqb x 0 || ends_search t x) ≡ true → records_at l p t key ≡ []
@@ -128,6 +124,7 @@ pub record NameFound (b : List ℕ) (at next more : ℕ) : Type 0 where
   pub ends : next ≡ at + more + get_or b 1 0
 
 pub record ItemFound (b : List ℕ) (at next : ℕ) : Type 0 where
+  pub kind : get_or b 1 0 ≤ 10
   pub short : get_or b 3 0 ≤ 31
   pub has : get_or b (12 + get_or b 3 0) 0 < 32
   pub ends : next ≡ at + 13 + get_or b 3 0 + values_width (get_or b (12 + get_or b 3 0) 0)
@@ -167,6 +164,7 @@ module _ (b : List ℕ) (k at next : ℕ) {size : ℕ} (e : next ≡ at + size) 
   found_of (Item a f n m) s h =
       let i = s.fields in
       record {
+        kind = omega (arith, i.kind_is, i.kind);
         short = omega arith;
         has = rw (← i.label_is_lem, ← i.has_is) i.has;
         ends = rw (← i.label_is_lem, ← i.has_is) (omega arith);
@@ -205,3 +203,34 @@ unfolding option_width
 float_within {l} {k} {at} g h =
     let w : option_width k ≡ 8 = rw (ne_eqb k 1 (λ e. omega arith), ne_eqb k 2 (λ e. omega arith)) in
     omega (arith, choice_within h, w)
+
+-- ---- no points and no path have a role above 1
+module _ (t key : ℕ) (a : 7 ≤ t) (b : 2 ≤ key) where
+  low_role : (l : List ℕ) (r : Record) → Fields l r → tag_of r ≡ t → key_of r ≤ 1
+  low_role l Rescale f e = absurd (omega arith)
+  low_role l (Option o) f e = absurd (omega arith)
+  low_role l (Feature n) f e = absurd (omega arith)
+  low_role l (Variable n) f e = absurd (omega arith)
+  low_role l (Place n) f e = absurd (omega arith)
+  low_role l (Item k f n m) g e = absurd (omega arith)
+  low_role l (Points r n) f e = f.role
+  low_role l (Path r c f n) g e = g.role
+
+  not_here : (l : List ℕ) (r : Record) (k : ℕ) (more : List (List ℕ)) → record_of l ≡ Got r k → more ≡ [] → (x : SearchStep) → search_step_of t key r ≡ x → with_found x l more ≡ []
+  not_here l r k more e none Matches h = let at = here t key r h in absurd (omega (arith, low_role l r (stands l e).fields at.0, at.1))
+  not_here l r k more e none Skip h = none
+  not_here l r k more e none Over h = refl
+
+  none_listed : (l : List ℕ) (n : ℕ) → records_of t key (entries l n) ≡ []
+  unfolding entries records_of
+  none_listed [] n = refl
+  none_listed (x ∷ xs) (suc n) = none_listed xs n
+  none_listed (x ∷ xs) zero = by (record_of (x ∷ xs)) refl (λ n. none_listed xs n)
+    where
+      by : (s : Step) → record_of (x ∷ xs) ≡ s → ((n : ℕ) → records_of t key (entries xs n) ≡ []) → records_of t key (more (x ∷ xs) s (λ n. entries xs n)) ≡ []
+      by (Got r k) e h = not_here (x ∷ xs) r k _ e (h (k - 1)) _ refl
+      by End e h = refl
+      by Bad e h = refl
+
+  pub no_role : (l : List ℕ) (p : ℕ) → records_at l p t key ≡ []
+  no_role l p = none_listed (drop p l) 0

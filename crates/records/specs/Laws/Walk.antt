@@ -81,6 +81,11 @@ unfolding entries
 entries_bad [] e = refl
 entries_bad (x ∷ xs) e = rw e refl
 
+pub entries_none : (l : List ℕ) (x : Step) → record_of l ≡ x → ((r : Record) (k : ℕ) → x ≡ Got r k → ⊥) → entries l 0 ≡ []
+entries_none l Bad e none = entries_bad l e
+entries_none l End e none = entries_end l e
+entries_none l (Got r k) e none = absurd (none r k refl)
+
 -- nothing is no end
 none_bad : record_of [] ≡ Bad
 unfolding record_of

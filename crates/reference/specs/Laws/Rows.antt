@@ -1,5 +1,5 @@
 -- The twelve rows of document 01's table as one theorem over one table: each row is checked by the definitions that the contracts cite.
-use Rattle.std.specs.Prelude.{◌≡◌, refl, Bool, true, false, not, ◌&&◌, cond, List, [], ◌∷◌, ◌++◌, ℕ, ◌+◌, ◌/◌, ◌%◌, ◌^◌, eqb, length, replicate, Float}
+use Rattle.std.specs.Prelude.{◌≡◌, refl, Bool, true, false, not, ◌&&◌, cond, List, [], ◌∷◌, ◌++◌, ℕ, ◌+◌, ◌/◌, ◌%◌, ◌^◌, eqb, length, replicate, Float, Option, None, Some}
 use Rattle.std.specs.Float.{binary64}
 use Rattle.std.specs.Float.Ieee.{of_bits, to_bits}
 use Rattle.float.specs.Functions.{round_of}
@@ -7,7 +7,6 @@ use Rattle.elementary.specs.Constants as K
 use Rattle.geodesy.specs.Geodesy.{normalize_lon_of}
 use Rattle.scene.specs.Scene.{scene_of}
 use Rattle.values.specs.declared.Point.{Point}
-use Rattle.values.specs.Maybe.{Maybe, none, some}
 use Rattle.scene.specs.Labels.{point_of_label}
 use Rattle.register.specs.Inner.Outcome.{register_refusal}
 use Rattle.budget.specs.Budget.{fresh, take_of}
@@ -62,11 +61,11 @@ c100 = f 0x4059000000000000
 abbrev c0001 : Float
 c0001 = f 0x3f50624dd2f1a9fc
 
-abbrev is_at : Maybe Point → ℕ → Bool
-is_at none v = false
-is_at (some p) v = is p.x v && is p.y v
+abbrev is_at : Option Point → ℕ → Bool
+is_at None v = false
+is_at (Some p) v = is p.x v && is p.y v
 
-abbrev named-A : List ℕ → Maybe Point
+abbrev named-A : List ℕ → Option Point
 named-A l = let s = scene_of (l ++ 0 ∷ []) in point_of_label (65 ∷ []) s.places s.items
 
 abbrev pub holds : Row → Bool

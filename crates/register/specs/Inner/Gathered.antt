@@ -1,13 +1,12 @@
 -- Control points as the code gathers them: counted up to 65, the first 64 kept with the numbers of their names.
-use Rattle.std.specs.Prelude.{◌≡◌, ◌⊎◌, Bool, true, false, cond, ◌||◌, List, [], ◌∷◌, ◌++◌, ℕ, suc, ◌+◌, ◌%◌, ◌≤◌, ◌<◌, length, take, drop, get_or, eqb, ltb, Float}
+use Rattle.std.specs.Prelude.{◌≡◌, ◌⊎◌, Bool, true, false, cond, ◌||◌, List, [], ◌∷◌, ◌++◌, ℕ, suc, ◌+◌, ◌%◌, ◌≤◌, ◌<◌, length, take, drop, get_or, eqb, ltb, Float, Option, None, Some, is_some}
 use Rattle.stream.specs.Payload.{payload}
 use Rattle.stream.specs.Inner.Payload.{room}
+use Rattle.scene.specs.declared.labels.Best.{Best}
 use Rattle.scene.specs.Scene.{Scene, scene_of}
 use Rattle.values.specs.declared.Point.{Point}
-use Rattle.values.specs.Maybe.{Maybe, none, some, is_some}
 use Rattle.scene.specs.Labels.{same_bytes}
 use Rattle.fit.specs.declared.Control.{Control}
-use Rattle.fit.specs.Inner.Fours.{four_in, fours_in}
 use Rattle.names.specs.Inner.Table.{name_of, mark_of, marked, Table, Unmarked, Contains}
 use Rattle.names.specs.Inner.Batch.{slot_point}
 use Rattle.register.specs.declared.controls.Tally.{Tally}
@@ -26,34 +25,29 @@ numbers_in j (warn w ∷ es) = numbers_in (suc j) es
 abbrev pub up_to65 : ℕ → ℕ
 up_to65 n = cond (ltb 64 n) 65 n
 
--- the k-th control point of a slice, four numbers each, and the first n
-abbrev pub control_by : Float → Float → Float → Float → Control
-control_by x y lon lat = record { x = x; y = y; lon = lon; lat = lat }
+-- a table has some names, and is 44 KiB at most
+pub record TableSize (n : ℕ) : Type 0 where
+  pub some : 1 ≤ n
+  pub most : n ≤ 11264
 
-abbrev pub control_in : List Float → ℕ → Control
-control_in = four_in control_by
-
-abbrev pub controls_by : List Float → ℕ → List Control
-controls_by = fours_in control_by
-
--- room for 64 control points, four numbers each, and for the numbers of their names
-pub record ControlRoom (flat : List Float) (kept : List ℕ) : Type 0 where
-  pub flat_room : length flat ≡ 256
+-- room for 64 control points, and for the numbers of their names
+pub record ControlRoom (held : List Control) (kept : List ℕ) : Type 0 where
+  pub held_room : length held ≡ 64
   pub kept-room : length kept ≡ 64
 
 -- cs are gathered, of the names js; where b is false, only how many there are is known, and whether all are placed
-pub record Holds (b : Bool) (cs : List Control) (js : List ℕ) (g : Tally) (flat : List Float) (kept : List ℕ) : Type 0 where
+pub record Holds (b : Bool) (cs : List Control) (js : List ℕ) (g : Tally) (held : List Control) (kept : List ℕ) : Type 0 where
   pub count : g.n ≡ up_to65 (length cs)
   pub within : g.within ≡ all_within_limits cs
-  pub controls : b ≡ true → length cs ≤ 64 → controls_by flat (length cs) ≡ cs
+  pub controls : b ≡ true → length cs ≤ 64 → take (length cs) held ≡ cs
   pub numbers : b ≡ true → length cs ≤ 64 → take (length cs) kept ≡ js
   pub as_many : length js ≡ length cs
-  pub room_for : length flat ≡ 256
+  pub room_for : length held ≡ 64
   pub kept-room : length kept ≡ 64
 
 -- all control points of a scene are gathered, and where there are not too many, the numbers of their names
-abbrev pub Gathers : Scene → Tally → List Float → List ℕ → Type 0
-Gathers sc g flat kept = Holds true (controls_of sc) (numbers_in 0 (events sc)) g flat kept
+abbrev pub Gathers : Scene → Tally → List Control → List ℕ → Type 0
+Gathers sc g held kept = Holds true (controls_of sc) (numbers_in 0 (events sc)) g held kept
 
 abbrev pub Kept : Scene → List ℕ → Type 0
 Kept sc kept = take (length (controls_of sc)) kept ≡ numbers_in 0 (events sc)
@@ -64,6 +58,11 @@ pub record KeptControls (sc : Scene) (n : ℕ) (kept : List ℕ) : Type 0 where
   pub kept-room : length kept ≡ 64
   pub numbers : Kept sc kept
 
+-- `kept` has the numbers of the names of all control points, of which there are 64 at most
+pub record KeptNumbers (sc : Scene) (kept : List ℕ) : Type 0 where
+  pub few : length kept ≤ 64
+  pub numbers : kept ≡ numbers_in 0 (events sc)
+
 -- ---- a batch of names
 -- a table of n names of a stream can take one more
 pub record TableRoom (more : ℕ) (s t : List ℕ) (n : ℕ) : Type 0 where
@@ -72,9 +71,9 @@ pub record TableRoom (more : ℕ) (s t : List ℕ) (n : ℕ) : Type 0 where
   pub table : Table more (payload s) t n
 
 -- the mention has the name x and a latitude
-abbrev pub named : List ℕ → Mention → Maybe Float → Bool
-named x m none = false
-named x m (some lat) = same_bytes m.name x
+abbrev pub named : List ℕ → Mention → Option Float → Bool
+named x m None = false
+named x m (Some lat) = same_bytes m.name x
 
 -- one of them does
 unfoldable pub among : List ℕ → List Mention → Bool
@@ -127,12 +126,12 @@ pub record Taken (more : ℕ) (l t t' : List ℕ) (n : ℕ) (x : List ℕ) (r : 
   pub counted : marked t n ≡ marked t' n + cond (eqb r 0) 0 1
 
 -- which names of a table resolve and were not before: those that have a mark
-pub record MarksTell (sc : Scene) (more : ℕ) (l t : List ℕ) (n : ℕ) (spots : List Float) (was : List ℕ → Bool) : Type 0 where
+pub record MarksTell (sc : Scene) (more : ℕ) (l t : List ℕ) (n : ℕ) (spots : List Best) (was : List ℕ → Bool) : Type 0 where
   pub no_more : (i : ℕ) → i < n → mark_of (get_or t i 0) ≡ 0 → (is_some (resolved sc (name_of more l (get_or t i 0))) ≡ false) ⊎ (was (name_of more l (get_or t i 0)) ≡ true)
   pub resolves : (i : ℕ) → i < n → 1 ≤ mark_of (get_or t i 0) → is_some (resolved sc (name_of more l (get_or t i 0))) ≡ true
   pub unnamed : (i : ℕ) → i < n → 1 ≤ mark_of (get_or t i 0) → was (name_of more l (get_or t i 0)) ≡ false
-  pub spot : (i : ℕ) → i < n → 1 ≤ mark_of (get_or t i 0) → mark_of (get_or t i 0) ≤ 64 → (d : Float)
-      → resolved sc (name_of more l (get_or t i 0)) ≡ some (slot_point spots (mark_of (get_or t i 0)) d)
+  pub spot : (i : ℕ) → i < n → 1 ≤ mark_of (get_or t i 0) → mark_of (get_or t i 0) ≤ 64
+      → resolved sc (name_of more l (get_or t i 0)) ≡ slot_point spots (mark_of (get_or t i 0))
 
 abbrev pub no_name : List ℕ → Bool
 no_name x = false
@@ -149,12 +148,12 @@ pub record KnownCleared (l : List ℕ) (more : ℕ) (t t' : List ℕ) (n i : ℕ
   pub table : Table more l t' n
   pub names : (k : ℕ) → get_or t' k 0 % 33554432 ≡ get_or t k 0 % 33554432
   pub fewer : Fewer t t' n
-  pub waits : (spots : List Float) → MarksTell (scene_of l) more l t n spots no_name → MarksTell (scene_of l) more l t' n spots (among_features (scene_of l) i)
-  pub counted : (spots : List Float) → MarksTell (scene_of l) more l t n spots no_name
+  pub waits : (spots : List Best) → MarksTell (scene_of l) more l t n spots no_name → MarksTell (scene_of l) more l t' n spots (among_features (scene_of l) i)
+  pub counted : (spots : List Best) → MarksTell (scene_of l) more l t n spots no_name
       → marked t n ≤ marked t' n + length (controls_in (events_of (scene_of l) 2 no_name (feature_mentions 0 (take i (scene_of l).features))))
 
 -- ---- the mentions ms are read: what is known before
-pub record BeforeRead (l : List ℕ) (lons : Bool) (ms : List Mention) (t : List ℕ) (n : ℕ) (spots : List Float) (g : Tally) (flat : List Float) (kept : List ℕ) : Type 0 where
+pub record BeforeRead (l : List ℕ) (lons : Bool) (ms : List Mention) (t : List ℕ) (n : ℕ) (spots : List Best) (g : Tally) (held : List Control) (kept : List ℕ) : Type 0 where
   pub was : List ℕ → Bool
   pub b : Bool
   pub cs : List Control
@@ -162,7 +161,7 @@ pub record BeforeRead (l : List ℕ) (lons : Bool) (ms : List Mention) (t : List
   pub waits : MarksTell (scene_of l) (more_of lons) l t n spots was
   pub inside : (x : List ℕ) → among x ms ≡ true → Contains (more_of lons) l t n x
   pub slots : b ≡ true → (i : ℕ) → i < n → mark_of (get_or t i 0) ≤ 64
-  pub holds : Holds b cs js g flat kept
+  pub holds : Holds b cs js g held kept
 
 abbrev pub again_of : Bool → ℕ
 again_of true = 3
@@ -173,25 +172,25 @@ grown_all was [] y = was y
 grown_all was (m ∷ ms) y = grown_all (grown_by was m.name m.lat) ms y
 
 -- what is known after the mentions ms are read: their control points are gathered, the first of their names being the j-th of all
-pub record AfterRead (l : List ℕ) (lons : Bool) (ms : List Mention) (t t' : List ℕ) (n : ℕ) (spots : List Float) (j : ℕ) (was : List ℕ → Bool) (b : Bool) (cs : List Control) (js : List ℕ) (r : Tally) (flat : List Float) (kept : List ℕ) : Type 0 where
+pub record AfterRead (l : List ℕ) (lons : Bool) (ms : List Mention) (t t' : List ℕ) (n : ℕ) (spots : List Best) (j : ℕ) (was : List ℕ → Bool) (b : Bool) (cs : List Control) (js : List ℕ) (r : Tally) (held : List Control) (kept : List ℕ) : Type 0 where
   pub names : (k : ℕ) → get_or t' k 0 % 33554432 ≡ get_or t k 0 % 33554432
   pub fewer : Fewer t t' n
   pub waits : MarksTell (scene_of l) (more_of lons) l t' n spots (grown_all was ms)
-  pub holds : Holds b (cs ++ controls_in (events_of (scene_of l) (again_of lons) was ms)) (js ++ numbers_in j (events_of (scene_of l) (again_of lons) was ms)) r flat kept
+  pub holds : Holds b (cs ++ controls_in (events_of (scene_of l) (again_of lons) was ms)) (js ++ numbers_in j (events_of (scene_of l) (again_of lons) was ms)) r held kept
   -- each mark that is gone was a control point
   pub counted : marked t n ≤ marked t' n + length (controls_in (events_of (scene_of l) (again_of lons) was ms))
 
 -- what was known before the mentions ms are read is known after it too
-abbrev pub Reads : List ℕ → Bool → List Mention → ℕ → List Float → ℕ → List ℕ → Tally → List Float → List ℕ → List ℕ → Tally → List Float → List ℕ → Type 0
-Reads l lons ms n spots j t g flat kept t' r flat' kept' =
-    (h : BeforeRead l lons ms t n spots g flat kept)
-    → AfterRead l lons ms t t' n spots j h.was h.b h.cs h.js r flat' kept'
+abbrev pub Reads : List ℕ → Bool → List Mention → ℕ → List Best → ℕ → List ℕ → Tally → List Control → List ℕ → List ℕ → Tally → List Control → List ℕ → Type 0
+Reads l lons ms n spots j t g held kept t' r held' kept' =
+    (h : BeforeRead l lons ms t n spots g held kept)
+    → AfterRead l lons ms t t' n spots j h.was h.b h.cs h.js r held' kept'
 
 -- a batch can be read: its table has n names, a mark stands for one of 64 points, and control points have room
-pub record Readable (s : List ℕ) (lons : Bool) (t : List ℕ) (n : ℕ) (spots flat : List Float) (kept : List ℕ) : Type 0 where
+pub record Readable (s : List ℕ) (lons : Bool) (t : List ℕ) (n : ℕ) (spots : List Best) (held : List Control) (kept : List ℕ) : Type 0 where
   pub table : Table (more_of lons) (payload s) t n
-  pub spots_room : length spots ≡ 128
-  pub control_room : ControlRoom flat kept
+  pub spots_room : length spots ≡ 64
+  pub control_room : ControlRoom held kept
 
 -- the point of a control point
 abbrev pub point_in : Control → Point
@@ -222,17 +221,17 @@ Earlier sc lons base cs =
     length (controls_in (events_of sc 2 no_name (feature_mentions 0 (take (before_of lons (length sc.features) base) sc.features)))) ≤ length cs
 
 -- control points that are held stay; those of the events es come behind them, the first event being the j-th
-abbrev pub Appends : (List Control → Type 0) → ℕ → List Event → Tally → List Float → List ℕ → Tally → List Float → List ℕ → Type 0
-Appends P j es g flat kept r flat' kept' =
-    (cs : List Control) (js : List ℕ) → Holds true cs js g flat kept → P cs
-    → Holds true (cs ++ controls_in es) (js ++ numbers_in j es) r flat' kept'
+abbrev pub Appends : (List Control → Type 0) → ℕ → List Event → Tally → List Control → List ℕ → Tally → List Control → List ℕ → Type 0
+Appends P j es g held kept r held' kept' =
+    (cs : List Control) (js : List ℕ) → Holds true cs js g held kept → P cs
+    → Holds true (cs ++ controls_in es) (js ++ numbers_in j es) r held' kept'
 
 -- the mentions ms of a batch are gathered, the first of them being the base-th name
-abbrev pub GathersBatch : List ℕ → Bool → ℕ → List Mention → Tally → List Float → List ℕ → Tally → List Float → List ℕ → Type 0
+abbrev pub GathersBatch : List ℕ → Bool → ℕ → List Mention → Tally → List Control → List ℕ → Tally → List Control → List ℕ → Type 0
 GathersBatch l lons base ms = Appends (Earlier (scene_of l) lons base) base (batch_events l lons base ms)
 
 -- a whole part of the names is gathered
-abbrev pub GathersPart : Scene → Bool → Tally → List Float → List ℕ → Tally → List Float → List ℕ → Type 0
+abbrev pub GathersPart : Scene → Bool → Tally → List Control → List ℕ → Tally → List Control → List ℕ → Type 0
 GathersPart sc lons = Appends (Earlier sc lons 0) (base_of lons sc) (part_events lons sc)
 
 abbrev pub first_cursor : Bool → ℕ → Cursor

@@ -1,12 +1,11 @@
 -- Names one after another, of host features and of `<L>_lon` variables, with what they come to.
-use Rattle.std.specs.Prelude.{◌≡◌, ℕ, suc, ◌+◌, ◌-◌, ◌≤◌, ◌<◌, Bool, true, false, ◌||◌, cond, List, [], ◌∷◌, ◌++◌, get_or, Float}
+use Rattle.std.specs.Prelude.{◌≡◌, ℕ, suc, ◌+◌, ◌-◌, ◌≤◌, ◌<◌, Bool, true, false, ◌||◌, cond, List, [], ◌∷◌, ◌++◌, get_or, Float, Option, None, Some, Result, Ok, Err, IfOk, IfErr}
 use Rattle.stream.specs.Payload.{payload}
 use Rattle.stream.specs.Inner.Payload.{room}
 use Rattle.records.specs.Records.{bytes_at}
 use Rattle.scene.specs.Scene.{Scene, NamedFeature, NamedValue, scene_of}
-use Rattle.values.specs.Maybe.{Maybe, none, some}
 use Rattle.scene.specs.Labels.{same_bytes}
-use Rattle.scene.specs.Inner.Answers.{maybe_float, features_at, variables_at}
+use Rattle.scene.specs.Inner.Answers.{features_at, variables_at}
 use Rattle.register.specs.declared.mentions.Cursor.{Cursor}
 use Rattle.register.specs.declared.mentions.Mention as code-mention
 use Rattle.register.specs.Register.{Event, warn, resolved, event_of, suffix_lat, var, stem, is_lon}
@@ -16,13 +15,13 @@ use Rattle.register.specs.Inner.LatLookup.{Along}
 pub record Mention : Type 0 where
   pub name : List ℕ
   pub lon : Float
-  pub lat : Maybe Float
+  pub lat : Option Float
   pub index : ℕ
 
 -- the features fs, the first of them the i-th
 unfoldable pub feature_mentions : ℕ → List NamedFeature → List Mention
 feature_mentions i [] = []
-feature_mentions i (f ∷ fs) = record { name = f.name; lon = f.lon; lat = some f.lat; index = i } ∷ feature_mentions (suc i) fs
+feature_mentions i (f ∷ fs) = record { name = f.name; lon = f.lon; lat = Some f.lat; index = i } ∷ feature_mentions (suc i) fs
 
 abbrev pub lon_mention : Scene → ℕ → NamedValue → Mention
 lon_mention sc i v = record { name = stem v.name; lon = v.value; lat = var sc (stem v.name ++ suffix_lat); index = i }
@@ -33,14 +32,14 @@ lon_mentions sc i [] = []
 lon_mentions sc i (v ∷ vs) = cond (is_lon v.name) (lon_mention sc i v ∷ lon_mentions sc (suc i) vs) (lon_mentions sc (suc i) vs)
 
 -- ---- what they come to: `was` tells which names were before
-abbrev pub event_with : Scene → ℕ → Bool → Mention → Maybe Float → Event
-event_with sc again b m none = warn (record { kind = 2; index = m.index })
-event_with sc again b m (some lat) =
+abbrev pub event_with : Scene → ℕ → Bool → Mention → Option Float → Event
+event_with sc again b m None = warn (record { kind = 2; index = m.index })
+event_with sc again b m (Some lat) =
     event_of (resolved sc m.name) b m.lon lat (record { kind = 2; index = m.index }) (record { kind = again; index = m.index })
 
-abbrev pub grown_by : (List ℕ → Bool) → List ℕ → Maybe Float → List ℕ → Bool
-grown_by was x none y = was y
-grown_by was x (some lat) y = was y || same_bytes x y
+abbrev pub grown_by : (List ℕ → Bool) → List ℕ → Option Float → List ℕ → Bool
+grown_by was x None y = was y
+grown_by was x (Some lat) y = was y || same_bytes x y
 
 -- the first mention of a name that has a latitude is a control point, if the name resolves
 unfoldable pub events_of : Scene → ℕ → (List ℕ → Bool) → List Mention → List Event
@@ -58,10 +57,16 @@ more_of true = 4
 more_of false = 0
 
 abbrev pub mention_by : List ℕ → code-mention.Mention → Mention
-mention_by l r = record { name = bytes_at l r.at r.len; lon = r.lon; lat = maybe_float r.lat; index = r.index }
+mention_by l r = record { name = bytes_at l r.at r.len; lon = r.lon; lat = r.lat; index = r.index }
 
-abbrev pub mentions_by : List ℕ → Bool → code-mention.Mention → List Mention
-mentions_by l lons r = cond r.some (mention_by l r ∷ mentions_at l lons r.next) []
+abbrev pub mentions_by : List ℕ → Bool → Result code-mention.Mention Cursor → List Mention
+mentions_by l lons (Ok m) = mention_by l m ∷ mentions_at l lons m.next
+mentions_by l lons (Err end) = []
+
+-- where the next one is looked for
+abbrev pub behind : Result code-mention.Mention Cursor → Cursor
+behind (Ok m) = m.next
+behind (Err end) = end
 
 -- what is known at a cursor
 pub record Follows (s : List ℕ) (lons : Bool) (c : Cursor) (starts : List ℕ) : Type 0 where
@@ -75,13 +80,17 @@ pub record MentionFits (s : List ℕ) (more : ℕ) (m : code-mention.Mention) : 
   pub few : m.len + more ≤ 31
   pub within : m.at + m.len + 8 ≤ room s
 
+-- the first mention from c on
+pub record FirstMention (s : List ℕ) (lons : Bool) (c : Cursor) (m : code-mention.Mention) : Type 0 where
+  pub more : c.q < m.next.q
+  pub fits : m.next.q ≤ room s
+  pub index : m.index + 1 ≡ m.next.i
+  pub stands : MentionFits s (more_of lons) m
+
 -- the answer r to the question from c on
-pub record Asked (s : List ℕ) (lons : Bool) (c : Cursor) (r : code-mention.Mention) (starts : List ℕ) : Type 0 where
+pub record Asked (s : List ℕ) (lons : Bool) (c : Cursor) (r : Result code-mention.Mention Cursor) (starts : List ℕ) : Type 0 where
   pub lists : mentions_at (payload s) lons c ≡ mentions_by (payload s) lons r
-  pub ends : r.some ≡ false → mentions_at (payload s) lons r.next ≡ []
-  pub follows : Follows s lons r.next starts
-  pub onward : c.q ≤ r.next.q
-  pub more : r.some ≡ true → c.q < r.next.q
-  pub fits : r.some ≡ true → r.next.q ≤ room s
-  pub index : r.some ≡ true → r.index + 1 ≡ r.next.i
-  pub mention_fits : r.some ≡ true → MentionFits s (more_of lons) r
+  pub ends : IfErr r (λ end. mentions_at (payload s) lons end ≡ [])
+  pub follows : Follows s lons (behind r) starts
+  pub onward : c.q ≤ (behind r).q
+  pub first : IfOk r (FirstMention s lons c)

@@ -1,15 +1,17 @@
 -- What registration answers: 0 and the registration, or the number of a refusal and zeros.
-use Rattle.std.specs.Prelude.{ℕ, Bool, true, false, not, ◌&&◌, List, length, eqb}
+use Rattle.std.specs.Prelude.{◌≡◌, ℕ, Bool, true, false, not, ◌&&◌, List, length, eqb, Option, Some, None, Result, Ok, Err}
 use Rattle.std.specs.Float.Ieee.{le, lt}
 use Rattle.std.specs.Float.Ieee.Scale.{finite}
 use Rattle.stream.specs.Conditions.{first_of}
 use Rattle.scene.specs.Scene.{Scene}
 use Rattle.values.specs.declared.Point.{Point}
+use Rattle.values.specs.declared.refusal.Refusal.{Refusal}
+use Rattle.values.specs.Inner.Refusals.{number_of}
+use Rattle.fit.specs.declared.Fit.{Fit}
 use Rattle.fit.specs.declared.Control.{Control}
 use Rattle.projection.specs.declared.Registration.{Registration}
 use Rattle.fit.specs.Fit.{fit_of}
-use Rattle.register.specs.declared.outcome.Outcome.{Outcome}
-use Rattle.register.specs.Register.{f0, max_scale, above0, px_mode, scale_value, declared_at, fitted, registration_of, of_registration}
+use Rattle.register.specs.Register.{var, geo_frame, is_mercator, all_within_limits, anchor_within_limits, anchor_of, controls_of, f0, max_scale, above0, px_mode, scale_value, declared_at, fitted, registration_of, of_registration}
 
 -- the number by which conditions 7 to 14 refuse a scene, 0 where they let it pass
 abbrev pub register_refusal : Scene → ℕ
@@ -18,11 +20,19 @@ register_refusal sc = first_of (of_registration sc)
 abbrev pub no_registration : Registration
 no_registration = record { lon = f0; lat = f0; x = f0; y = f0; scale = f0; bearing = f0; method = 0; controls = 0 }
 
+pub record Outcome : Type 0 where
+  pub number : ℕ
+  pub registration : Registration
+
 abbrev pub refused_by : ℕ → Outcome
 refused_by number = record { number = number; registration = no_registration }
 
 abbrev pub accepted : Registration → Outcome
 accepted r = record { number = 0; registration = r }
+
+abbrev pub outcome_by : Result Registration Refusal → Outcome
+outcome_by (Ok r) = accepted r
+outcome_by (Err e) = refused_by (number_of e)
 
 abbrev pub pick_outcome : Bool → Outcome → Outcome → Outcome
 pick_outcome true a b = a
@@ -44,5 +54,15 @@ declared_outcome sc anchor o n =
     (checked_of (declared_at sc anchor o n)))
 
 -- 11 and 14, with more
+abbrev pub fit_outcome : Option Fit → ℕ → Outcome
+fit_outcome (Some f) n = checked_of (fitted f n)
+fit_outcome None n = refused_by 11
+
 unfoldable pub fitted_outcome : List Control → Outcome
-fitted_outcome cs = pick_outcome (not (fit_of cs).some) (refused_by 11) (checked_of (fitted (fit_of cs) (length cs)))
+fitted_outcome cs = fit_outcome (fit_of cs) (length cs)
+
+-- conditions 7 and 8 let the scene pass
+pub record Passed (sc : Scene) : Type 0 where
+  pub mercator : is_mercator sc.frame (var sc geo_frame) ≡ true
+  pub all : all_within_limits (controls_of sc) ≡ true
+  pub anchor : anchor_within_limits (anchor_of sc) ≡ true

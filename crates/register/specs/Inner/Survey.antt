@@ -1,20 +1,21 @@
 -- What one walk over host features and variables tells: what is declared, how many names of control points there are,
 -- and where variables and places stand.
-use Rattle.std.specs.Prelude.{◌≡◌, true, cond, List, [], ◌∷◌, ℕ, suc, ◌+◌, ◌≤◌, ◌<◌, length, Float}
+use Rattle.std.specs.Option.{option_or}
+use Rattle.std.specs.Prelude.{◌≡◌, true, cond, List, [], ◌∷◌, ℕ, suc, ◌+◌, ◌≤◌, ◌<◌, length, Float, Option}
 use Rattle.stream.specs.Payload.{payload}
 use Rattle.stream.specs.Inner.Payload.{room}
 use Rattle.records.specs.Layout.{laid_out}
-use Rattle.scene.specs.declared.fields.OptionalFloat.{OptionalFloat}
 use Rattle.scene.specs.Scene.{NamedValue, Scene, scene_of}
-use Rattle.scene.specs.Labels.{same_bytes, pick, variable_of}
-use Rattle.scene.specs.Inner.Answers.{maybe_float, maybe_point, features_at, variables_at, LabelsFrom, VariablesFrom}
+use Rattle.values.specs.Options.{given}
+use Rattle.scene.specs.Labels.{same_bytes, variable_of}
+use Rattle.scene.specs.Inner.Answers.{features_at, variables_at, LabelsFrom, VariablesFrom}
 use Rattle.register.specs.declared.declared.Geo.{Geo}
 use Rattle.register.specs.declared.declared.Declared.{Declared}
 use Rattle.register.specs.declared.survey.Survey.{Survey}
 use Rattle.register.specs.Register.{is_mercator, var, px_mode, declared_scale, declared_bearing, anchor_of, half_anchor, geo_frame, geo_px, geo_scale, geo_bearing, geo_lon, geo_lat, is_lon}
 
 -- each of the `geo_` values, with the variable's name
-pub record Each (P : List ℕ → OptionalFloat → Type 0) (g : Geo) : Type 0 where
+pub record Each (P : List ℕ → Option Float → Type 0) (g : Geo) : Type 0 where
   pub frame : P geo_frame g.frame
   pub px : P geo_px g.px
   pub scale : P geo_scale g.scale
@@ -24,11 +25,11 @@ pub record Each (P : List ℕ → OptionalFloat → Type 0) (g : Geo) : Type 0 w
 
 -- they are what these variables say
 abbrev pub Agrees : List NamedValue → Geo → Type 0
-Agrees vs g = Each (λ name x. maybe_float x ≡ variable_of name vs) g
+Agrees vs g = Each (λ name x. x ≡ variable_of name vs) g
 
 -- a value that is looked for by a name, after one more variable: the first one stays
-abbrev pub first_value : List ℕ → Float → List ℕ → OptionalFloat → OptionalFloat
-first_value called x name old = pick old.some old (record { some = same_bytes called name; value = x })
+abbrev pub first_value : List ℕ → Float → List ℕ → Option Float → Option Float
+first_value called x name old = option_or old (given (same_bytes called name) x)
 
 unfoldable pub recorded_geo : List ℕ → Float → Geo → Geo
 recorded_geo called x g =
@@ -50,11 +51,11 @@ lons_in (v ∷ vs) = cond (is_lon v.name) (suc (lons_in vs)) (lons_in vs)
 pub record Declares (sc : Scene) (d : Declared) : Type 0 where
   pub mercator : d.mercator ≡ is_mercator sc.frame (var sc geo_frame)
   pub px : d.px ≡ px_mode sc
-  pub scale : maybe_float d.scale ≡ declared_scale sc
-  pub bearing : maybe_float d.bearing ≡ declared_bearing sc
-  pub anchor : maybe_point d.anchor ≡ anchor_of sc
+  pub scale : d.scale ≡ declared_scale sc
+  pub bearing : d.bearing ≡ declared_bearing sc
+  pub anchor : d.anchor ≡ anchor_of sc
   pub half : d.half ≡ half_anchor sc
-  pub view : maybe_float d.view ≡ sc.view_scale
+  pub view : d.view ≡ sc.view_scale
   pub rescale : d.rescale ≡ sc.rescale
 
 pub record Surveyed (l : List ℕ) (v : Survey) : Type 0 where

@@ -1,15 +1,14 @@
 -- How many control points a registration has: as many as the scene, and as many numbers of names are kept.
-use Rattle.std.specs.Prelude.{◌≡◌, refl, List, [], ◌∷◌, ℕ, suc, ◌≤◌, length}
+use Rattle.std.specs.Prelude.{◌≡◌, refl, List, [], ◌∷◌, ℕ, suc, ◌≤◌, length, Option}
 use Rattle.std.proofs.Common.{ap, arith, length-take}
 use Rattle.values.specs.declared.Point.{Point}
-use Rattle.values.specs.Maybe.{Maybe}
 use Rattle.scene.specs.Scene.{Scene}
 use Rattle.fit.specs.declared.Control.{Control}
 use Rattle.projection.specs.declared.Registration.{Registration}
 use Rattle.register.specs.Register.{Event, control, warn, events, controls_in, controls_of, anchor_of, registration_by, registration_of}
 use Rattle.register.specs.Inner.Gathered.{numbers_in, Kept, KeptControls}
 
-counted : (sc : Scene) (a : Maybe Point) (cs : List Control) → (registration_by sc a cs).controls ≡ length cs
+counted : (sc : Scene) (a : Option Point) (cs : List Control) → (registration_by sc a cs).controls ≡ length cs
 unfolding registration_by
 counted sc a [] = refl
 counted sc a (c ∷ []) = refl
@@ -19,7 +18,7 @@ pub controls_are : (sc : Scene) {r : Registration} → r ≡ registration_of sc 
 unfolding registration_of
 controls_are sc e = rw e (counted sc (anchor_of sc) (controls_of sc))
 
-numbers_length : (j : ℕ) (es : List Event) → length (numbers_in j es) ≡ length (controls_in es)
+pub numbers_length : (j : ℕ) (es : List Event) → length (numbers_in j es) ≡ length (controls_in es)
 unfolding numbers_in controls_in
 numbers_length j [] = refl
 numbers_length j (control c ∷ es) = ap suc (numbers_length (suc j) es)

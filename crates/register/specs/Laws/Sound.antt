@@ -1,5 +1,6 @@
 -- The registration of a stream that no early condition refuses is sound. Assumes nothing.
-use Rattle.std.specs.Prelude.{◌≡◌, refl, Bool, true, false, not, ◌&&◌, cond, ℕ, suc, ◌*◌, ◌≤◌, length, take, ℤ, T, eqb, ltb, Float}
+use Rattle.std.specs.Option.{option_or}
+use Rattle.std.specs.Prelude.{◌≡◌, refl, Bool, true, false, not, ◌&&◌, cond, ℕ, suc, ◌*◌, ◌≤◌, length, take, ℤ, T, eqb, ltb, Float, Option, None, Some, is_some, IfSome, unwrap_or}
 use Rattle.std.proofs.Common.{true≢false, arith, ltb-false, le-ltb}
 use mathlib.Core.List.{List, [], ◌∷◌, ◌++◌, map}
 use Rattle.std.specs.Float.{nan, inf, fin}
@@ -25,8 +26,6 @@ use Rattle.fit.specs.Fit.{fit_of}
 use Rattle.projection.specs.Laws.Project.{Sound}
 use Rattle.fit.specs.Laws.Fitted.{ControlWithin, Fitted, fit_in}
 use Rattle.stream.specs.Numbers.{u64_at, float_of, float_at}
-use Rattle.stream.specs.declared.Float64.{Float64}
-use Rattle.stream.specs.declared.Float64.TheVariants.{Finite, NotFinite}
 use Rattle.stream.specs.Payload.{payload}
 use Rattle.stream.specs.Laws.Payload.{payload-length}
 use Rattle.records.specs.Walk.{entries}
@@ -39,9 +38,8 @@ use Rattle.records.specs.Laws.Refusals.{is-short, is-limited, is_rescaled}
 use Rattle.stream.specs.Laws.Conditions.{first-none}
 use Rattle.scene.specs.Scene.{first, value_of, float_value_at, NamedFeature, NamedValue, variable_at, Scene, scene_of}
 use Rattle.values.specs.declared.Point.{Point}
-use Rattle.values.specs.Maybe.{Maybe, none, some, or_else, or_value}
 use Rattle.scene.specs.Labels.{same_bytes, pick, variable_of}
-use Rattle.register.specs.Register.{geo_bearing, suffix_lat, f0, f1, max_scale, var, px_mode, declared_bearing, Event, control, warn, resolved, mentioned, event_of, feature_event, feature_events, stem, is_lon, lon_event, cons_if, variable_events, events, controls_in, controls_of, anchor_of, within_limits, all_within_limits, anchor_within_limits, scale_value, above0, effective_scale, declared_at, fitted, registration_by, registration_of, of_registration}
+use Rattle.register.specs.Register.{geo_bearing, suffix_lat, f0, f1, max_scale, var, px_mode, declared_bearing, Event, control, warn, resolved, mentioned, event_of, feature_event, feature_events, stem, is_lon, lon_event, cons_if, variable_events, events, controls_in, controls_of, anchor_of, within_limits, all_within_limits, anchor_within_limits, scale_value, above0, effective_scale, declared_at, fitted, no_fit, registration_by, registration_of, of_registration}
 use Rattle.values.specs.Warnings.{Warning}
 use Rattle.register.specs.Inner.Outcome.{register_refusal}
 use Rattle.register.specs.Laws.Outcomes.{registration_numbered}
@@ -74,14 +72,14 @@ unfolding variable_of variable_at
 variable_number name [] = tt
 variable_number name (b ∷ ls) = by (same_bytes (variable_at b).name name) (variable_number name ls)
   where
-    by : (t : Bool) → Holds Number (variable_of name (map variable_at ls)) → Holds Number (pick t (some (variable_at b).value) (variable_of name (map variable_at ls)))
+    by : (t : Bool) → Holds Number (variable_of name (map variable_at ls)) → Holds Number (pick t (Some (variable_at b).value) (variable_of name (map variable_at ls)))
     by true h = number_at b _
     by false h = h
 
-or_number : (a b : Maybe Float) (d : Float) → Holds Number a → Holds Number b → Number d → Number (or_value (or_else a b) d)
-or_number none none d h k w = w
-or_number none (some y) d h k w = k
-or_number (some x) b d h k w = h
+or_number : (a b : Option Float) (d : Float) → Holds Number a → Holds Number b → Number d → Number (unwrap_or (option_or a b) d)
+or_number None None d h k w = w
+or_number None (Some y) d h k w = k
+or_number (Some x) b d h k w = h
 
 -- ---- signs: no minus. A value that is not finite is tested later.
 abbrev plus : Float → Bool
@@ -148,10 +146,10 @@ not_below (inf false) h = tt
 not_below (fin true m e) h = absurd (h (→le (fin true m e) f0 tt tt (omega arith)))
 not_below (fin false m e) h = tt
 
-rescale-plus : (x : Float64) → not_above x ≡ false → T (plus (value_of x))
+rescale-plus : (x : Option Float) → not_above x ≡ false → T (plus (value_of x))
 unfolding not_above value_of
-rescale-plus NotFinite h = unfold of_bits in tt
-rescale-plus (Finite v) h = not_below v (no (le v f0) h)
+rescale-plus None h = unfold of_bits in tt
+rescale-plus (Some v) h = not_below v (no (le v f0) h)
 
 plus-low : (v : Float) → T (finite v) → T (plus v) → T (le K.zero v)
 plus-low nan f h = absurd f
@@ -162,7 +160,7 @@ plus-low (fin s m e) f h = nonneg-low (fin s m e) h
 pub record Tame (sc : Scene) : Type 0 where
   pub points : NearScene sc
   pub rescale : T (plus sc.rescale)
-  pub bearing : Number (or_value (declared_bearing sc) f0)
+  pub bearing : Number (unwrap_or (declared_bearing sc) f0)
 
 pub tame : (l : List ℕ) → length l ≤ longest → limited l ≡ true → not_above (rescale_in l) ≡ false → Tame (scene_of l)
 unfolding scene_of float_value_at rescale_in
@@ -218,11 +216,11 @@ abbrev EventNear : Event → Type 0
 EventNear (control c) = Near c.x × Near c.y
 EventNear (warn w) = Unit {0}
 
-event-near : (m : Maybe Point) (b : Bool) (lon lat : Float) (w v : Warning) → Holds NearPoint m → EventNear (event_of m b lon lat w v)
+event-near : (m : Option Point) (b : Bool) (lon lat : Float) (w v : Warning) → Holds NearPoint m → EventNear (event_of m b lon lat w v)
 unfolding event_of
-event-near none b lon lat w v h = tt
-event-near (some p) true lon lat w v h = tt
-event-near (some p) false lon lat w v h = (h.x, h.y)
+event-near None b lon lat w v h = tt
+event-near (Some p) true lon lat w v h = tt
+event-near (Some p) false lon lat w v h = (h.x, h.y)
 
 onto_near : (t : Bool) (e : Event) (es : List Event) → EventNear e → Each EventNear es → Each EventNear (cons_if t e es)
 onto_near true e es h k = (h, k)
@@ -247,10 +245,10 @@ module _ (sc : Scene) (N : NearScene sc) where
   features_near i (f ∷ fs) =
       (event-near (resolved sc f.name) (mentioned f.name (take i sc.features)) f.lon f.lat _ _ (label_near sc N f.name), features_near (suc i) fs)
 
-  lon_near : (i : ℕ) (name : List ℕ) (lon : Float) (m : Maybe Float) → EventNear (lon_event sc i name lon m)
+  lon_near : (i : ℕ) (name : List ℕ) (lon : Float) (m : Option Float) → EventNear (lon_event sc i name lon m)
   unfolding lon_event
-  lon_near i name lon none = tt
-  lon_near i name lon (some lat) = event-near (resolved sc name) (mentioned name sc.features) lon lat _ _ (label_near sc N name)
+  lon_near i name lon None = tt
+  lon_near i name lon (Some lat) = event-near (resolved sc name) (mentioned name sc.features) lon lat _ _ (label_near sc N name)
 
   variables_near : (i : ℕ) (vs : List NamedValue) → Each EventNear (variable_events sc i vs)
   unfolding variable_events
@@ -269,11 +267,11 @@ is_true : (b : Bool) → not b ≡ false → b ≡ true
 is_true true h = refl
 is_true false h = absurd (true≢false h)
 
-used_plus : (b : Bool) (m : Maybe Float) (v : Float) → T (plus v) → (b && not (above0 m)) ≡ false → T (plus (cond b (mul binary64 v (or_value m f1)) v))
+used_plus : (b : Bool) (m : Option Float) (v : Float) → T (plus v) → (b && not (above0 m)) ≡ false → T (plus (cond b (mul binary64 v (unwrap_or m f1)) v))
 unfolding above0
 used_plus false m v p h = p
-used_plus true none v p h = absurd (true≢false h)
-used_plus true (some x) v p h = mul-plus v x p (above-plus x (yes (lt f0 x) (is_true (lt f0 x) h)))
+used_plus true None v p h = absurd (true≢false h)
+used_plus true (Some x) v p h = mul-plus v x p (above-plus x (yes (lt f0 x) (is_true (lt f0 x) h)))
 
 effective_plus : (sc : Scene) → T (plus sc.rescale) → lt f0 (scale_value sc) ≡ true → (px_mode sc && not (above0 sc.view_scale)) ≡ false → T (plus (effective_scale sc))
 unfolding effective_scale
@@ -286,7 +284,7 @@ record Passes (sc : Scene) (cs : List Control) : Type 0 where
   all : all_within_limits cs ≡ true
   anchor : anchor_within_limits (anchor_of sc) ≡ true
   most : ltb 64 (length cs) ≡ false
-  fit : (not (ltb (length cs) 2) && not (fit_of cs).some) ≡ false
+  fit : (not (ltb (length cs) 2) && not (is_some (fit_of cs))) ≡ false
   above : (ltb (length cs) 2 && not (lt f0 (scale_value sc))) ≡ false
   view : (ltb (length cs) 2 && (px_mode sc && not (above0 sc.view_scale))) ≡ false
   scale : T (finite (registration_by sc (anchor_of sc) cs).scale)
@@ -321,10 +319,10 @@ record OnEarth (p : Point) : Type 0 where
   lon : Between m180 K.c180 p.x
   lat : Between m89·5 c89·5 p.y
 
-anchor_earth : (m : Maybe Point) → anchor_within_limits m ≡ true → OnEarth (or_value m (record { x = f0; y = f0 }))
+anchor_earth : (m : Option Point) → anchor_within_limits m ≡ true → OnEarth (unwrap_or m (record { x = f0; y = f0 }))
 unfolding anchor_within_limits
-anchor_earth none h = record { lon = zero_in.0; lat = zero_in.1 }
-anchor_earth (some p) h =
+anchor_earth None h = record { lon = zero_in.0; lat = zero_in.1 }
+anchor_earth (Some p) h =
     let m = on_map p.x p.y h in
     record { lon = m.lon; lat = lat_wider p.y m.lat }
 
@@ -351,6 +349,10 @@ fitted_sound f n F s = record {
   of_format = F.of_format;
 }
 
+fit_sound : (f : Option Fit) (n : ℕ) → IfSome f Fitted → is_some f ≡ true → T (le (fitted (unwrap_or f no_fit) n).scale max_scale) → Sound (fitted (unwrap_or f no_fit) n)
+fit_sound (Some f) n F e s = fitted_sound f n F s
+fit_sound None n F e s = absurd (cc)
+
 registered : (sc : Scene) (cs : List Control) → Tame sc → Each ControlWithin cs → Passes sc cs → Sound (registration_by sc (anchor_of sc) cs)
 unfolding registration_by
 registered sc [] t c p =
@@ -360,8 +362,9 @@ registered sc (k ∷ []) t c p =
     (record { lon = c.0.lon; lat = lat_wider k.lat c.0.lat }) (record { x = c.0.x; y = c.0.y })
     (is_true (lt f0 (scale_value sc)) p.above) p.view p.scale p.small
 registered sc (k ∷ j ∷ cs) t c p =
-    fitted_sound (fit_of (k ∷ j ∷ cs)) (length (k ∷ j ∷ cs))
-    (fit_in (k ∷ j ∷ cs) (ltb-false 64 (length (k ∷ j ∷ cs)) p.most) c (is_true (fit_of (k ∷ j ∷ cs)).some (rw (le-ltb (length (k ∷ j ∷ cs)) 2 (omega arith)) at p.fit))) p.small
+    fit_sound (fit_of (k ∷ j ∷ cs)) (length (k ∷ j ∷ cs))
+    (fit_in (k ∷ j ∷ cs) (ltb-false 64 (length (k ∷ j ∷ cs)) p.most) c)
+    (is_true (is_some (fit_of (k ∷ j ∷ cs))) (rw (le-ltb (length (k ∷ j ∷ cs)) 2 (omega arith)) at p.fit)) p.small
 
 pub tame_sound : (sc : Scene) → Tame sc → register_refusal sc ≡ 0 → Sound (registration_of sc)
 unfolding registration_of

@@ -1,16 +1,15 @@
 -- `root::root_digits` meets its contract: the cases by pattern, and then what `decompose`, `whole_root` and `count`
 -- give. Assumes nothing.
 use mathlib.Core.Path.{◌≡◌, refl, sym, ap, ◌∙◌, subst}
-use mathlib.Core.Bool.{true, false, not}
+use mathlib.Core.Bool.{true, false≢true}
 use mathlib.Core.Logic.{inl, inr}
 use Prim.Native.Nat.{ℕ, ◌-◌, ◌%◌, ◌^◌, ◌≤◌, ◌<◌}
 use native.Mathlib.Omega.{arith}
 use borrow.Author.Rules.{rules}
 use lib.Dec.{T}
 use lib.Count.{count_trailing_zeros}
-use lib.Ieee.{Float, nan, inf, fin, binary64, div, ne, fits, is_nan, of_bits, to_bits}
+use lib.Ieee.{Float, nan, inf, fin, binary64, fits, is_nan, of_bits, to_bits}
 use lib.Ieee.Bits.{of_bits-to_bits, to_bits-lt}
-use lib.Ieee.Compare.{differs_from_itself}
 use Rattle.root.specs.Root.{root_of}
 use Rattle.root.specs.Digits.{digits_of}
 use Rattle.root.specs.Inner.Halves.{Ends}
@@ -30,25 +29,18 @@ module _ (x : Float) (g : fits binary64 x ≡ true) where
   wide = to_bits-lt binary64 x held
 
 -- ---- the cases that need no digits
-own_nan : (x : Float) → x ≡ nan → Own x
-unfolding root_of digits_of
-own_nan x e = subst Own (sym e) (refl, refl)
+own_nan : (x : Float) → is_nan x ≡ true → Own x
+unfolding is_nan root_of digits_of
+own_nan nan h = (refl, refl)
+own_nan (inf s) h = absurd (false≢true h)
+own_nan (fin s m e) h = absurd (false≢true h)
 
-no_nan : (x : Float) → ne x x ≡ false → T (not (is_nan x))
-unfolding is_nan ne
-no_nan nan h = absurd (subst T h tt)
-no_nan (inf s) h = tt
-no_nan (fin s m e) h = tt
+nan_is : of_bits binary64 9221120237041090560 ≡ nan
+unfolding of_bits
+nan_is = refl
 
-no_number : div binary64 (of_bits binary64 0) (of_bits binary64 0) ≡ nan
-unfolding div of_bits
-no_number = refl
-
-pub returns-then-x : goal.returns-then-x
-returns-then-x c = own_nan c.args.x (differs_from_itself c.args.x (subst T (sym c.if-x.true) tt))
-
-pub float_to_bits-b : goal.float_to_bits-b
-float_to_bits-b c = no_nan c.args.x c.if-x.false
+pub returns-then-is_nan : goal.returns-then-is_nan
+returns-then-is_nan c = own_nan c.args.x (sym c.is_nan.ensures.value ∙ c.if-is_nan.true)
 
 pub returns-then-b-eq0 : goal.returns-then-b-eq0
 returns-then-b-eq0 c =
@@ -61,7 +53,7 @@ returns-then-b-gt-SIGN c =
     let x = c.args.x in
     let g = c.well_formed.0.1 in
     let v = subst None (read x g) (at_minus (to_bits binary64 x) (wide x g) c.if-b-gt-SIGN.true) in
-    (no_number ∙ v.0, v.1)
+    (nan_is ∙ v.0, v.1)
 
 pub returns-then-b-ge-INFINITY : goal.returns-then-b-ge-INFINITY
 returns-then-b-ge-INFINITY c =

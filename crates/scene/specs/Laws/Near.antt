@@ -1,6 +1,7 @@
 -- What condition 4 leaves of a scene: every place and every measure of an item is at most 1,000,000 in magnitude, and
 -- so is each point that a label names. Assumes nothing.
-use Rattle.std.specs.Prelude.{◌≡◌, refl, Bool, true, false, ◌&&◌, cond, List, [], ◌∷◌, map, ℕ, zero, suc, ◌+◌, ◌-◌, ◌*◌, ◌/◌, ◌%◌, ◌≤◌, ◌<◌, ◌^◌, length, eqb, Float}
+use Rattle.std.specs.Option.{option_or}
+use Rattle.std.specs.Prelude.{◌≡◌, refl, Bool, true, false, ◌&&◌, cond, List, [], ◌∷◌, map, ℕ, zero, suc, ◌+◌, ◌-◌, ◌*◌, ◌/◌, ◌%◌, ◌≤◌, ◌<◌, ◌^◌, length, eqb, Float, Option, None, Some}
 use Rattle.std.proofs.Common.{sym, subst, zero-lt-suc, eqb-true}
 use Rattle.std.proofs.lemmas.Bool.{false≢true}
 use native.Mathlib.Omega.{arith}
@@ -11,10 +12,8 @@ use Rattle.float.specs.Laws.Intervals.{Between}
 use Rattle.float.specs.Laws.Tests.{yes}
 use Rattle.float.specs.Laws.Spans.{Spans, Few, Each, total, ends_spans, spans_ends, mean_spans, each_map, whole-million, million, m_million}
 use Rattle.stream.specs.Numbers.{u16_at, float_at}
-use Rattle.stream.specs.declared.Float64.{Float64}
-use Rattle.stream.specs.declared.Float64.TheVariants.{Finite, NotFinite}
 use Rattle.records.specs.declared.records.Record.{Record}
-use Rattle.records.specs.declared.records.Record.TheVariants.{Rescale, Option, Feature, Variable, Place, Item, Points, Path}
+use Rattle.records.specs.declared.records.Record.TheVariants.{Rescale, Option as OptionRecord, Feature, Variable, Place, Item, Points, Path}
 use Rattle.records.specs.declared.records.Step.{Step}
 use Rattle.records.specs.declared.records.Step.TheVariants.{Got, End, Bad}
 use Rattle.records.specs.Records.{values_width, record_of}
@@ -25,15 +24,15 @@ use Rattle.records.specs.Laws.Tests.{and_left, and_right}
 use Rattle.records.specs.Laws.Records.{size_of, Fields, stands}
 use Rattle.scene.specs.Scene.{first, value_of, float_value_at, bit, point_at, points_at, Cubic, cubic_at, cubics_at, NamedPlace, place_at, Form, curve, polyline, form_at, DrawnPath, path_at, DrawnItem, tail, item_with, item_at, Scene, scene_of}
 use Rattle.values.specs.declared.Point.{Point}
-use Rattle.values.specs.Maybe.{Maybe, none, some, given, or_else}
+use Rattle.values.specs.Options.{given}
 use Rattle.scene.specs.Labels.{same_bytes, pick, sum_of, mean_of, mean_point, start_of, first_start, mean_or_start, reference_point, Key, Best, greater, consider, consider_at, place_key, item_key, best_place, label_is, best_item, point_of, point_of_label}
 use Rattle.scene.specs.Laws.Widths.{all-at, at_within, w_within, h_within, r_within, rad_within}
 use Rattle.scene.specs.Laws.Points.{points-length}
 
 -- ---- what may be absent, and lists
-abbrev pub Holds : {A : Type 0} → (A → Type 0) → Maybe A → Type 0
-Holds Q none = Unit {0}
-Holds Q (some x) = Q x
+abbrev pub Holds : {A : Type 0} → (A → Type 0) → Option A → Type 0
+Holds Q None = Unit {0}
+Holds Q (Some x) = Q x
 
 given_holds : {A : Type 0} (Q : A → Type 0) (b : Bool) (x : A) → (b ≡ true → Q x) → Holds Q (given b x)
 given_holds Q true x f = f refl
@@ -51,10 +50,10 @@ pub record NearPoint (p : Point) : Type 0 where
   pub x : Near p.x
   pub y : Near p.y
 
-near-value : (v : Float64) → on_canvas v ≡ true → Near (value_of v)
+near-value : (v : Option Float) → on_canvas v ≡ true → Near (value_of v)
 unfolding on_canvas value_of of_bits neg
-near-value NotFinite h = absurd (false≢true h)
-near-value (Finite v) h = record { low = yes (le m_million v) (and_left _ _ h); high = yes (le v million) (and_right (le m_million v) _ h); fl = tt; fh = tt }
+near-value None h = absurd (false≢true h)
+near-value (Some v) h = record { low = yes (le m_million v) (and_left _ _ h); high = yes (le v million) (and_right (le m_million v) _ h); fl = tt; fh = tt }
 
 -- n floats from p on
 abbrev Run : List ℕ → ℕ → ℕ → Type 0
@@ -199,7 +198,7 @@ path-near b (suc f) k c g m h = rw (← g (omega arith)) (points_near b 6 k (run
 near_record : (b : List ℕ) (r : Record) → Told b r → AllNear (tail (entries b 0)) → NearRecord (tag_of r) b
 unfolding limited_at place_at item_at path_at
 near_record b Rescale t a = tt
-near_record b (Option o) t a = tt
+near_record b (OptionRecord o) t a = tt
 near_record b (Feature n) t a = tt
 near_record b (Variable n) t a = tt
 near_record b (Place n) t a = rw (← t.fields.0.is) (point-near b (2 + n) 2 (omega arith) (run b (2 + n) 2 t.limits))
@@ -250,11 +249,11 @@ mean-near f g ps h k w =
     all n h = omega arith
 
 -- ---- the point of an item
-mean_or_start_lem : (m : Maybe (List Point)) (paths : List DrawnPath) → Holds NearPoints m → Holds NearPoint (first_start paths) → Holds NearPoint (mean_or_start m paths)
+mean_or_start_lem : (m : Option (List Point)) (paths : List DrawnPath) → Holds NearPoints m → Holds NearPoint (first_start paths) → Holds NearPoint (mean_or_start m paths)
 unfolding mean_or_start mean_point
-mean_or_start_lem none paths h k = k
-mean_or_start_lem (some []) paths h k = k
-mean_or_start_lem (some (p ∷ ps)) paths h k =
+mean_or_start_lem None paths h k = k
+mean_or_start_lem (Some []) paths h k = k
+mean_or_start_lem (Some (p ∷ ps)) paths h k =
     let mean : (f : Point → Float) → ((q : Point) → NearPoint q → Near (f q)) → Near (mean_of f (p ∷ ps)) = λ f g. mean-near f g (p ∷ ps) (zero-lt-suc (length ps)) h.few h.points in
     record { x = mean (λ q. q.x) (λ q w. w.x); y = mean (λ q. q.y) (λ q w. w.y) }
 
@@ -269,9 +268,9 @@ unfolding first_start
 first-start [] h = tt
 first-start (p ∷ ps) h = start-near p.form h.0
 
-or_near : (a q : Maybe Point) → Holds NearPoint a → Holds NearPoint q → Holds NearPoint (or_else a q)
-or_near none q h k = k
-or_near (some p) q h k = h
+or_near : (a q : Option Point) → Holds NearPoint a → Holds NearPoint q → Holds NearPoint (option_or a q)
+or_near None q h k = k
+or_near (Some p) q h k = h
 
 pub reference_near : (it : DrawnItem) → NearItem it → Holds NearPoint (reference_point it)
 unfolding reference_point
@@ -281,37 +280,37 @@ reference_near it h = or_near it.at _ h.at (mean_or_start_lem it.points it.paths
 abbrev AtNear : Best → Type 0
 AtNear b = NearPoint b.at
 
-consider-near : (b : Maybe Best) (k : Key) (p : Point) → Holds AtNear b → NearPoint p → Holds AtNear (consider b k p)
+consider-near : (b : Option Best) (k : Key) (p : Point) → Holds AtNear b → NearPoint p → Holds AtNear (consider b k p)
 unfolding consider
-consider-near none k p h w = w
-consider-near (some b) k p h w = by (greater k b.key)
+consider-near None k p h w = w
+consider-near (Some b) k p h w = by (greater k b.key)
   where
-    by : (t : Bool) → Holds AtNear (pick t (some (record { key = k; at = p })) (some b))
+    by : (t : Bool) → Holds AtNear (pick t (Some (record { key = k; at = p })) (Some b))
     by true = w
     by false = h
 
-consider-at : (b : Maybe Best) (k : Key) (p : Maybe Point) → Holds AtNear b → Holds NearPoint p → Holds AtNear (consider_at b k p)
-consider-at b k none h w = h
-consider-at b k (some p) h w = consider-near b k p h w
+consider-at : (b : Option Best) (k : Key) (p : Option Point) → Holds AtNear b → Holds NearPoint p → Holds AtNear (consider_at b k p)
+consider-at b k None h w = h
+consider-at b k (Some p) h w = consider-near b k p h w
 
-pick-near : (t : Bool) (a b : Maybe Best) → Holds AtNear a → Holds AtNear b → Holds AtNear (pick t a b)
+pick-near : (t : Bool) (a b : Option Best) → Holds AtNear a → Holds AtNear b → Holds AtNear (pick t a b)
 pick-near true a b h k = h
 pick-near false a b h k = k
 
-place-best : (name : List ℕ) (i : ℕ) (ps : List NamedPlace) (b : Maybe Best) → Each (λ p. NearPoint p.at) ps → Holds AtNear b → Holds AtNear (best_place name i ps b)
+place-best : (name : List ℕ) (i : ℕ) (ps : List NamedPlace) (b : Option Best) → Each (λ p. NearPoint p.at) ps → Holds AtNear b → Holds AtNear (best_place name i ps b)
 unfolding best_place
 place-best name i [] b h k = k
 place-best name i (p ∷ ps) b h k = place-best name (suc i) ps _ h.1 (pick-near (same_bytes p.label name) (consider b (place_key p i) p.at) b (consider-near b (place_key p i) p.at k h.0) k)
 
-item-best : (name : List ℕ) (i : ℕ) (its : List DrawnItem) (b : Maybe Best) → Each NearItem its → Holds AtNear b → Holds AtNear (best_item name i its b)
+item-best : (name : List ℕ) (i : ℕ) (its : List DrawnItem) (b : Option Best) → Each NearItem its → Holds AtNear b → Holds AtNear (best_item name i its b)
 unfolding best_item
 item-best name i [] b h k = k
 item-best name i (it ∷ its) b h k =
     item-best name (suc i) its _ h.1 (pick-near (label_is it.label name) (consider_at b (item_key it i) (reference_point it)) b (consider-at b (item_key it i) (reference_point it) k (reference_near it h.0)) k)
 
-point_of_lem : (b : Maybe Best) → Holds AtNear b → Holds NearPoint (point_of b)
-point_of_lem none h = tt
-point_of_lem (some b) h = h
+point_of_lem : (b : Option Best) → Holds AtNear b → Holds NearPoint (point_of b)
+point_of_lem None h = tt
+point_of_lem (Some b) h = h
 
 -- a scene whose points are on the canvas
 pub record NearScene (sc : Scene) : Type 0 where
@@ -320,7 +319,7 @@ pub record NearScene (sc : Scene) : Type 0 where
 
 pub label_near : (sc : Scene) → NearScene sc → (name : List ℕ) → Holds NearPoint (point_of_label name sc.places sc.items)
 unfolding point_of_label
-label_near sc h name = point_of_lem (best_item name 0 sc.items (best_place name 0 sc.places none)) (item-best name 0 sc.items _ h.items (place-best name 0 sc.places none h.places tt))
+label_near sc h name = point_of_lem (best_item name 0 sc.items (best_place name 0 sc.places None)) (item-best name 0 sc.items _ h.items (place-best name 0 sc.places None h.places tt))
 
 -- ---- the law
 pub limited-near : (l : List ℕ) → length l ≤ longest → limited l ≡ true → NearScene (scene_of l)

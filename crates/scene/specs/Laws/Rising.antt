@@ -1,6 +1,6 @@
 -- The variables of a payload that is laid out stand in the order of their names, and what follows for a name that is
 -- looked for among them.
-use Rattle.std.specs.Prelude.{◌≡◌, ◌⊎◌, Bool, true, false, ◌&&◌, List, [], ◌∷◌, map, ℕ, zero, suc, ◌-◌, ◌<◌, eqb}
+use Rattle.std.specs.Prelude.{◌≡◌, ◌⊎◌, Bool, true, false, ◌&&◌, List, [], ◌∷◌, map, ℕ, zero, suc, ◌-◌, ◌<◌, eqb, None}
 use Rattle.std.proofs.Math.Path.{refl}
 use Rattle.std.proofs.Common.{sym, ◌∙◌, true≢false, arith, ltb-true, eqb-true, lt-ltb, le-ltb, eq-eqb}
 use Rattle.std.proofs.Math.Logic.{inl, inr, ⊎_elim}
@@ -8,7 +8,7 @@ use Rattle.std.proofs.Math.Bool.{and-false, or-true}
 use Rattle.std.proofs.lemmas.Bool.{false≢true}
 use Rattle.std.proofs.Math.Dec.{ltb}
 use Rattle.records.specs.declared.records.Record.{Record}
-use Rattle.records.specs.declared.records.Record.TheVariants.{Rescale, Option, Feature, Variable, Place, Item, Points, Path}
+use Rattle.records.specs.declared.records.Record.TheVariants.{Rescale, Option as OptionRecord, Feature, Variable, Place, Item, Points, Path}
 use Rattle.records.specs.declared.records.Step.{Step}
 use Rattle.records.specs.declared.records.Step.TheVariants.{Got, End, Bad}
 use Rattle.records.specs.Records.{record_of, bytes_at}
@@ -18,7 +18,6 @@ use Rattle.records.specs.Search.{ends_search, search_step_of, with_found, record
 use Rattle.records.specs.Laws.Tests.{and_left, and_right, or_cases}
 use Rattle.records.specs.Laws.Records.{Fields, stands}
 use Rattle.scene.specs.Scene.{NamedValue, variable_at}
-use Rattle.values.specs.Maybe.{none}
 use Rattle.scene.specs.Labels.{same_bytes, variable_of}
 use Rattle.scene.specs.Inner.Answers.{variables_at}
 
@@ -102,7 +101,7 @@ rising_from u v [] r = tt
 rising_from u v (w ∷ ws) r = (before_some v.name w.name r.1.0, r.1.1)
 
 -- a name that does not come after u is not among those that rise after u
-pub not-among : (u name : List ℕ) (vs : List NamedValue) → Rising u vs → before u name ≡ false → variable_of name vs ≡ none
+pub not-among : (u name : List ℕ) (vs : List NamedValue) → Rising u vs → before u name ≡ false → variable_of name vs ≡ None
 unfolding variable_of
 not-among u name [] r h = refl
 not-among u name (v ∷ vs) r h =
@@ -140,7 +139,7 @@ module _ (b : List ℕ) (p : Pass) (es : List Entry) (on : (q : Pass) → in_ord
   one_on : (r : Record) → Fields b r → when_ordered (step_of p b r) (λ q. in_order es q) ≡ true → Rising p.name (map variable_at (with_found (search_step_of 4 0 r) b (records_of 4 0 es)))
   unfolding step_of search_step_of ends_search variable_at bytes_at
   one_on Rescale s h = (step_on (eqb p.last 0) (tagged p 1) h).1
-  one_on (Option o) s h = (step_on (follows p 2 && ltb p.option o) (record { last = 2; option = o; name = p.name; roles = p.roles }) h).1
+  one_on (OptionRecord o) s h = (step_on (follows p 2 && ltb p.option o) (record { last = 2; option = o; name = p.name; roles = p.roles }) h).1
   one_on (Feature n) s h = (step_on (follows p 3) (tagged p 3) h).1
   one_on (Variable n) s h =
       let both = step_on (follows p 4 && before p.name (name_of b n)) (record { last = 4; option = p.option; name = name_of b n; roles = p.roles }) h in

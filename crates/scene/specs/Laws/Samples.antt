@@ -1,6 +1,6 @@
 -- The definitions on known scenes: rows 7 and 8 of document 01's table, and what else decides which point a label
 -- names.
-use Rattle.std.specs.Prelude.{◌≡◌, refl, List, [], ◌∷◌, ◌++◌, ℕ, replicate}
+use Rattle.std.specs.Prelude.{◌≡◌, refl, List, [], ◌∷◌, ◌++◌, ℕ, replicate, Option, None, Some}
 use Rattle.std.specs.Float.{binary64}
 use Rattle.std.specs.Float.Ieee.{of_bits, of_int, add, div, sum, round, units, odd, size, climb, span}
 use Rattle.stream.specs.Numbers.{u16_at, u32_at, u64_at, float_of, float_at}
@@ -10,7 +10,6 @@ use Rattle.records.specs.Search.{ends_search, search_step_of, records_of}
 use Rattle.scene.specs.Scene as scene
 use Rattle.scene.specs.Scene.{scene_of, value_of, float_value_at, bit, point_at, points_at, cubic_at, cubics_at, place_at, form_at, path_at, item_at}
 use Rattle.values.specs.declared.Point.{Point}
-use Rattle.values.specs.Maybe.{Maybe, none, some}
 use Rattle.scene.specs.Labels.{same_bytes, sum_of, mean_of, mean_point, start_of, first_start, mean_or_start, reference_point, greater, consider, label_is, best_place, best_item, point_of_label}
 
 -- ---- floats: 0 and 1 to 4
@@ -27,13 +26,13 @@ abbrev f3 : List ℕ
 f3 = replicate 6 0 ++ 8 ∷ 64 ∷ []
 
 -- the point (v, v), its pattern given
-abbrev at : ℕ → Maybe Point
-at v = some (record { x = of_bits binary64 v; y = of_bits binary64 v })
+abbrev at : ℕ → Option Point
+at v = Some (record { x = of_bits binary64 v; y = of_bits binary64 v })
 
-abbrev at1 : Maybe Point
+abbrev at1 : Option Point
 at1 = at 0x3ff0000000000000
 
-abbrev at2 : Maybe Point
+abbrev at2 : Option Point
 at2 = at 0x4000000000000000
 
 -- ---- records labelled A, by their bytes: nested or flags, line, column, and a float for both coordinates
@@ -63,7 +62,7 @@ abbrev polyline : List ℕ → List ℕ
 polyline f = 8 ∷ 0 ∷ 0 ∷ 1 ∷ 1 ∷ 0 ∷ f ++ f
 
 -- what a name resolves to in the scene of some records
-abbrev resolves : List ℕ → List ℕ → Maybe Point
+abbrev resolves : List ℕ → List ℕ → Option Point
 resolves name records = let s = scene_of (1 ∷ f1 ++ records ++ 0 ∷ []) in point_of_label name s.places s.items
 
 abbrev a : List ℕ
@@ -81,8 +80,8 @@ labels :
     × (resolves a (place 0 2 9 f2 ++ place 0 2 9 f1) ≡ at1)
     × (resolves a (place 0 2 9 f2 ++ item 2 0 0 f2 ++ item 0 2 9 f1) ≡ at1)
     -- another name, and a label that is absent
-    × (resolves (66 ∷ []) (place 0 0 0 f1) ≡ none)
-    × (resolves [] (6 ∷ replicate 11 0 ++ 1 ∷ f1 ++ f1) ≡ none)
+    × (resolves (66 ∷ []) (place 0 0 0 f1) ≡ None)
+    × (resolves [] (6 ∷ replicate 11 0 ++ 1 ∷ f1 ++ f1) ≡ None)
     -- the mean of the points; the fill's are none
     × (resolves a (line ++ points 1 f0 f0 ++ points 0 f1 f3) ≡ at2)
     -- without points the first path's start, or its first point
@@ -91,6 +90,6 @@ labels :
     -- nothing: what has no reference point is passed over
     × (resolves a (item 0 0 0 f1 ++ line) ≡ at1)
     -- the points of the next item are its own
-    × (resolves a (line ++ (6 ∷ replicate 12 0) ++ points 0 f1 f1) ≡ none)
+    × (resolves a (line ++ (6 ∷ replicate 12 0) ++ points 0 f1 f1) ≡ None)
 unfolding scene_of float_value_at value_of bit point_at points_at cubic_at cubics_at place_at form_at path_at item_at scene.item_with same_bytes sum_of mean_of mean_point start_of first_start mean_or_start reference_point greater consider label_is best_place best_item point_of_label bytes_at ends_search search_step_of records_of entries record_of by_tag end_of rescale_of option_of feature_of variable_of place_of item_of points_of path_of path_with cubics_of polyline_of item_with item_fits item_begins values_width option_fits option_width named_then counted labelled named ascii_graphic all_to all_zero float_at float_of u16_at u32_at u64_at of_bits of_int add div sum round units odd size climb span
 labels = (refl, refl, refl, refl, refl, refl, refl, refl, refl, refl, refl, refl, refl, refl)

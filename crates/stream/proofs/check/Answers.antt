@@ -1,15 +1,14 @@
-use Rattle.std.proofs.Common.{◌≡◌, ◌*◌, arith, rules}
+use Rattle.std.proofs.Common.{◌≡◌, ◌*◌, arith}
 use Rattle.stream.specs.Blocks.{word_sum, checked}
 use Rattle.stream.proofs.BlockChecks.{word_sum-more}
 use Rattle.stream.proofs.check.Goals as goal
 
 pub loop-k-init : goal.loop-k-init
 unfolding word_sum
-loop-k-init c = search rules
+loop-k-init c = omega arith
 
 pub loop-k-preserved : goal.loop-k-preserved
-loop-k-preserved c = let at = c.before.before.before in
-    omega (arith, word_sum-more at.args.s.now (512 * at.args.i) at.loop-k.k)
+loop-k-preserved c = omega (arith, word_sum-more c.args.s.now (512 * c.args.i) c.loop-k.k)
 
 pub returns : goal.returns
 unfolding checked

@@ -1,5 +1,5 @@
 -- A part of a stream that starts at a block, as the readers see it.
-use Rattle.std.specs.Prelude.{◌≡◌, ℕ, ◌+◌, ◌*◌, ◌/◌, ◌%◌, ◌<◌, ◌≤◌, Bool, List, length, drop, nat_le, slice_index}
+use Rattle.std.specs.Prelude.{◌≡◌, ℕ, ◌+◌, ◌*◌, ◌/◌, ◌%◌, ◌<◌, ◌≤◌, Bool, true, false, Result, Ok, Err, List, length, drop, nat_le, slice_index}
 use Rattle.stream.specs.Payload.{payload}
 
 -- its length, over numbers alone so that omega reads it
@@ -21,6 +21,11 @@ part_from s p = drop (512 * (p / 508)) s
 -- whether n bytes of the rest, from i on, lie in one block
 abbrev pub one_block : ℕ → ℕ → ℕ → Bool
 one_block off i n = nat_le ((off + i) % 508 + n) 508
+
+-- where the first of these bytes stands, by whether they lie in one block
+abbrev pub contiguous_if : Bool → ℕ → Result ℕ ℕ
+contiguous_if true at = Ok at
+contiguous_if false at = Err at
 
 -- n bytes of the rest, from i on, stand side by side in the part, from `at` on
 pub record IsContiguous (s : List ℕ) (off i n at : ℕ) : Type 0 where

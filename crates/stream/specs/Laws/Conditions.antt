@@ -1,6 +1,9 @@
 -- The first condition of a list, and of one list behind another. Assumes nothing.
 use Rattle.std.specs.Prelude.{◌≡◌, ℕ, ◌<◌, true, false, cond, List, [], ◌∷◌, ◌++◌, ◌==◌, ◌≢◌, refl}
 use Rattle.std.proofs.Common.{◌∙◌, arith, ne_eqb, eq-eqb}
+use Rattle.values.specs.declared.refusal.Refusal.{Refusal}
+use Rattle.values.specs.declared.refusal.Refusal.TheVariants.{Size, Check, Layout, Limit, Flatten, Rescale, Frame, Outside, TooMany, NoAnchor, Degenerate, Scale, ViewScale, MaxScale, WorkRoom, PositionRoom, FeatureRoom, WarningRoom, Step, KindTable}
+use Rattle.values.specs.Inner.Refusals.{number_of}
 use Rattle.stream.specs.Conditions.{Condition, first_of, NoneHolds}
 use Rattle.stream.specs.Blocks.{of_blocks}
 
@@ -47,3 +50,26 @@ numbered_append (a ∷ cs) ds m n = (m.0, numbered_append cs ds m.1 n)
 pub blocks_numbered : (s : List ℕ) → Numbered (of_blocks s)
 unfolding of_blocks
 blocks_numbered s = (omega arith, (omega arith, tt))
+
+-- a refusal's number is no condition's that does not hold
+pub refusal_numbered : (r : Refusal) → 0 < number_of r
+refusal_numbered Size = omega arith
+refusal_numbered Check = omega arith
+refusal_numbered Layout = omega arith
+refusal_numbered Limit = omega arith
+refusal_numbered Flatten = omega arith
+refusal_numbered Rescale = omega arith
+refusal_numbered Frame = omega arith
+refusal_numbered Outside = omega arith
+refusal_numbered TooMany = omega arith
+refusal_numbered NoAnchor = omega arith
+refusal_numbered Degenerate = omega arith
+refusal_numbered Scale = omega arith
+refusal_numbered ViewScale = omega arith
+refusal_numbered MaxScale = omega arith
+refusal_numbered WorkRoom = omega arith
+refusal_numbered PositionRoom = omega arith
+refusal_numbered FeatureRoom = omega arith
+refusal_numbered WarningRoom = omega arith
+refusal_numbered Step = omega arith
+refusal_numbered KindTable = omega arith

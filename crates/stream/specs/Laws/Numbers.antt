@@ -1,9 +1,8 @@
 -- Numbers in what is left of a list, how large they are in a list of bytes, and floats that were read.
-use Rattle.std.specs.Prelude.{◌≡◌, ℕ, ◌+◌, ◌<◌, List, drop, from_bits, slice_index}
+use Rattle.std.specs.Prelude.{◌≡◌, ℕ, ◌+◌, ◌<◌, List, drop, from_bits, slice_index, Option, Float}
 use Rattle.std.proofs.Common.{ap, ◌∙◌, add_assoc, arith, get_or-drop}
 use Rattle.std.specs.Float.{binary64}
 use Rattle.stream.specs.Numbers.{u16_at, u32_at, u64_at, float_of, float_at}
-use Rattle.stream.specs.declared.Float64.{Float64}
 
 -- ---- behind the first k
 pub u16_drop : (k : ℕ) (l : List ℕ) (i : ℕ) → u16_at (drop k l) i ≡ u16_at l (k + i)
@@ -36,6 +35,6 @@ u32_less l b i = omega (arith, u16_less l b i, u16_less l b (i + 2))
 
 -- ---- floats
 -- a float, by its bits
-pub float_read : (l : List ℕ) (p : ℕ) {b : ℕ} {f : Float64} → b ≡ u64_at l p → f ≡ float_of (from_bits binary64 b) → f ≡ float_at l p
+pub float_read : (l : List ℕ) (p : ℕ) {b : ℕ} {f : Option Float} → b ≡ u64_at l p → f ≡ float_of (from_bits binary64 b) → f ≡ float_at l p
 unfolding float_at
 float_read l p e g = g ∙ ap (λ (n : ℕ). float_of (from_bits binary64 n)) e

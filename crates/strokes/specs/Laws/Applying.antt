@@ -1,12 +1,15 @@
 -- Laws of events apply onto a sheet. Assumes nothing.
-use Rattle.std.specs.Prelude.{◌≡◌, refl, Bool, true, false, List, [], ◌∷◌, ◌++◌, map, eqb}
-use Rattle.std.proofs.Common.{sym, ap, ◌∙◌, ne_eqb, eqb-true}
+use Rattle.std.specs.Prelude.{ℕ, ◌≡◌, refl, Bool, true, false, List, [], ◌∷◌, ◌++◌, map, eqb, Float, Err}
+use Rattle.std.proofs.Common.{sym, ap, ◌∙◌, arith, ne_eqb, eqb-true}
 use Rattle.std.proofs.lemmas.Bool.{eqb-false}
+use Rattle.values.specs.Inner.Refusals.{number_of}
+use Rattle.values.specs.declared.refusal.Refusal.{Refusal}
+use Rattle.values.specs.declared.refusal.Refusal.TheVariants.{Size, Check, Layout, Limit, Flatten, Rescale, Frame, Outside, TooMany, NoAnchor, Degenerate, Scale, ViewScale, MaxScale, WorkRoom, PositionRoom, FeatureRoom, WarningRoom, Step, KindTable}
 use Rattle.budget.specs.declared.Budget.{Budget}
 use Rattle.densify.specs.Densify.{GrantedDraw, Made}
 use Rattle.strokes.specs.Strokes.{Event, drew, Trace, no_events, and_then_trace, draws_trace}
 use Rattle.strokes.specs.Space.{Output, pick_output, apply, apply_all}
-use Rattle.strokes.specs.Inner.Space.{Fits, Applied}
+use Rattle.strokes.specs.Inner.Space.{state_by, output_by, Fits, Applied}
 
 pub play_append : (es fs : List Event) (t : Output) → apply_all (es ++ fs) t ≡ apply_all fs (apply_all es t)
 unfolding apply_all
@@ -94,6 +97,53 @@ module _ {a : Trace} {t u v : Output} {b c : Budget} (f : Budget → Trace) (one
       go : (x : Bool) → eqb u.number 0 ≡ x → Applied (and_then_trace a f) t v c
       go true e = go_on (eqb-true u.number 0 e)
       go false e = stop (eqb-false u.number 0 e)
+
+-- ---- answers: once something lacks room, nothing of the slices counts as used
+refused : (e : Refusal) → eqb (number_of e) 0 ≡ false
+refused Size = refl
+refused Check = refl
+refused Layout = refl
+refused Limit = refl
+refused Flatten = refl
+refused Rescale = refl
+refused Frame = refl
+refused Outside = refl
+refused TooMany = refl
+refused NoAnchor = refl
+refused Degenerate = refl
+refused Scale = refl
+refused ViewScale = refl
+refused MaxScale = refl
+refused WorkRoom = refl
+refused PositionRoom = refl
+refused FeatureRoom = refl
+refused WarningRoom = refl
+refused Step = refl
+refused KindTable = refl
+
+pub refused_some : (e : Refusal) → number_of e ≡ 0 → ⊥
+refused_some e = eqb-false (number_of e) 0 (refused e)
+
+pub applied_err : {a : Trace} {t u : Output} {b : Budget} (e : Refusal) → u.number ≡ number_of e → Applied a t u b
+    → Applied a t (output_by u.work u.positions u.features u.warnings (Err e)) (state_by (Err e)).budget
+applied_err e is h =
+    record {
+      number = sym is ∙ h.number;
+      same = λ z. absurd (refused_some e z);
+      after = λ z. absurd (refused_some e z);
+      work = h.work;
+      positions = h.positions;
+      features = h.features;
+      warnings = h.warnings;
+      fits = record { positions = omega arith; features = omega arith; warnings = omega arith; left = omega arith };
+    }
+
+-- and nothing is applied behind it
+pub applied_stop : {a : Trace} {t : Output} {w : ℕ} {p : List Float} {f v : List ℕ} (e : Refusal) (g : Budget → Trace)
+    → Applied a t (output_by w p f v (Err e)) (state_by (Err e)).budget
+    → Applied (and_then_trace a g) t (output_by w p f v (Err e)) (state_by (Err e)).budget
+applied_stop e g h =
+    applied_then g h (applied_stuck (g (state_by (Err e)).budget) _ _ (refused_some e) h.fits)
 
 -- a producer's draws before it
 pub applied_drawn : (m : Made) (f : Budget → Trace) {t u : Output} {b : Budget} → Applied (f m.after) t u b → Applied (and_then_trace (draws_trace m) f) t u b

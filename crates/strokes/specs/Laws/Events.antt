@@ -1,5 +1,5 @@
 -- Laws of a one_event event on a sheet where everything has had room so far. Assumes nothing.
-use Rattle.std.specs.Prelude.{ℕ, ◌+◌, ◌*◌, ◌≤◌, ◌<◌, ◌≡◌, Bool, true, false, List, [], ◌∷◌, eqb, leb, Float}
+use Rattle.std.specs.Prelude.{ℕ, ◌+◌, ◌*◌, ◌≤◌, ◌<◌, ◌≡◌, Bool, true, false, List, [], ◌∷◌, eqb, leb, Float, Result, Ok, Err}
 use Rattle.std.proofs.Math.Path.{refl}
 use Rattle.std.proofs.Common.{sym, ap, ◌∙◌}
 use Rattle.std.proofs.lemmas.Bool.{false≢true}
@@ -7,20 +7,21 @@ use Rattle.std.proofs.Math.ListN.{length}
 use borrow.Author.Tests.{le-leb, lt-leb, leb-true, leb-false, eqb-false}
 use Rattle.values.specs.declared.Point.{Point}
 use Rattle.values.specs.Warnings.{Warning}
-use Rattle.values.specs.declared.WarningCursor.{WarningCursor}
-use Rattle.values.specs.Inner.Warnings.{WarningSlice, pick_slice, pushed}
+use Rattle.values.specs.Inner.Warnings.{WarningCursor, WarningSlice, pick_slice, pushed}
+use Rattle.values.specs.declared.refusal.Refusal.{Refusal}
+use Rattle.values.specs.declared.refusal.Refusal.TheVariants.{PositionRoom, FeatureRoom}
 use Rattle.values.specs.Laws.Warnings.{slice_of}
 use Rattle.budget.specs.declared.Budget.{Budget}
 use Rattle.values.specs.Slices.{put}
 use Rattle.values.specs.Points.{flats}
 use Rattle.values.specs.Laws.Put.{put-length}
-use Rattle.geojson.specs.declared.Feature.{Feature}
-use Rattle.geojson.specs.Features.{words_of}
+use Rattle.geojson.specs.Features.{Feature, words_of}
 use Rattle.strokes.specs.declared.state.Props.{Props}
 use Rattle.strokes.specs.declared.state.State.{State}
 use Rattle.strokes.specs.Strokes.{Event, need, feature, warned, one_event, feature_of}
 use Rattle.strokes.specs.Space.{Output, out_of_room, with_feature, with_warning, apply, apply_all}
-use Rattle.strokes.specs.Inner.Space.{output_by, out_of_room_by, most, Fits, Applied, line_by, Finished}
+use Rattle.strokes.specs.Inner.Space.{state_by, output_by, most, Fits, Applied, line_by, Finished}
+use Rattle.strokes.specs.Laws.Applying.{applied_err}
 
 -- ---- any event
 -- the sheet with other positions, of which as many are used
@@ -166,26 +167,27 @@ module _ (f : Feature) (ps : List Point) (t : Output) (b : Budget) (start : t.nu
         (record { positions = rw placed room; features = rw lined line; warnings = warnings; left = left })
 
 -- ---- a feature as the code writes it: its positions, then its line by `finish`
-module _ (p : Props) (geometry role : ℕ) (ps : List Point) (b : Budget) (work : ℕ) {q q' : List Float} {f v : List ℕ} {st r : State}
-    (start : st.number ≡ 0) (h : Fits (output_by work q f v st) st.budget) where
-  pub written_lacks : length q' ≡ length q → length q < st.positions + length (flats ps) → r ≡ out_of_room_by st 16
-      → Applied (one_event (feature_of p geometry role ps) b) (output_by work q f v st) (output_by work q' f v r) r.budget
+module _ (p : Props) (geometry role : ℕ) (ps : List Point) (b : Budget) (work : ℕ) {q q' : List Float} {f v : List ℕ} {st : State}
+    (h : Fits (output_by work q f v (Ok st)) st.budget) where
+  pub written_lacks : length q' ≡ length q → length q < st.positions + length (flats ps)
+      → Applied (one_event (feature_of p geometry role ps) b) (output_by work q f v (Ok st)) (output_by work q' f v (Err PositionRoom)) (state_by (Err PositionRoom)).budget
   unfolding feature_of
-  written_lacks same short is =
-      rw is (feature_lacks_positions (line_by p geometry role (length ps)) ps (output_by work q f v st) b start q' st.budget same short h)
+  written_lacks same short =
+      applied_err PositionRoom refl (feature_lacks_positions (line_by p geometry role (length ps)) ps (output_by work q f v (Ok st)) b refl q' st.budget same short h)
 
-  pub written_finished : {f' : List ℕ} → st.positions + length (flats ps) ≤ length q → q' ≡ put q st.positions (flats ps) → b.left ≤ most
+  pub written_finished : {f' : List ℕ} {r : Result State Refusal} → st.positions + length (flats ps) ≤ length q → q' ≡ put q st.positions (flats ps) → b.left ≤ most
       → Finished p geometry role (st.positions + length (flats ps)) (length ps) b f f' st r
-      → Applied (one_event (feature_of p geometry role ps) b) (output_by work q f v st) (output_by work q' f' v r) r.budget
+      → Applied (one_event (feature_of p geometry role ps) b) (output_by work q f v (Ok st)) (output_by work q' f' v r) (state_by r).budget
   unfolding feature_of
-  written_finished {f'} room there left fin = go (leb (st.features + 6) (length f)) refl
+  written_finished {f'} {r} room there left fin = go (leb (st.features + 6) (length f)) refl
     where
       line : Feature
       line = line_by p geometry role (length ps)
 
       t : Output
-      t = output_by work q f v st
+      t = output_by work q f v (Ok st)
 
-      go : (x : Bool) → leb (st.features + 6) (length f) ≡ x → Applied (one_event (feature line ps) b) t (output_by work q' f' v r) r.budget
-      go true e = rw (there, fin.fits e, fin.then e) (feature_fits line ps t b start room (leb-true _ _ e) h.warnings left)
-      go false e = rw (there, fin.short e, fin.lacks e) (feature_lacks_line line ps t b start room st.budget (leb-false _ _ e) h)
+      go : (x : Bool) → leb (st.features + 6) (length f) ≡ x → Applied (one_event (feature line ps) b) t (output_by work q' f' v r) (state_by r).budget
+      go true e = rw (there, fin.fits e, fin.then e) (feature_fits line ps t b refl room (leb-true _ _ e) h.warnings left)
+      go false e =
+          rw (there, fin.short e, fin.lacks e) (applied_err FeatureRoom refl (feature_lacks_line line ps t b refl room st.budget (leb-false _ _ e) h))

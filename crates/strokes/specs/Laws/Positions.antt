@@ -1,5 +1,5 @@
 -- Laws of a stroke's positions: a polyline's points written into the lent tail of a slice, changed there to positions, and then applied as a feature. Assumes nothing.
-use Rattle.std.specs.Prelude.{ℕ, ◌+◌, ◌-◌, ◌/◌, ◌≤◌, ◌<◌, ◌≡◌, refl, Bool, true, false, cond, take, drop, set, get_or, eqb, leb, Float}
+use Rattle.std.specs.Prelude.{ℕ, ◌+◌, ◌-◌, ◌/◌, ◌≤◌, ◌≡◌, refl, Bool, true, false, cond, take, drop, set, get_or, eqb, Float, Option, Some, None, option_map, Result, Ok, Err}
 use Rattle.std.proofs.Common.{sym, ap, ◌∙◌, arith, add-zero, length-append, length-drop, length-take-le, take_all, get_or-append-add, set-set}
 use mathlib.Core.List.{List, [], ◌∷◌, ◌++◌, append-nil, map}
 use Rattle.std.proofs.Math.Nat.{zero-add}
@@ -7,7 +7,7 @@ use Rattle.std.proofs.Math.ListN.{length}
 use Rattle.std.proofs.lemmas.List.{length-map, set_comm}
 use Rattle.std.proofs.Math.Seq.{drop-length, drop-drop}
 use Rattle.std.specs.Float.{nan}
-use borrow.Author.Tests.{le-leb, lt-leb, leb-true, leb-false, eq-eqb, ne_eqb}
+use borrow.Author.Tests.{eq-eqb, ne_eqb}
 use borrow.Rule.Slice.PartMut.{mid_of, post_of, put_mid, same_len_mid, Post-is, take_put}
 use Rattle.values.specs.declared.Point.{Point}
 use Rattle.projection.specs.declared.Projection.{Projection}
@@ -19,7 +19,7 @@ use Rattle.densify.specs.Inner.Written.{on_points, Written}
 use Rattle.values.specs.Inner.Points.{points_in, in_place}
 use Rattle.values.specs.Slices.{put}
 use Rattle.values.specs.Points.{flats}
-use Rattle.densify.specs.Laws.Writing.{written_all, written_room, still_short, mapped_written}
+use Rattle.densify.specs.Laws.Writing.{written_short, written_all, no_room, written_room, still_short, mapped_written}
 use Rattle.values.specs.Laws.Points.{flats-append, flats-length, put_next, points-between}
 use Rattle.densify.specs.Laws.Counts.{densify_least}
 use Rattle.densify.specs.Laws.Replay.{densify_replays}
@@ -28,19 +28,13 @@ use Rattle.strokes.specs.declared.state.Ctx.{Ctx}
 use Rattle.strokes.specs.declared.state.Props.{Props}
 use Rattle.strokes.specs.declared.state.State.{State}
 use Rattle.strokes.specs.Strokes.{one_event, end_with, first_repeated, feature_of, stroke_of}
-use Rattle.strokes.specs.Inner.Space.{output_by, out_of_room_by, most, longest, behind_at, project_and_close, first_repeated_in, Fits, Applied, Finished}
+use Rattle.values.specs.declared.refusal.Refusal.{Refusal}
+use Rattle.values.specs.declared.refusal.Refusal.TheVariants.{PositionRoom}
+use Rattle.strokes.specs.Inner.Space.{state_by, output_by, most, longest, behind_at, project_and_close, first_repeated_in, Fits, Applied, Finished}
 use Rattle.strokes.specs.Laws.Applying.{applied_drawn}
 use Rattle.strokes.specs.Laws.Events.{written_lacks, written_finished}
 
 -- ---- the tail of a slice, lent on
--- room in the tail is room in the whole
-room_behind : (at n k : ℕ) → at ≤ n → leb (0 + k) (n - at) ≡ leb (at + k) n
-room_behind at n k h = go (leb (at + k) n) refl
-  where
-    go : (x : Bool) → leb (at + k) n ≡ x → leb (0 + k) (n - at) ≡ x
-    go true e = le-leb (0 + k) (n - at) (omega (arith, leb-true (at + k) n e))
-    go false e = lt-leb (0 + k) (n - at) (omega (arith, leb-false (at + k) n e))
-
 module _ (w : List Float) (at : ℕ) (h : at ≤ length w) where
   tail-is : mid_of at (length w - at) w ≡ drop at w
   tail-is = take_all (length w - at) (drop at w) (omega (arith, length-drop at w))
@@ -53,18 +47,15 @@ module _ (w : List Float) (at : ℕ) (h : at ≤ length w) where
   unfolding put
   put-tail vs = rw (behind, append-nil, zero-add, drop-drop (length vs) at w)
 
-  pub tail_written : {t : List Float} {m : Made} {r : PointCursor} → Written (mid_of at (length w - at) w) t 0 m r
-      → Written w (put_mid at (length w - at) w t) at m (behind_at at r)
-  tail_written {t} {m} {r} part =
-      let one : Written (drop at w) t 0 m r = rw tail-is at part in
-      record {
-        asked = one.asked ∙ rw (length-drop at w) (room_behind at (length w) (length (flats m.points)) h);
-        next = λ e. omega (arith, one.next e);
-        left = one.left;
-        holds = λ e. ap (put_mid at (length w - at) w) (one.holds e) ∙ put-tail (flats m.points);
-        before = take_put at (length w - at) w t h;
-        kept = same_len_mid at (length w - at) w t part.kept;
-      }
+  pub tail_written : {t : List Float} {m : Made} (r : Option PointCursor) → Written (mid_of at (length w - at) w) t 0 m r
+      → Written w (put_mid at (length w - at) w t) at m (option_map (behind_at at) r)
+  tail_written {t} {m} None part =
+      let one : Written (drop at w) t 0 m None = rw tail-is at part in
+      written_short w at m _ (omega (arith, no_room one, length-drop at w)) (take_put at (length w - at) w t h) (same_len_mid at (length w - at) w t part.kept)
+  tail_written {t} {m} (Some d) part =
+      let one : Written (drop at w) t 0 m (Some d) = rw tail-is at part in
+      written_all w at m _ _ (omega (arith, written_room one, length-drop at w)) (omega (arith, one.next)) one.left
+      (ap (put_mid at (length w - at) w) one.holds ∙ put-tail (flats m.points))
 
 -- ---- a ring's positions
 -- all but the last
@@ -130,13 +121,13 @@ repeated_put w at (p ∷ ps) some h =
     ∙ put_next w at front p room
     ∙ ap (λ (l : List Point). put w at (flats l)) (sym (repeated_is p ps))
 
-pub repeated_written : {q q₁ q₂ : List Float} {at : ℕ} {m : Made} {r : PointCursor} → Written q q₁ at m r → r.ok ≡ true → at + 2 ≤ r.at → q₂ ≡ first_repeated_in q₁ at r.at
-    → Written q q₂ at (on_points first_repeated m) r
-repeated_written {q} {q₂ = q₂} {at = at} {m = m} {r = r} one fits some there =
+pub repeated_written : {q q₁ q₂ : List Float} {at : ℕ} {m : Made} {d : PointCursor} → Written q q₁ at m (Some d) → at + 2 ≤ d.at → q₂ ≡ first_repeated_in q₁ at d.at
+    → Written q q₂ at (on_points first_repeated m) (Some d)
+repeated_written {q} {q₂ = q₂} {at = at} {m = m} {d = d} one some there =
     let same : length (flats (first_repeated m.points)) ≡ length (flats m.points) = omega (arith, flats-length (first_repeated m.points), flats-length m.points, repeated_length m.points) in
-    let h = written_room one fits in
-    written_all q at (on_points first_repeated m) q₂ r (rw same h) fits (rw same (one.next fits)) (one.left fits)
-    (there ∙ rw (one.holds fits, one.next fits) (repeated_put q at m.points (omega (arith, one.next fits, flats-length m.points)) h))
+    let h = written_room one in
+    written_all q at (on_points first_repeated m) q₂ d (rw same h) (rw same one.next) one.left
+    (there ∙ rw (one.holds, one.next) (repeated_put q at m.points (omega (arith, one.next, flats-length m.points)) h))
 
 -- ---- a polyline's points become the positions of a line or a ring
 module _ (t : Projection) (geometry : ℕ) where
@@ -147,19 +138,18 @@ module _ (t : Projection) (geometry : ℕ) where
       go true = repeated_length (map (project_point t) ps) ∙ length-map ps (project_point t)
       go false = length-map ps (project_point t)
 
-  module _ {q q₁ : List Float} {at : ℕ} {m : Made} {d : PointCursor} (one : Written q q₁ at m d) where
-    pub close-short : (r : PointCursor) → d.ok ≡ false → r.ok ≡ false → Written q q₁ at (on_points (project_and_close t geometry) m) r
-    close-short r short shut = still_short one (on_points (project_and_close t geometry) m) r short shut (omega (arith, positions_length m.points))
+  pub close-short : {q q₁ : List Float} {at : ℕ} {m : Made} → Written q q₁ at m None → Written q q₁ at (on_points (project_and_close t geometry) m) None
+  close-short {m = m} one = still_short one (on_points (project_and_close t geometry) m) (omega (arith, positions_length m.points))
 
-    module _ {q₂ : List Float} (fits : d.ok ≡ true) (there : q₂ ≡ in_place (project_point t) q₁ at d.at) where
-      on_earth : Written q q₂ at (on_points (map (project_point t)) m) d
-      on_earth = mapped_written (project_point t) one fits there
+  module _ {q q₁ q₂ : List Float} {at : ℕ} {m : Made} {d : PointCursor} (one : Written q q₁ at m (Some d)) (there : q₂ ≡ in_place (project_point t) q₁ at d.at) where
+    on_earth : Written q q₂ at (on_points (map (project_point t)) m) (Some d)
+    on_earth = mapped_written (project_point t) one there
 
-      pub close-line : (geometry ≡ 2 → ⊥) → Written q q₂ at (on_points (project_and_close t geometry) m) d
-      close-line line = rw (ne_eqb geometry 2 line) on_earth
+    pub close-line : (geometry ≡ 2 → ⊥) → Written q q₂ at (on_points (project_and_close t geometry) m) (Some d)
+    close-line line = rw (ne_eqb geometry 2 line) on_earth
 
-      pub close-ring : geometry ≡ 2 → at + 2 ≤ d.at → {q₃ : List Float} → q₃ ≡ first_repeated_in q₂ at d.at → Written q q₃ at (on_points (project_and_close t geometry) m) d
-      close-ring ring some last = rw (eq-eqb geometry 2 ring) (repeated_written on_earth fits some last)
+    pub close-ring : geometry ≡ 2 → at + 2 ≤ d.at → {q₃ : List Float} → q₃ ≡ first_repeated_in q₂ at d.at → Written q q₃ at (on_points (project_and_close t geometry) m) (Some d)
+    close-ring ring some last = rw (eq-eqb geometry 2 ring) (repeated_written on_earth some last)
 
 -- ---- how many points a stroke makes
 -- a stroke's points on the canvas, and its positions
@@ -182,26 +172,27 @@ module _ (cx : Ctx) (w : List Float) (from to : ℕ) (b : Budget) where
       (omega (arith, points-between w from to, densify_sized cx.step cx.projection.registration.scale between b))
 
 -- ---- a stroke as the code draws it
-module _ (cx : Ctx) (p : Props) (geometry role : ℕ) (ps : List Point) (work : ℕ) {q q₁ : List Float} {f v : List ℕ} {st : State} {d : PointCursor}
-    (start : st.number ≡ 0) (h : Fits (output_by work q f v st) st.budget) (one : Written q q₁ st.positions (stroke_made cx geometry ps st.budget) d) where
+module _ (cx : Ctx) (p : Props) (geometry role : ℕ) (ps : List Point) (work : ℕ) {q : List Float} {f v : List ℕ} {st : State}
+    (h : Fits (output_by work q f v (Ok st)) st.budget) where
   abbrev made : Made
   made = stroke_points cx ps st.budget
 
   abbrev drawn : List Point
   drawn = project_and_close cx.projection geometry made.points
 
-  pub stroke_lacks : {r : State} → d.ok ≡ false → r ≡ out_of_room_by st 16
-      → Applied (stroke_of cx p geometry role ps st.budget) (output_by work q f v st) (output_by work q₁ f v r) r.budget
+  pub stroke_lacks : {q₁ : List Float} → Written q q₁ st.positions made None
+      → Applied (stroke_of cx p geometry role ps st.budget) (output_by work q f v (Ok st)) (output_by work q₁ f v (Err PositionRoom)) (state_by (Err PositionRoom)).budget
   unfolding stroke_of
-  stroke_lacks short is =
-      let lacks : length q < st.positions + length (flats drawn) = leb-false (st.positions + length (flats drawn)) (length q) (sym one.asked ∙ short) in
-      applied_drawn made (λ b. one_event (feature_of p geometry role drawn) b) (written_lacks p geometry role drawn made.after work start h one.kept lacks is)
+  stroke_lacks one =
+      applied_drawn made (λ b. one_event (feature_of p geometry role drawn) b)
+      (written_lacks p geometry role drawn made.after work h one.kept (no_room (close-short cx.projection geometry one)))
 
-  pub stroke_finished : {f' : List ℕ} {r : State} → d.ok ≡ true → Finished p geometry role d.at ((d.at - st.positions) / 2) d.budget f f' st r
-      → Applied (stroke_of cx p geometry role ps st.budget) (output_by work q f v st) (output_by work q₁ f' v r) r.budget
+  pub stroke_finished : {q₁ : List Float} {d : PointCursor} → Written q q₁ st.positions (stroke_made cx geometry ps st.budget) (Some d) → {f' : List ℕ} {r : Result State Refusal}
+      → Finished p geometry role d.at ((d.at - st.positions) / 2) d.budget f f' st r
+      → Applied (stroke_of cx p geometry role ps st.budget) (output_by work q f v (Ok st)) (output_by work q₁ f' v r) (state_by r).budget
   unfolding stroke_of
-  stroke_finished fits fin =
-      let count : (d.at - st.positions) / 2 ≡ length drawn = omega (arith, one.next fits, flats-length drawn) in
+  stroke_finished {d = d} one fin =
+      let count : (d.at - st.positions) / 2 ≡ length drawn = omega (arith, one.next, flats-length drawn) in
       let left = left_falls (densify_replays cx.step cx.projection.registration.scale ps st.budget) in
       applied_drawn made (λ b. one_event (feature_of p geometry role drawn) b)
-      (written_finished p geometry role drawn made.after work start h (written_room one fits) (one.holds fits) (omega arith) (rw (count, one.next fits, one.left fits) at fin))
+      (written_finished p geometry role drawn made.after work h (written_room one) one.holds (omega arith) (rw (count, one.next, one.left) at fin))

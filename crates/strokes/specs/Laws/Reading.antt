@@ -10,8 +10,7 @@ use Rattle.values.specs.Slices.{put}
 use Rattle.values.specs.Points.{flats, points_of}
 use Rattle.values.specs.Laws.Put.{put-none, put-length, put-more}
 use Rattle.values.specs.Laws.Points.{flats-append, flats-length}
-use Rattle.geojson.specs.declared.Feature.{Feature}
-use Rattle.geojson.specs.Features.{words_of}
+use Rattle.geojson.specs.Features.{Feature, words_of}
 use Rattle.strokes.specs.Strokes.{Event, drew, need, feature, warned}
 use Rattle.strokes.specs.Space.{Output, pick_output, out_of_room, with_feature, with_warning, apply, apply_all}
 use Rattle.strokes.specs.Features.{ReadFeature, AllWellFormed, positions_in, features_in, warnings_in, line_at, features_at, warnings_at}

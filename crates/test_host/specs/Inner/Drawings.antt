@@ -1,13 +1,14 @@
 -- What the comparison asks of the producers.
-use Rattle.std.specs.Prelude.{ℕ, ◌+◌, ◌*◌, Bool, false, ◌&&◌, cond, List, leb, Float}
-use Rattle.scene.specs.declared.readers.Path.{Path}
+use Rattle.std.specs.Prelude.{ℕ, ◌+◌, ◌*◌, Bool, false, ◌&&◌, cond, List, leb, Option, Float}
+use Rattle.values.specs.Options.{given}
 use Rattle.densify.specs.declared.append.PointCursor.{PointCursor}
 use Rattle.densify.specs.Densify.{Made}
 use Rattle.densify.specs.Inner.Written.{Written}
+use Rattle.test_host.specs.declared.answers.Path.{Path}
 use Rattle.test_host.specs.declared.densify_calls.Drawing.{Drawing}
 
-abbrev pub done_by : Drawing → PointCursor
-done_by r = record { ok = r.ok; at = r.at; budget = record { left = r.left; hit = r.hit } }
+abbrev pub done_by : Drawing → Option PointCursor
+done_by r = given r.ok (record { at = r.at; budget = record { left = r.left; hit = r.hit } })
 
 -- the points of a producer, from the slice's start on; where they have no room, `at`, `left` and `hit` are free
 abbrev pub Shown : List Float → List Float → Made → Drawing → Type 0

@@ -1,8 +1,17 @@
 -- Warnings as they are written into a lent slice, two numbers each, up to the first that lacks room.
-use Rattle.std.specs.Prelude.{ℕ, ◌+◌, Bool, true, false, ◌&&◌, List, [], ◌∷◌, length, leb}
-use Rattle.values.specs.declared.WarningCursor.{WarningCursor}
+use Rattle.std.specs.Prelude.{ℕ, ◌+◌, Bool, true, false, ◌&&◌, List, [], ◌∷◌, length, leb, Result, Ok, Err}
+use Rattle.values.specs.declared.warning.NoRoom.{NoRoom}
 use Rattle.values.specs.Slices.{put}
 use Rattle.values.specs.Warnings.{Warning}
+
+-- how far a slice is used, in numbers, and whether everything fitted
+pub record WarningCursor : Type 0 where
+  pub ok : Bool
+  pub used : ℕ
+
+abbrev pub cursor_by : Result ℕ NoRoom → WarningCursor
+cursor_by (Ok n) = record { ok = true; used = n }
+cursor_by (Err e) = record { ok = false; used = e.used }
 
 -- the slice, and how far it is used
 pub record WarningSlice : Type 0 where

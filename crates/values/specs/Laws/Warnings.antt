@@ -4,9 +4,8 @@ use Rattle.std.proofs.Math.Path.{refl}
 use Rattle.std.proofs.Common.{◌∙◌, arith}
 use Rattle.std.proofs.lemmas.Bool.{false≢true}
 use borrow.Author.Tests.{le-leb, lt-leb, leb-true, not-true, not-false}
-use Rattle.values.specs.declared.WarningCursor.{WarningCursor}
 use Rattle.values.specs.Warnings.{Warning}
-use Rattle.values.specs.Inner.Warnings.{WarningSlice, pushed, all_pushed}
+use Rattle.values.specs.Inner.Warnings.{WarningCursor, WarningSlice, pushed, all_pushed}
 use Rattle.values.specs.Laws.Put.{put-length, pair_put}
 
 abbrev pub slice_of : List ℕ → WarningCursor → WarningSlice
@@ -60,3 +59,10 @@ pub pushed-append : (vs ws : List Warning) (t : WarningSlice) → all_pushed (vs
 unfolding all_pushed
 pushed-append [] ws t = refl
 pushed-append (v ∷ vs) ws t = pushed-append vs ws (pushed v t)
+
+-- none is written behind one that lacked room
+pub all_shut : (ws : List Warning) (out : List ℕ) (n : ℕ)
+    → all_pushed ws (slice_of out (record { ok = false; used = n })) ≡ slice_of out (record { ok = false; used = n })
+unfolding all_pushed pushed
+all_shut [] out n = refl
+all_shut (w ∷ ws) out n = all_shut ws out n

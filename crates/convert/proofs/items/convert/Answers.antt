@@ -1,11 +1,17 @@
+use Rattle.std.proofs.lemmas.Result.{err_from_is_err_and}
+use Rattle.strokes.specs.Laws.Applying.{applied_stop}
+use Rattle.convert.specs.Convert.{convert_of, spent_of}
 use Rattle.convert.specs.Laws.Loops.{all_within, all-spent}
 use Rattle.convert.proofs.items.convert.Goals as goal
 
-pub returns-then-not-left : goal.returns-then-not-left
-returns-then-not-left c = all_within _ _ _ _ c.draw_items-r.ensures c.if-not-left.true
+pub returns-in_err-r : goal.returns-in_err-r
+unfolding convert_of
+returns-in_err-r c =
+    let failed = err_from_is_err_and c.from_residual.result c.from_residual.ensures.1 in
+    rw (failed.1, failed.2) (applied_stop _ spent_of c.in_err-r.ensures)
 
-pub warn-requires : goal.warn-requires
-warn-requires c = c.draw_items-r.ensures.fits.warnings
+pub returns-then-not-r : goal.returns-then-not-r
+returns-then-not-r c = all_within _ _ _ _ c.in_ok-r.ensures c.if-not-r.true
 
 pub returns : goal.returns
-returns c = all-spent _ _ _ _ c.draw_items-r.ensures c.if-not-left.false (c.warn.ensures _ _ _ c.draw_items-r.ensures.fits)
+returns c = all-spent _ _ _ _ c.in_ok-r.ensures c.if-not-r.false (c.warn.ensures _ _ _ c.in_ok-r.ensures.fits)

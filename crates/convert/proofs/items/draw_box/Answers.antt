@@ -3,8 +3,7 @@ use Rattle.convert.proofs.items.draw_box.Goals as goal
 
 pub draw_ring-requires : goal.draw_ring-requires
 draw_ring-requires c = let ready = c.requires in
-    record { ring = ring_in c.box_ring-d.ensures (box_round _ _ _ _ _ ready.left _ _ _); positions = ready.positions; features = ready.features }
+    record { ring = ring_in (box_round _ _ _ _ _ ready.left _ _ _) _ c.box_ring-d.ensures; positions = ready.positions; features = ready.features }
 
 pub returns : goal.returns
-returns c = let ready = c.requires in
-    ring_applied c.box_ring-d.ensures (box_round _ _ _ _ _ ready.left _ _ _) _ _ c.draw_ring.ensures
+returns c = ring_applied (box_round _ _ _ _ _ c.requires.left _ _ _) _ _ _ c.box_ring-d.ensures c.draw_ring.result c.draw_ring.ensures

@@ -1,76 +1,43 @@
-use borrow.Author.Tests.{not-false}
-use native.Mathlib.Omega.{arith}
+use Rattle.std.proofs.lemmas.Result.{err_from_is_err_and}
+use mathlib.Core.Path.{◌≡◌}
+use borrow.Author.Rules.{rules}
+use Rattle.std.specs.Prelude.{option_map}
+use Rattle.scene.specs.declared.readers.Path.{Path}
 use Rattle.stream.specs.Payload.{payload}
-use Rattle.stream.specs.Inner.Payload.{room}
-use Rattle.scene.specs.Inner.Answers.{PathWithin}
 use Rattle.densify.specs.Inner.Written.{drawn_by}
 use Rattle.strokes.specs.Inner.Space.{outline_by}
-use Rattle.convert.specs.Laws.Loops.{path_fits_lem, path-ready, path_applied, none_done, no_more, all_paths, one-path}
+use Rattle.convert.specs.Laws.Loops.{path-ready, path_applied, path_lacks, all_paths, one-path, path-stops}
 use Rattle.convert.proofs.items.draw_each.Goals as goal
 
-pub loop-state-init : goal.loop-state-init
-loop-state-init c = none_done _ _ _ _ c.requires.1
+pub returns-in_err-l : goal.returns-in_err-l
+returns-in_err-l c =
+    let s = c.args in
+    let before = c.loop-path in
+    let failed = err_from_is_err_and c.from_residual.result c.from_residual.ensures.1 in
+    rw (failed.1, failed.2)
+    (path-stops _ _ _ _ _ before.invariant c.in-Some.path c.in-Some.ensures.role_value c.next_outline-outline.result c.next_outline-outline.ensures.q_value _
+    (path_lacks s.cx (drawn_by (payload s.s.now) c.in-Some.path) (outline_by (payload s.s.now) c.next_outline-outline.result) before.work _ before.state _ _ c.in_err-l.ensures before.invariant.fits))
 
-pub shape_of-work-then-state-ne0 : goal.shape_of-work-then-state-ne0
-shape_of-work-then-state-ne0 c = c.loop-state.invariant.work
-
-pub shape_of-positions-then-state-ne0 : goal.shape_of-positions-then-state-ne0
-shape_of-positions-then-state-ne0 c = c.loop-state.invariant.positions
-
-pub shape_of-features-then-state-ne0 : goal.shape_of-features-then-state-ne0
-shape_of-features-then-state-ne0 c = c.loop-state.invariant.features
-
-pub shape_of-warnings-then-state-ne0 : goal.shape_of-warnings-then-state-ne0
-shape_of-warnings-then-state-ne0 c = c.loop-state.invariant.warnings
-
-pub returns-then-state-ne0 : goal.returns-then-state-ne0
-returns-then-state-ne0 c = no_more c.loop-state.invariant c.if-state-ne0.true
-
-pub shape_of-work-then-not-path : goal.shape_of-work-then-not-path
-shape_of-work-then-not-path c = c.loop-state.invariant.work
-
-pub shape_of-positions-then-not-path : goal.shape_of-positions-then-not-path
-shape_of-positions-then-not-path c = c.loop-state.invariant.positions
-
-pub shape_of-features-then-not-path : goal.shape_of-features-then-not-path
-shape_of-features-then-not-path c = c.loop-state.invariant.features
-
-pub shape_of-warnings-then-not-path : goal.shape_of-warnings-then-not-path
-shape_of-warnings-then-not-path c = c.loop-state.invariant.warnings
-
-pub returns-then-not-path : goal.returns-then-not-path
-returns-then-not-path c = all_paths _ _ _ _ _ c.loop-state.invariant c.next_path-path.result c.next_path-path.ensures.role_value c.if-not-path.true
-
-pub load_path-l-requires : goal.load_path-l-requires
-load_path-l-requires c =
-    let within : PathWithin (room c.args.s.now) c.loop-state.q c.next_path-path.result = c.next_path-path.ensures.path_within (not-false _ c.if-not-path.false) in
-    (path_fits_lem within, (λ e. path_fits_lem (c.next_outline-outline.ensures.path_within e)), c.loop-state.invariant.fits.left)
-
-pub part_of-props-requires : goal.part_of-props-requires
-part_of-props-requires c =
-    let within : PathWithin (room c.args.s.now) c.loop-state.q c.next_path-path.result = c.next_path-path.ensures.path_within (not-false _ c.if-not-path.false) in
-    omega (arith, within, c.loop-state.invariant.short, c.requires.0)
-
-pub polyline_or_polygon-state-requires : goal.polyline_or_polygon-state-requires
-polyline_or_polygon-state-requires c = let s = c.args in
+pub polyline_or_polygon-requires : goal.polyline_or_polygon-requires
+polyline_or_polygon-requires c =
+    let s = c.args in
     let l = payload s.s.now in
-    let p = c.loop-state in
-    path-ready p.work _ s.cx.flatten (drawn_by l c.next_path-path.result) p.state.budget _ (outline_by l c.next_outline-outline.result) c.load_path-l.ensures p.invariant.fits
+    let before = c.loop-path in
+    path-ready before.work _ s.cx.flatten (drawn_by l c.in-Some.path) before.state.budget (outline_by l c.next_outline-outline.result) c.in_ok-l.ensures before.invariant.fits
 
-pub overflow_add-i : goal.overflow_add-i
-overflow_add-i c =
-    let within : PathWithin (room c.args.s.now) c.loop-state.q c.next_path-path.result = c.next_path-path.ensures.path_within (not-false _ c.if-not-path.false) in
-    omega (arith, within, c.loop-state.invariant.short, c.requires.0)
+pub returns-in_err-state : goal.returns-in_err-state
+returns-in_err-state c =
+    let failed = err_from_is_err_and c.from_residual-in_err-state.result c.from_residual-in_err-state.ensures.1 in
+    rw (failed.1, failed.2)
+    (path-stops _ _ _ _ _ c.loop-path.invariant c.in-Some.path c.in-Some.ensures.role_value c.next_outline-outline.result c.next_outline-outline.ensures.q_value _
+    (path_applied _ _ _ _ _ _ _ c.in_ok-l.ensures c.part_of-props.ensures c.in_err-state.ensures))
 
-pub loop-state-smaller : goal.loop-state-smaller
-loop-state-smaller c =
-    let within : PathWithin (room c.args.s.now) c.loop-state.q c.next_path-path.result = c.next_path-path.ensures.path_within (not-false _ c.if-not-path.false) in
-    omega (arith, within)
+pub loop-path-preserved : goal.loop-path-preserved
+loop-path-preserved c =
+    let after : c.map-o.result ≡ option_map (λ (r : Path). r.next) c.next_outline-outline.result = search rules in
+    rw after
+    (one-path _ _ _ _ _ c.loop-path.invariant c.in-Some.path c.in-Some.ensures.role_value c.next_outline-outline.result c.next_outline-outline.ensures.q_value
+    c.in-Some.ensures.path_within.more (path_applied _ _ _ _ _ _ _ c.in_ok-l.ensures c.part_of-props.ensures c.in_ok-state.ensures))
 
-pub loop-state-preserved : goal.loop-state-preserved
-loop-state-preserved c =
-    let within : PathWithin (room c.args.s.now) c.loop-state.q c.next_path-path.result = c.next_path-path.ensures.path_within (not-false _ c.if-not-path.false) in
-    let n = c.next_path-path in
-    let o = c.next_outline-outline in
-    one-path _ _ _ _ _ c.loop-state.invariant n.result n.ensures.role_value c.if-not-path.false within.more o.result o.ensures.q_value
-    (path_applied _ _ _ _ _ _ _ c.load_path-l.ensures c.part_of-props.ensures c.polyline_or_polygon-state.ensures)
+pub returns : goal.returns
+returns c = all_paths _ _ _ _ _ c.loop-path.invariant c.in_default.ensures.role_value

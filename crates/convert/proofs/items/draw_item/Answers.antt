@@ -5,18 +5,6 @@ use Rattle.strokes.specs.Laws.Applying.{applied_no_events}
 use Rattle.convert.specs.Laws.Items.{item-drawn}
 use Rattle.convert.proofs.items.draw_item.Goals as goal
 
-pub draw_box-requires : goal.draw_box-requires
-draw_box-requires c = let h = c.requires.1 in
-    record { positions = h.positions; features = h.features; left = h.left }
-
-pub draw_ellipse-requires : goal.draw_ellipse-requires
-draw_ellipse-requires c = let h = c.requires.1 in
-    record { positions = h.positions; features = h.features; left = h.left }
-
-pub draw_ellipse-requires-in-Circle : goal.draw_ellipse-requires-in-Circle
-draw_ellipse-requires-in-Circle c = let h = c.requires.1 in
-    record { positions = h.positions; features = h.features; left = h.left }
-
 pub returns-in-Box : goal.returns-in-Box
 unfolding drawn_of
 returns-in-Box c = item-drawn _ _ _ _ _ (c.props_of-p.ensures _) (c.shape_of.ensures _) c.in-Box.is (c.draw_box.ensures _ c.requires.1)

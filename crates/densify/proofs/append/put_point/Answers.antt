@@ -1,4 +1,4 @@
-use Rattle.std.proofs.Common.{[], ◌∷◌, refl, arith, length-set}
+use Rattle.std.proofs.Common.{[], ◌∷◌, refl, arith}
 use Rattle.values.specs.declared.Point.{Point}
 use Rattle.densify.specs.Densify.{without_draws}
 use Rattle.values.specs.Points.{flats}
@@ -8,13 +8,10 @@ use Rattle.densify.proofs.append.put_point.Goals as goal
 
 pub returns-then-work-at-lt2 : goal.returns-then-work-at-lt2
 unfolding flats
-returns-then-work-at-lt2 c = written_short c.args.work.now c.args.at (without_draws (record { x = c.args.x; y = c.args.y } ∷ []) c.args.budget) _ _ (omega arith) refl refl refl
-
-pub bounds-work-at-2 : goal.bounds-work-at-2
-bounds-work-at-2 c = simp length-set (omega arith)
+returns-then-work-at-lt2 c = written_short _ _ _ _ (omega arith) refl refl
 
 pub returns : goal.returns
 unfolding flats
 returns c = let p : Point = record { x = c.args.x; y = c.args.y } in
-    written_all c.args.work.now c.args.at (without_draws (p ∷ []) c.args.budget) _ _ (omega arith) refl refl refl
+    written_all c.args.work.now c.args.at (without_draws (p ∷ []) c.args.budget) _ _ (omega arith) refl refl
     (put-point c.args.work.now c.args.at p (omega arith))

@@ -1,32 +1,26 @@
-use Rattle.std.proofs.Common.{◌≡◌, arith}
-use borrow.Author.Tests.{not-true, not-false}
+use Rattle.std.proofs.Common.{arith}
 use Rattle.float.specs.Functions.{max_of}
-use Rattle.budget.specs.Budget.{take_of}
-use Rattle.densify.specs.Densify.{arc_vertices_of, ellipse_ring_of}
+use Rattle.densify.specs.Densify.{ellipse_ring_of}
 use Rattle.densify.specs.Laws.Counts.{arc_within}
 use Rattle.densify.specs.Laws.Closing.{closed_done, closed_short}
-use Rattle.densify.proofs.Outlines.{granted-most, ring_in}
+use Rattle.densify.proofs.Outlines.{granted-most}
 use Rattle.densify.proofs.rings.ellipse_ring.Goals as goal
 
-pub ellipse_points-d-requires : goal.ellipse_points-d-requires
-ellipse_points-d-requires c =
-    let drawn : let a = c.args in c.take-t.result ≡ take_of a.budget (arc_vertices_of a.step a.scale (max_of a.rx a.ry) a.tol) 8 = rw (c.arc_vertices.ensures, c.max.ensures) at c.take-t.ensures in
+pub ellipse_points-requires : goal.ellipse_points-requires
+ellipse_points-requires c =
+    let drawn = rw (c.arc_vertices.ensures, c.max.ensures) at c.take-t.ensures in
     let a = c.args in
     (omega (arith, arc_within a.step a.scale (max_of a.rx a.ry) a.tol, granted-most a.budget _ 8 drawn), c.requires)
 
-pub returns-then-not-d : goal.returns-then-not-d
+pub returns-in_err-d : goal.returns-in_err-d
 unfolding ellipse_ring_of
-returns-then-not-d c =
-    let drawn : let a = c.args in c.take-t.result ≡ take_of a.budget (arc_vertices_of a.step a.scale (max_of a.rx a.ry) a.tol) 8 = rw (c.arc_vertices.ensures, c.max.ensures) at c.take-t.ensures in
-    closed_short (rw drawn at c.ellipse_points-d.ensures) (not-true _ c.if-not-d.true)
-
-pub close_ring-requires : goal.close_ring-requires
-close_ring-requires c = ring_in c.ellipse_points-d.ensures (not-false _ c.if-not-d.false)
+returns-in_err-d c =
+    let drawn = rw (c.arc_vertices.ensures, c.max.ensures) at c.take-t.ensures in
+    rw c.from_residual.ensures (closed_short (rw drawn at c.in_err-d.ensures))
 
 pub returns : goal.returns
 unfolding ellipse_ring_of
 returns c =
-    let drawn : let a = c.args in c.take-t.result ≡ take_of a.budget (arc_vertices_of a.step a.scale (max_of a.rx a.ry) a.tol) 8 = rw (c.arc_vertices.ensures, c.max.ensures) at c.take-t.ensures in
-    let one = c.ellipse_points-d.ensures in
-    let fits = not-false _ c.if-not-d.false in
-    closed_done (rw drawn at one) fits (rw (one.left fits) c.close_ring.ensures)
+    let drawn = rw (c.arc_vertices.ensures, c.max.ensures) at c.take-t.ensures in
+    let one = c.in_ok-d.ensures in
+    closed_done (rw drawn at one) (rw one.left c.close_ring.ensures)

@@ -1,4 +1,4 @@
-use mathlib.Core.Path.{◌≡◌}
+use mathlib.Core.Path.{◌≡◌, sym, ◌∙◌}
 use mathlib.Core.Bool.{true}
 use Prim.Native.Nat.{◌-◌}
 use native.Mathlib.Omega.{arith}
@@ -6,14 +6,11 @@ use lib.Pow.{pow_pos}
 use lib.Ieee.{binary64, fits, to_bits}
 use Rattle.float.specs.Inner.Fraction.{HasFraction, field_of}
 use Rattle.float.specs.Laws.Whole.{trunc_by_rule}
-use Rattle.float.proofs.Fractions.{nan_own, a_number, wide, large_own, small_trunc, zero_no_nan, trunc_cleared}
+use Rattle.float.proofs.Fractions.{nan_own, wide, large_own, small_trunc, zero_no_nan, trunc_cleared}
 use Rattle.float.proofs.whole.trunc.Goals as goal
 
-pub returns-then-x : goal.returns-then-x
-returns-then-x c = nan_own trunc_by_rule c.args.x c.if-x.true
-
-pub float_to_bits-b : goal.float_to_bits-b
-float_to_bits-b c = a_number c.args.x c.if-x.false
+pub returns-then-is_nan : goal.returns-then-is_nan
+returns-then-is_nan c = nan_own trunc_by_rule c.args.x (sym c.is_nan.ensures.value ∙ c.if-is_nan.true)
 
 pub returns-then-f-ge-FIELD_WHOLE : goal.returns-then-f-ge-FIELD_WHOLE
 returns-then-f-ge-FIELD_WHOLE c =

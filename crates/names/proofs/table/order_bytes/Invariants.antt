@@ -1,5 +1,4 @@
 use mathlib.Core.Path.{◌≡◌}
-use Prim.Native.Nat.{◌-◌, ◌≤◌}
 use lib.ListN.{drop}
 use Rattle.stream.specs.Payload.{payload}
 use Rattle.records.specs.Records.{bytes_at}
@@ -8,7 +7,5 @@ use Rattle.names.proofs.table.order_bytes.Given as goal
 
 abbrev pub invariant-loop-i : goal.invariant-loop-i
 invariant-loop-i l =
-    (l.i ≤ l.n) × (order_of (bytes_at (payload l.s) l.p l.n) (bytes_at (payload l.s) l.q l.n) ≡ order_of (drop l.i (bytes_at (payload l.s) l.p l.n)) (drop l.i (bytes_at (payload l.s) l.q l.n)))
-
-abbrev pub decreases-loop-i : goal.decreases-loop-i
-decreases-loop-i l = l.n - l.i
+    order_of (bytes_at (payload l.s) l.p l.n) (bytes_at (payload l.s) l.q l.n)
+    ≡ order_of (drop l.i (bytes_at (payload l.s) l.p l.n)) (drop l.i (bytes_at (payload l.s) l.q l.n))

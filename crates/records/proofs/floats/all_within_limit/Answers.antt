@@ -5,7 +5,7 @@ use Rattle.stream.specs.Laws.Numbers.{float_read}
 use Rattle.stream.specs.Laws.Payload.{rest-length}
 use Rattle.records.specs.Records.{all_to}
 use Rattle.records.specs.Inner.Floats.{within_limit}
-use Rattle.records.proofs.Tests.{was_true, was_false, all_to-more, all_to_fails}
+use Rattle.records.proofs.Tests.{all_to-more, all_to_fails}
 use Rattle.records.proofs.floats.all_within_limit.Goals as goal
 
 pub loop-i-init : goal.loop-i-init
@@ -19,11 +19,11 @@ pub overflow_add-p : goal.overflow_add-p
 overflow_add-p c = omega (arith, rest-length c.args.part.now c.args.off)
 
 pub returns-then-not-is_within_limit : goal.returns-then-not-is_within_limit
-returns-then-not-is_within_limit c = sym (all_to_fails _ _ c.loop-i.i c.loop-i-test.true (ap (within_limit c.args.canvas) (sym (float_read _ _ c.u64_at.ensures c.float_of.ensures)) ∙ was_false c.is_within_limit.ensures c.if-not-is_within_limit.true-raw))
+returns-then-not-is_within_limit c = sym (all_to_fails _ _ c.loop-i.i c.loop-i-test.true (ap (within_limit c.args.canvas) (sym (float_read _ _ c.u64_at.ensures c.float_of.ensures)) ∙ sym c.is_within_limit.ensures ∙ c.if-not-is_within_limit.true))
 
 pub loop-i-preserved : goal.loop-i-preserved
-loop-i-preserved c = (omega arith, all_to-more _ _ c.loop-i.invariant.1 (ap (within_limit c.args.canvas) (sym (float_read _ _ c.u64_at.ensures c.float_of.ensures)) ∙ was_true c.is_within_limit.ensures c.if-not-is_within_limit.false-raw))
+loop-i-preserved c = all_to-more _ _ c.loop-i.invariant (ap (within_limit c.args.canvas) (sym (float_read _ _ c.u64_at.ensures c.float_of.ensures)) ∙ sym c.is_within_limit.ensures ∙ c.if-not-is_within_limit.false)
 
 pub returns : goal.returns
 returns c = let e : c.loop-i.i ≡ c.args.n = omega arith in
-    rw (← e, c.loop-i.invariant.1) refl
+    rw (← e, c.loop-i.invariant) refl

@@ -1,5 +1,5 @@
 use mathlib.Core.Path.{◌≡◌}
-use Prim.Native.Nat.{◌+◌, ◌-◌, ◌≤◌}
+use Prim.Native.Nat.{◌+◌}
 use lib.ListN.{drop}
 use Rattle.stream.specs.Payload.{payload}
 use Rattle.records.specs.Records.{bytes_at}
@@ -8,8 +8,4 @@ use Rattle.records.proofs.names.common_prefix.Given as goal
 
 abbrev pub invariant-loop-i : goal.invariant-loop-i
 invariant-loop-i l =
-    (l.i ≤ l.n)
-    × (common_prefix (bytes_at (payload l.s) l.p l.n) (bytes_at (payload l.s) l.q l.m) ≡ l.i + common_prefix (drop l.i (bytes_at (payload l.s) l.p l.n)) (drop l.i (bytes_at (payload l.s) l.q l.m)))
-
-abbrev pub decreases-loop-i : goal.decreases-loop-i
-decreases-loop-i l = l.n - l.i
+    common_prefix (bytes_at (payload l.s) l.p l.n) (bytes_at (payload l.s) l.q l.m) ≡ l.i + common_prefix (drop l.i (bytes_at (payload l.s) l.p l.n)) (drop l.i (bytes_at (payload l.s) l.q l.m))

@@ -1,10 +1,9 @@
-use native.Mathlib.Omega.{arith}
-use Rattle.records.proofs.Tests.{was_true, was_false}
+use Rattle.std.proofs.Common.{sym, ◌∙◌}
 use Rattle.records.proofs.Steps.{variable-low, variable-is}
 use Rattle.records.proofs.order.variable.Goals as goal
 
-pub returns-then-not-name_before : goal.returns-then-not-name_before
-returns-then-not-name_before c = record { leads_to = variable-low _ c.args.p c.args.st _ c.requires.0 c.wide-n.ensures.0 (was_false c.name_before.ensures c.if-not-name_before.true-raw); step_within = tt }
+pub returns-then-not-name_before-clause-leads_to : goal.returns-then-not-name_before-clause-leads_to
+returns-then-not-name_before-clause-leads_to c = variable-low _ c.args.p c.args.st c.from-len.ensures (sym c.name_before.ensures ∙ c.if-not-name_before.true)
 
-pub returns : goal.returns
-returns c = let made = variable-is _ c.args.p c.args.st _ c.requires.0 c.wide-n.ensures.0 (omega arith) (was_true c.name_before.ensures c.if-not-name_before.false-raw) c.tag.ensures in record { leads_to = made.0; step_within = made.1 }
+pub returns-clause-leads_to : goal.returns-clause-leads_to
+returns-clause-leads_to c = variable-is _ c.args.p c.args.st c.from-len.ensures (sym c.name_before.ensures ∙ c.if-not-name_before.false) c.tag.ensures

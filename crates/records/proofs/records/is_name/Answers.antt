@@ -15,4 +15,4 @@ pub returns-then-len-p : goal.returns-then-len-p
 returns-then-len-p c = named-short _ _ (omega arith)
 
 pub returns : goal.returns
-returns c = named-is _ _ (omega arith) c.byte.ensures c.wide-n.ensures.0 (omega arith) (omega arith) (omega arith) c.all_ascii_graphic.ensures
+returns c = named-is _ _ (omega arith) c.byte.ensures c.from-n.ensures (omega arith) (omega arith) (omega arith) c.all_ascii_graphic.ensures

@@ -5,8 +5,8 @@ use Rattle.records.proofs.records.item_begins.Goals as goal
 pub returns-then-remaining-lt4 : goal.returns-then-remaining-lt4
 returns-then-remaining-lt4 c = begins_cut _ (omega arith)
 
-pub returns-then-byte-gt-KIND_BLOCK : goal.returns-then-byte-gt-KIND_BLOCK
-returns-then-byte-gt-KIND_BLOCK c = begins_kind _ (omega arith)
+pub returns-then-byte : goal.returns-then-byte
+returns-then-byte c = begins_kind _ (omega arith)
 
 pub returns-then-byte-ge32 : goal.returns-then-byte-ge32
 returns-then-byte-ge32 c = begins_flags _ (omega arith)

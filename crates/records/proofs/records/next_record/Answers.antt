@@ -1,48 +1,47 @@
 use native.Mathlib.Omega.{arith}
 use mathlib.Core.Path.{◌∙◌, sym}
 use Rattle.records.specs.Records.{by_tag}
-use Rattle.records.proofs.Tests.{none_below}
 use Rattle.records.proofs.Cases.{record_is, record_none, tag_other}
 use Rattle.records.proofs.records.next_record.Goals as goal
 
 pub returns-then-remaining-eq0 : goal.returns-then-remaining-eq0
 returns-then-remaining-eq0 c = record_none _ (sym c.remaining.ensures ∙ c.if-remaining-eq0.true)
 
-pub returns-in-0 : goal.returns-in-0
+pub returns-in-Ok-End : goal.returns-in-Ok-End
 unfolding by_tag
-returns-in-0 c = record_is _ (omega arith) (sym c.byte.ensures ∙ c.in-0.is) c.read_end.ensures
+returns-in-Ok-End c = record_is _ (omega arith) (sym c.byte.ensures ∙ sym (rw c.in-Ok-End.field-0-is at c.in-Ok-End.ensures)) c.read_end.ensures
 
-pub returns-in-1 : goal.returns-in-1
+pub returns-in-Ok-Rescale : goal.returns-in-Ok-Rescale
 unfolding by_tag
-returns-in-1 c = record_is _ (omega arith) (sym c.byte.ensures ∙ c.in-1.is) c.read_rescale.ensures
+returns-in-Ok-Rescale c = record_is _ (omega arith) (sym c.byte.ensures ∙ sym (rw c.in-Ok-Rescale.field-0-is at c.in-Ok-Rescale.ensures)) c.read_rescale.ensures
 
-pub returns-in-2 : goal.returns-in-2
+pub returns-in-Ok-Option : goal.returns-in-Ok-Option
 unfolding by_tag
-returns-in-2 c = record_is _ (omega arith) (sym c.byte.ensures ∙ c.in-2.is) c.read_option.ensures
+returns-in-Ok-Option c = record_is _ (omega arith) (sym c.byte.ensures ∙ sym (rw c.in-Ok-Option.field-0-is at c.in-Ok-Option.ensures)) c.read_option.ensures
 
-pub returns-in-3 : goal.returns-in-3
+pub returns-in-Ok-Feature : goal.returns-in-Ok-Feature
 unfolding by_tag
-returns-in-3 c = record_is _ (omega arith) (sym c.byte.ensures ∙ c.in-3.is) c.read_feature.ensures
+returns-in-Ok-Feature c = record_is _ (omega arith) (sym c.byte.ensures ∙ sym (rw c.in-Ok-Feature.field-0-is at c.in-Ok-Feature.ensures)) c.read_feature.ensures
 
-pub returns-in-4 : goal.returns-in-4
+pub returns-in-Ok-Variable : goal.returns-in-Ok-Variable
 unfolding by_tag
-returns-in-4 c = record_is _ (omega arith) (sym c.byte.ensures ∙ c.in-4.is) c.read_variable.ensures
+returns-in-Ok-Variable c = record_is _ (omega arith) (sym c.byte.ensures ∙ sym (rw c.in-Ok-Variable.field-0-is at c.in-Ok-Variable.ensures)) c.read_variable.ensures
 
-pub returns-in-5 : goal.returns-in-5
+pub returns-in-Ok-Place : goal.returns-in-Ok-Place
 unfolding by_tag
-returns-in-5 c = record_is _ (omega arith) (sym c.byte.ensures ∙ c.in-5.is) c.read_place.ensures
+returns-in-Ok-Place c = record_is _ (omega arith) (sym c.byte.ensures ∙ sym (rw c.in-Ok-Place.field-0-is at c.in-Ok-Place.ensures)) c.read_place.ensures
 
-pub returns-in-6 : goal.returns-in-6
+pub returns-in-Ok-Item : goal.returns-in-Ok-Item
 unfolding by_tag
-returns-in-6 c = record_is _ (omega arith) (sym c.byte.ensures ∙ c.in-6.is) c.read_item.ensures
+returns-in-Ok-Item c = record_is _ (omega arith) (sym c.byte.ensures ∙ sym (rw c.in-Ok-Item.field-0-is at c.in-Ok-Item.ensures)) c.read_item.ensures
 
-pub returns-in-7 : goal.returns-in-7
+pub returns-in-Ok-Points : goal.returns-in-Ok-Points
 unfolding by_tag
-returns-in-7 c = record_is _ (omega arith) (sym c.byte.ensures ∙ c.in-7.is) c.read_points.ensures
+returns-in-Ok-Points c = record_is _ (omega arith) (sym c.byte.ensures ∙ sym (rw c.in-Ok-Points.field-0-is at c.in-Ok-Points.ensures)) c.read_points.ensures
 
-pub returns-in-8 : goal.returns-in-8
+pub returns-in-Ok-Path : goal.returns-in-Ok-Path
 unfolding by_tag
-returns-in-8 c = record_is _ (omega arith) (sym c.byte.ensures ∙ c.in-8.is) c.read_path.ensures
+returns-in-Ok-Path c = record_is _ (omega arith) (sym c.byte.ensures ∙ sym (rw c.in-Ok-Path.field-0-is at c.in-Ok-Path.ensures)) c.read_path.ensures
 
-pub returns-in_default : goal.returns-in_default
-returns-in_default c = record_is _ (omega arith) (sym c.byte.ensures) (tag_other _ _ (none_below _ 9 c.in_default.in_default-own.rest))
+pub returns-in-Err : goal.returns-in-Err
+returns-in-Err c = record_is _ (omega arith) (sym c.byte.ensures) (tag_other _ _ c.in-Err.ensures)

@@ -1,22 +1,19 @@
-use borrow.Author.Rules.{rules}
+use mathlib.Core.Path.{sym, ◌∙◌}
 use native.Mathlib.Omega.{arith}
-use mathlib.Core.Path.{◌∙◌}
 use Rattle.records.specs.Laws.Records.{then_fits}
-use Rattle.records.proofs.Tests.{was_false, was_true}
-use Rattle.records.proofs.Cases.{place_is, place_nested, place-not}
+use Rattle.records.proofs.Cases.{some_told, place_is, place_nested, place-not}
 use Rattle.records.proofs.records.read_place.Goals as goal
 
-pub returns-then-not-named_then : goal.returns-then-not-named_then
-returns-then-not-named_then c = place-not _ (was_false c.named_then.ensures c.if-not-named_then.true-raw)
-
-pub byte-name-requires : goal.byte-name-requires
-byte-name-requires c = (search rules, omega (arith, then_fits _ 25 (was_true c.named_then.ensures c.if-not-named_then.false-raw)))
+pub returns-in_default : goal.returns-in_default
+returns-in_default c = place-not _ (sym c.name_then.ensures ∙ c.in_default.is)
 
 pub byte-requires : goal.byte-requires
-byte-requires c = (search rules, omega (arith, then_fits _ 25 (was_true c.named_then.ensures c.if-not-named_then.false-raw)))
+byte-requires c =
+    let read = sym c.name_then.ensures ∙ c.in-Some.is in
+    (omega arith, omega (arith, then_fits _ 25 (some_told _ _ _ read).0, (some_told _ _ _ read).1))
 
 pub returns-then-byte-gt1 : goal.returns-then-byte-gt1
-returns-then-byte-gt1 c = place_nested _ (c.wide-n.ensures.0 ∙ c.byte-name.ensures) (omega arith)
+returns-then-byte-gt1 c = place_nested _ (c.from-n.ensures ∙ (some_told _ _ _ (sym c.name_then.ensures ∙ c.in-Some.is)).1) (omega arith)
 
 pub returns : goal.returns
-returns c = place_is _ (was_true c.named_then.ensures c.if-not-named_then.false-raw) (search rules) (search rules) (omega arith)
+returns c = place_is _ (sym c.name_then.ensures ∙ c.in-Some.is) c.from-n.ensures (omega arith)

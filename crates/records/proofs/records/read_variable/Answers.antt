@@ -1,15 +1,9 @@
-use borrow.Author.Rules.{rules}
-use native.Mathlib.Omega.{arith}
-use Rattle.records.specs.Laws.Records.{then_fits}
-use Rattle.records.proofs.Tests.{was_false, was_true}
+use mathlib.Core.Path.{sym, ◌∙◌}
 use Rattle.records.proofs.Cases.{variable-is, variable-not}
 use Rattle.records.proofs.records.read_variable.Goals as goal
 
-pub returns-then-not-named_then : goal.returns-then-not-named_then
-returns-then-not-named_then c = variable-not _ (was_false c.named_then.ensures c.if-not-named_then.true-raw)
+pub returns-in-None : goal.returns-in-None
+returns-in-None c = variable-not _ (sym c.name_then.ensures ∙ c.in-None.is)
 
-pub byte-name-requires : goal.byte-name-requires
-byte-name-requires c = (search rules, omega (arith, then_fits _ 8 (was_true c.named_then.ensures c.if-not-named_then.false-raw)))
-
-pub returns : goal.returns
-returns c = variable-is _ (was_true c.named_then.ensures c.if-not-named_then.false-raw) c.byte-name.ensures c.wide.ensures.0
+pub returns-in-Some : goal.returns-in-Some
+returns-in-Some c = variable-is _ (sym c.name_then.ensures ∙ c.in-Some.is) c.from.ensures

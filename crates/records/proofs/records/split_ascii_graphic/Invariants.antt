@@ -1,4 +1,3 @@
-use Prim.Native.Nat.{◌-◌, ◌≤◌}
 use mathlib.Core.Bool.{true}
 use mathlib.Core.Path.{◌≡◌}
 use Rattle.stream.specs.Inner.Payload.{rest}
@@ -6,7 +5,4 @@ use Rattle.records.specs.Records.{all_ascii_graphic}
 use Rattle.records.proofs.records.split_ascii_graphic.Given as goal
 
 abbrev pub invariant-loop-i : goal.invariant-loop-i
-invariant-loop-i l = (l.i ≤ l.n) × (all_ascii_graphic (rest l.part l.off) l.p l.i ≡ true)
-
-abbrev pub decreases-loop-i : goal.decreases-loop-i
-decreases-loop-i l = l.n - l.i
+invariant-loop-i l = all_ascii_graphic (rest l.part l.off) l.p l.i ≡ true

@@ -1,4 +1,3 @@
-use Prim.Native.Nat.{◌-◌}
 use lib.ListN.{drop}
 use mathlib.Core.Path.{◌≡◌}
 use Rattle.stream.specs.Inner.Payload.{rest}
@@ -7,6 +6,3 @@ use Rattle.records.proofs.records.zeros_from.Given as goal
 
 abbrev pub invariant-loop-k : goal.invariant-loop-k
 invariant-loop-k l = all_zero (drop l.i (rest l.part l.off)) ≡ all_zero (drop l.k (rest l.part l.off))
-
-abbrev pub decreases-loop-k : goal.decreases-loop-k
-decreases-loop-k l = l.len - l.k

@@ -16,8 +16,8 @@ behind : (l : List ℕ) → get_or l 0 0 ≡ 1 → 9 ≤ length l → SkipsTo l 
 unfolding by_tag
 behind l e h t k a m = passed_over l 0 t k (sym (record_is l (omega arith) e (rescale-is l h))) a m
 
-pub returns-then-tag_at-ne-TAG_RESCALE : goal.returns-then-tag_at-ne-TAG_RESCALE
-returns-then-tag_at-ne-TAG_RESCALE c t k a m = refl
+pub returns-then-tag_at : goal.returns-then-tag_at
+returns-then-tag_at c t k a m = refl
 
 pub returns-then-remaining-lt9 : goal.returns-then-remaining-lt9
 returns-then-remaining-lt9 c t k a m = refl

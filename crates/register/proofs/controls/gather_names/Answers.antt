@@ -1,4 +1,3 @@
-use borrow.Author.Rules.{rules}
 use mathlib.Core.List.{[]}
 use Rattle.stream.specs.Payload.{payload}
 use Rattle.scene.specs.Scene.{scene_of}
@@ -6,18 +5,12 @@ use Rattle.register.proofs.GatheredBatches.{both_parts, features_alone, features
 use Rattle.register.proofs.EventCounts.{only_features}
 use Rattle.register.proofs.controls.gather_names.Goals as goal
 
--- src/controls.rt:352:9
 pub returns-then-v-eq0 : goal.returns-then-v-eq0
 returns-then-v-eq0 c = let pre = c.requires in
     let sc = scene_of (payload c.args.s.now) in
     let h = c.gather_part-g.ensures [] [] (none_held pre.2) (none-before-all sc) in
     features_alone sc (only_features pre.0.surveyed c.if-v-eq0.true) h
 
--- src/controls.rt:354:5
-pub gather_part-requires : goal.gather_part-requires
-gather_part-requires c = (search rules, search rules, record { flat_room = search rules; kept-room = search rules })
-
--- src/controls.rt:341:1
 pub returns : goal.returns
 returns c = let pre = c.requires in
     let sc = scene_of (payload c.args.s.now) in

@@ -1,13 +1,11 @@
-use mathlib.Core.Path.{◌≡◌}
 use Prim.Native.Nat.{◌-◌}
-use lib.ListN.{length}
 use Rattle.stream.specs.Inner.Payload.{room}
 use Rattle.register.proofs.GatheredBatches.{Parted}
 use Rattle.register.proofs.controls.gather_part.Given as goal
 
 abbrev pub invariant-loop-v : goal.invariant-loop-v
 invariant-loop-v l =
-    Parted l.s l.lons l.initial.all l.initial.flat l.initial.kept l.c l.starts l.base l.all l.flat l.kept × (length l.t ≡ length l.initial.t) × (length l.flat ≡ length l.initial.flat) × (length l.kept ≡ length l.initial.kept) × (length l.starts ≡ 32)
+    Parted l.s l.lons l.initial.all l.initial.controls l.initial.kept l.c l.starts l.base l.all l.controls l.kept
 
 abbrev pub decreases-loop-v : goal.decreases-loop-v
 decreases-loop-v l = room l.s - l.c.q

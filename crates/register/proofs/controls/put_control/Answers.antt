@@ -1,8 +1,6 @@
 use mathlib.Core.Path.{◌≡◌, ◌∙◌}
 use mathlib.Core.Bool.{◌&&◌}
 use mathlib.Core.Logic.{inl, inr}
-use native.Mathlib.Omega.{arith}
-use lib.ListN.{length-set}
 use Rattle.register.specs.Register.{within_limits}
 use Rattle.register.proofs.TallyLaws.{both, put_full, put-more}
 use Rattle.register.proofs.controls.put_control.Goals as goal
@@ -10,19 +8,10 @@ use Rattle.register.proofs.controls.put_control.Goals.{then-g, else-g}
 
 pub returns-then-n-ge-MAX_CONTROLS : goal.returns-then-n-ge-MAX_CONTROLS
 returns-then-n-ge-MAX_CONTROLS c =
-    let ok : c.if-g.ok ≡ (c.args.g.within && within_limits c.args.c.lon c.args.c.lat) = both _ _ (elim c.if-g.branch [ then-g w ↦ inl (w.if-g.true, w.ok-is ∙ w.is_within_limits-ok.ensures) | else-g w ↦ inr (w.if-g.false, w.ok-is ∙ w.if-g.false) ]) in
+    let ok : c.if-g.within ≡ (c.args.g.within && within_limits c.args.c.lon c.args.c.lat) = both _ _ (elim c.if-g.branch [ then-g w ↦ inl (w.if-g.true, w.within-is ∙ w.is_within_limits-within.ensures) | else-g w ↦ inr (w.if-g.false, w.within-is ∙ w.if-g.false) ]) in
     λ b cs js h. put_full h _ _ ok c.if-n-ge-MAX_CONTROLS.true
-
-pub bounds-flat-n-2 : goal.bounds-flat-n-2
-bounds-flat-n-2 c = simp length-set (omega arith)
-
-pub bounds-flat-n-3 : goal.bounds-flat-n-3
-bounds-flat-n-3 c = simp length-set (omega arith)
-
-pub bounds-flat-n-4 : goal.bounds-flat-n-4
-bounds-flat-n-4 c = simp length-set (omega arith)
 
 pub returns : goal.returns
 returns c =
-    let ok : c.if-g.ok ≡ (c.args.g.within && within_limits c.args.c.lon c.args.c.lat) = both _ _ (elim c.if-g.branch [ then-g w ↦ inl (w.if-g.true, w.ok-is ∙ w.is_within_limits-ok.ensures) | else-g w ↦ inr (w.if-g.false, w.ok-is ∙ w.if-g.false) ]) in
+    let ok : c.if-g.within ≡ (c.args.g.within && within_limits c.args.c.lon c.args.c.lat) = both _ _ (elim c.if-g.branch [ then-g w ↦ inl (w.if-g.true, w.within-is ∙ w.is_within_limits-within.ensures) | else-g w ↦ inr (w.if-g.false, w.within-is ∙ w.if-g.false) ]) in
     λ b cs js h. put-more h _ _ ok c.if-n-ge-MAX_CONTROLS.false

@@ -3,17 +3,15 @@ use Rattle.register.specs.Register.{px_mode, anchor_of, half_anchor}
 use Rattle.register.proofs.DeclaredValues.{scene_says}
 use Rattle.register.proofs.declared.read_declared.Goals as goal
 
-pub is_mercator-requires : goal.is_mercator-requires
-is_mercator-requires c = (scene_says _ c.requires).frame
-
 pub returns : goal.returns
 unfolding px_mode anchor_of half_anchor
-returns c = let says = scene_says (payload c.args.s.now) c.requires in
+returns c =
+    let says = scene_says (payload c.args.s.now) c.requires in
     record {
-      mercator = c.is_mercator.ensures;
+      mercator = rw (← says.frame) c.is_mercator.ensures;
       px = rw (← says.px) c.is_set.ensures;
-      scale = rw (← says.scale, ← c.scale.ensures) c.or_value.ensures;
-      bearing = rw (← says.bearing, ← c.bearing.ensures) c.or_value-2.ensures;
+      scale = rw (← says.scale, ← c.scale.ensures) c.or.ensures;
+      bearing = rw (← says.bearing, ← c.bearing.ensures) c.or-2.ensures;
       anchor = rw (← says.lon, ← says.lat, ← c.anchor-anchor.ensures) c.anchor_of.ensures;
       half = rw (← says.lon, ← says.lat, ← c.anchor-anchor.ensures) c.is_half.ensures;
       view = c.view_scale.ensures;

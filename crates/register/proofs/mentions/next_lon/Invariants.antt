@@ -4,7 +4,7 @@ use Rattle.register.proofs.MentionLists.{Looking}
 use Rattle.register.proofs.mentions.next_lon.Given as goal
 
 abbrev pub invariant-loop-v : goal.invariant-loop-v
-invariant-loop-v l = Looking l.s l.initial.q l.initial.i l.starts l.at l.len l.q l.i
+invariant-loop-v l = Looking l.s l.initial.c l.starts l.c
 
 abbrev pub decreases-loop-v : goal.decreases-loop-v
-decreases-loop-v l = room l.s - l.q
+decreases-loop-v l = room l.s - l.c.q

@@ -5,7 +5,7 @@ use Rattle.register.proofs.Surveys.{Numbering}
 use Rattle.register.proofs.survey.count_features.Given as goal
 
 abbrev pub invariant-loop-f : goal.invariant-loop-f
-invariant-loop-f l = Numbering (payload l.s) l.n l.q
+invariant-loop-f l = Numbering (payload l.s) l.count l.end
 
 abbrev pub decreases-loop-f : goal.decreases-loop-f
-decreases-loop-f l = room l.s - l.q
+decreases-loop-f l = room l.s - l.end

@@ -1,11 +1,14 @@
-use Rattle.register.proofs.KeptNumbers.{kind_alone, kind_again, kind_lost}
+use mathlib.Core.Path.{refl}
+use Rattle.register.proofs.KeptNumbers.{kind_told}
 use Rattle.register.proofs.warnings.kind_of.Goals as goal
-
-pub returns-then-not-lat : goal.returns-then-not-lat
-returns-then-not-lat c = kind_alone c.args.m.lat _ c.if-not-lat.true
+use Rattle.register.proofs.warnings.kind_of.Goals.{else-is_some-via-then-is_some+else-is_feature_name, else-is_some-via-else-is_some}
 
 pub returns-then-is_feature_name : goal.returns-then-is_feature_name
-returns-then-is_feature_name c = kind_again c.args.m.lat _ c.if-not-lat.false c.is_feature_name.ensures c.if-is_feature_name.true
+returns-then-is_feature_name c = rw (kind_told c.args.m.lat _, ← c.is_some.ensures, c.if-is_some.true, ← c.is_feature_name.ensures, c.if-is_feature_name.true) refl
 
-pub returns : goal.returns
-returns c = kind_lost c.args.m.lat _ c.if-not-lat.false c.is_feature_name.ensures c.if-is_feature_name.false
+pub returns-else-is_some : goal.returns-else-is_some
+returns-else-is_some c =
+    elim c.else-is_some.branch [
+      | else-is_some-via-then-is_some+else-is_feature_name w ↦ rw (kind_told c.args.m.lat _, ← c.is_some.ensures, w.if-is_some.true, ← w.is_feature_name.ensures, w.if-is_feature_name.false) refl
+      | else-is_some-via-else-is_some w ↦ rw (kind_told c.args.m.lat _, ← c.is_some.ensures, w.if-is_some.false) refl
+    ]

@@ -1,11 +1,14 @@
-use Rattle.scene.proofs.Keys.{is-first, stays, replaces}
+use mathlib.Core.Path.{◌∙◌}
+use Rattle.scene.specs.Inner.Answers.{key_by}
+use Rattle.scene.proofs.Keys.{at_most, stays, replaces}
 use Rattle.scene.proofs.labels.consider_point.Goals as goal
 
-pub returns-then-not-is_greater : goal.returns-then-not-is_greater
-returns-then-not-is_greater c = stays _ _ _ _ c.if-b.true c.is_greater.ensures c.if-not-is_greater.true-raw
+pub returns-in-Some : goal.returns-in-Some
+returns-in-Some c =
+    let old = c.in-Some in
+    rw old.is (stays _ (key_by c.args.key) c.args.at (rw old.old-is at c.le.ensures ∙ at_most (key_by c.args.key) (key_by old.old.key)) c.if-le.true)
 
-pub returns-else-not-is_greater : goal.returns-else-not-is_greater
-returns-else-not-is_greater c = replaces _ _ _ _ c.if-b.true c.is_greater.ensures c.if-not-is_greater.false-raw
-
-pub returns-else-b : goal.returns-else-b
-returns-else-b c = is-first _ _ _ _ c.if-b.false
+pub returns-in_default : goal.returns-in_default
+returns-in_default c =
+    let old = c.in-Some in
+    rw old.is (replaces _ (key_by c.args.key) c.args.at (rw old.old-is at c.le.ensures ∙ at_most (key_by c.args.key) (key_by old.old.key)) c.if-le.false)

@@ -1,16 +1,7 @@
 use native.Mathlib.Omega.{arith}
 use Rattle.stream.specs.Payload.{payload}
-use Rattle.scene.proofs.Means.{sums_start, sums_more, mean-is}
+use Rattle.scene.proofs.Means.{sums_more, mean-is}
 use Rattle.scene.proofs.labels.mean.Goals as goal
-
-pub loop-i-init : goal.loop-i-init
-loop-i-init c = (omega arith, sums_start _ _ _ _, sums_start _ _ _ _)
-
-pub point_at-p-requires : goal.point_at-p-requires
-point_at-p-requires c = omega arith
-
-pub loop-i-smaller : goal.loop-i-smaller
-loop-i-smaller c = omega arith
 
 pub loop-i-preserved : goal.loop-i-preserved
 loop-i-preserved c = (

@@ -1,5 +1,4 @@
 use mathlib.Core.Path.{◌≡◌}
-use Prim.Native.Nat.{◌-◌, ◌≤◌}
 use lib.ListN.{drop}
 use Rattle.stream.specs.Payload.{payload}
 use Rattle.records.specs.Records.{bytes_at}
@@ -7,7 +6,4 @@ use Rattle.scene.specs.Labels.{same_bytes}
 use Rattle.scene.proofs.names.name_is.Given as goal
 
 abbrev pub invariant-loop-i : goal.invariant-loop-i
-invariant-loop-i l = (l.i ≤ l.n) × (same_bytes (bytes_at (payload l.s) l.p l.n) l.name ≡ same_bytes (drop l.i (bytes_at (payload l.s) l.p l.n)) (drop l.i l.name))
-
-abbrev pub decreases-loop-i : goal.decreases-loop-i
-decreases-loop-i l = l.n - l.i
+invariant-loop-i l = (same_bytes (bytes_at (payload l.s) l.p l.n) l.name ≡ same_bytes (drop l.i (bytes_at (payload l.s) l.p l.n)) (drop l.i l.name))

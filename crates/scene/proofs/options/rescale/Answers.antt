@@ -19,7 +19,3 @@ no_block s h =
 pub returns-then-s-lt512 : goal.returns-then-s-lt512
 unfolding scene_of
 returns-then-s-lt512 c = no_block _ c.if-s-lt512.true
-
-pub returns : goal.returns
-unfolding scene_of
-returns c = c.float_at.ensures

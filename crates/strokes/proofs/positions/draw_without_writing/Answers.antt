@@ -1,6 +1,4 @@
-use Prim.Native.Nat.{◌≤◌}
 use native.Mathlib.Omega.{arith}
-use lib.ListN.{length}
 use Rattle.densify.specs.Densify.{densify_polyline_of}
 use Rattle.values.specs.Inner.Points.{points_in}
 use Rattle.densify.specs.Laws.Replay.{densify_replays}
@@ -9,18 +7,13 @@ use Rattle.strokes.specs.Strokes.{missing, draw_without_writing}
 use Rattle.strokes.specs.Laws.Applying.{applied_drawn}
 use Rattle.strokes.proofs.positions.draw_without_writing.Goals as goal
 
-pub warn-requires : goal.warn-requires
-warn-requires c = let h : c.with_budget.result.warnings ≤ length c.args.warnings.now = rw c.with_budget.ensures c.requires.2 in
-    h
-
 pub returns : goal.returns
 unfolding draw_without_writing
 returns c w q f h = let s = c.args in
     let ps = points_in s.work.now s.from s.to in
     let m = densify_polyline_of s.cx.step s.cx.projection.registration.scale ps s.st.budget in
-    let drawn = c.with_budget.ensures in
-    let spent = c.spend_polyline-left.ensures in
+    let spent = c.spend_polyline-budget.ensures in
     let left = left_falls (densify_replays s.cx.step s.cx.projection.registration.scale ps s.st.budget) in
     applied_drawn m (λ b. missing s.item b)
-    (rw (drawn, spent) at (c.warn.ensures w q f
-    (rw (drawn, spent) (record { positions = h.positions; features = h.features; warnings = h.warnings; left = omega arith }))))
+    (rw spent at (c.warn.ensures w q f
+    (rw spent (record { positions = h.positions; features = h.features; warnings = h.warnings; left = omega arith }))))

@@ -1,38 +1,32 @@
-use mathlib.Core.Path.{sym, ◌∙◌}
-use mathlib.Core.List.{[], ◌∷◌}
-use borrow.Author.Tests.{leb-false, not-true, not-false}
+use Rattle.std.specs.Prelude.{Some, None, [], ◌∷◌}
+use Rattle.std.proofs.lemmas.Result.{err_from_is_err_and}
 use Rattle.values.specs.declared.Point.{Point}
 use Rattle.densify.specs.Densify.{without_draws}
 use Rattle.densify.specs.Inner.Written.{Written}
 use Rattle.projection.specs.Projection.{project_point}
-use Rattle.densify.specs.Laws.Writing.{written_room}
+use Rattle.densify.specs.Laws.Writing.{no_room, written_room}
 use Rattle.projection.specs.Laws.Passes.{placed_is}
 use Rattle.strokes.specs.Strokes.{point_of}
-use Rattle.strokes.specs.Laws.Applying.{applied_stuck}
 use Rattle.strokes.specs.Laws.Events.{written_lacks, written_finished}
+use Rattle.strokes.proofs.Exits.{was_some, was_none}
 use Rattle.strokes.proofs.positions.point_feature.Goals as goal
 
-pub returns-then-st-ne0 : goal.returns-then-st-ne0
-returns-then-st-ne0 c w v h = applied_stuck _ _ _ c.if-st-ne0.true h
-
-pub returns-then-not-d : goal.returns-then-not-d
+pub returns-in_err-d : goal.returns-in_err-d
 unfolding point_of
-returns-then-not-d c w v h =
-    let placed : let s = c.args in
-    Written s.positions.now c.put_point-d.new.work s.st.positions (without_draws (project_point s.cx.projection (record { x = s.x; y = s.y }) ∷ []) s.st.budget) c.put_point-d.result = let s = c.args in
+returns-in_err-d c w v h =
+    let s = c.args in
     let p : Point = record { x = s.x; y = s.y } in
-    rw (placed_is s.cx.projection p c.geo-g.ensures) at c.put_point-d.ensures in
-    let one = placed in
-    written_lacks _ 0 0 _ _ w c.if-st-ne0.false h one.kept (leb-false _ _ (sym one.asked ∙ not-true _ c.if-not-d.true)) c.out_of_room.ensures
+    let failed = err_from_is_err_and c.from_residual.result c.from_residual.ensures.1 in
+    let lacked = was_none _ c.in_err-d.ensures.value in
+    let none : Written s.positions.now c.put_point.new.work s.st.positions (without_draws (project_point s.cx.projection p ∷ []) s.st.budget) None =
+    rw (placed_is s.cx.projection p c.geo-g.ensures, lacked.0) at c.put_point.ensures in
+    rw (failed.1, failed.2, lacked.1) (written_lacks _ 0 0 _ _ w h none.kept (no_room none))
 
 pub returns : goal.returns
 unfolding point_of
 returns c w v h =
-    let placed : let s = c.args in
-    Written s.positions.now c.put_point-d.new.work s.st.positions (without_draws (project_point s.cx.projection (record { x = s.x; y = s.y }) ∷ []) s.st.budget) c.put_point-d.result = let s = c.args in
+    let s = c.args in
     let p : Point = record { x = s.x; y = s.y } in
-    rw (placed_is s.cx.projection p c.geo-g.ensures) at c.put_point-d.ensures in
-    let one = placed in
-    let fits = not-false _ c.if-not-d.false in
-    written_finished _ 0 0 _ _ w c.if-st-ne0.false h (written_room one fits) (one.holds fits) h.left
-    (rw (one.next fits) at c.finish.ensures)
+    let one : Written s.positions.now c.put_point.new.work s.st.positions (without_draws (project_point s.cx.projection p ∷ []) s.st.budget) (Some c.in_ok-d.d) =
+    rw (placed_is s.cx.projection p c.geo-g.ensures, was_some _ c.in_ok-d.ensures.value) at c.put_point.ensures in
+    written_finished _ 0 0 _ _ w h (written_room one) one.holds h.left (rw one.next at c.finish.ensures)

@@ -1,62 +1,68 @@
-use Prim.Native.Nat.{◌+◌, ◌-◌, ◌*◌, ◌≤◌}
+use Prim.Native.Nat.{◌+◌, ◌-◌, ◌≤◌}
 use native.Mathlib.Omega.{arith}
-use mathlib.Core.Path.{◌≡◌}
-use mathlib.Core.Bool.{true}
 use lib.ListN.{length}
-use borrow.Author.Tests.{not-true, not-false}
+use Rattle.std.specs.Prelude.{Some, None}
+use Rattle.std.proofs.lemmas.Result.{err_from_is_err_and}
 use borrow.Rule.Slice.PartMut.{put_mid}
 use Rattle.values.specs.Inner.Points.{points_in}
 use Rattle.values.specs.Laws.Points.{flats-length}
+use Rattle.geojson.specs.Inner.Features.{geometry_of}
 use Rattle.densify.specs.Inner.Written.{Written}
 use Rattle.densify.specs.Laws.Writing.{next_in}
 use Rattle.strokes.specs.Inner.Space.{most, longest, behind_at}
-use Rattle.strokes.specs.Laws.Applying.{applied_stuck}
 use Rattle.strokes.specs.Laws.Positions.{tail_written, stroke_points, stroke_made, stroke_some, stroke_few, stroke_lacks, stroke_finished}
+use Rattle.strokes.proofs.Exits.{was_some, was_none}
 use Rattle.strokes.proofs.positions.stroke.Goals as goal
 
-pub returns-then-st-ne0 : goal.returns-then-st-ne0
-returns-then-st-ne0 c w v h = applied_stuck _ _ _ c.if-st-ne0.true h
+pub returns-in_err-d : goal.returns-in_err-d
+returns-in_err-d c w v h =
+    let a = c.args in
+    let q = a.positions.now in
+    let at = a.st.positions in
+    let failed = err_from_is_err_and c.from_residual.result c.from_residual.ensures.1 in
+    let lacked = was_none _ c.in_err-d.ensures.value in
+    let none : Written q (put_mid at (length q - at) q c.densify_polyline.new.out) at (stroke_points a.cx (points_in a.work.now a.from a.to) a.st.budget) None =
+    tail_written q at c.requires.positions None (rw lacked.0 at c.densify_polyline.ensures) in
+    rw (failed.1, failed.2, lacked.1) (stroke_lacks _ _ _ _ _ w h none)
 
 pub project_and_close-closed-requires : goal.project_and_close-closed-requires
-project_and_close-closed-requires c fits =
-    let whole : let q = c.args.positions.now in let at = c.args.st.positions in
-    Written q (put_mid at (length q - at) q c.densify_polyline-d.new.out) at (stroke_points c.args.cx (points_in c.args.work.now c.args.from c.args.to) c.args.st.budget) (behind_at at c.densify_polyline-d.result) = tail_written c.args.positions.now c.args.st.positions c.requires.positions {m = (stroke_points c.args.cx (points_in c.args.work.now c.args.from c.args.to) c.args.st.budget)} c.densify_polyline-d.ensures in
-    (omega (arith, whole.next fits, flats-length (stroke_points c.args.cx (points_in c.args.work.now c.args.from c.args.to) c.args.st.budget).points, stroke_some c.args.cx c.args.work.now c.args.from c.args.to c.args.st.budget c.requires.some), next_in whole fits)
-
-pub returns-then-not-closed : goal.returns-then-not-closed
-returns-then-not-closed c w v h =
-    let whole : let q = c.args.positions.now in let at = c.args.st.positions in
-    Written q (put_mid at (length q - at) q c.densify_polyline-d.new.out) at (stroke_points c.args.cx (points_in c.args.work.now c.args.from c.args.to) c.args.st.budget) (behind_at at c.densify_polyline-d.result) = tail_written c.args.positions.now c.args.st.positions c.requires.positions {m = (stroke_points c.args.cx (points_in c.args.work.now c.args.from c.args.to) c.args.st.budget)} c.densify_polyline-d.ensures in
-    let closed : Written c.args.positions.now c.project_and_close-closed.new.positions c.args.st.positions (stroke_made c.args.cx c.args.geometry (points_in c.args.work.now c.args.from c.args.to) c.args.st.budget) c.project_and_close-closed.result = c.project_and_close-closed.ensures _ _ (whole) in
-    stroke_lacks _ _ _ _ _ w c.if-st-ne0.false h closed (not-true _ c.if-not-closed.true) c.out_of_room.ensures
+project_and_close-closed-requires c =
+    let a = c.args in
+    let q = a.positions.now in
+    let at = a.st.positions in
+    let ps = points_in a.work.now a.from a.to in
+    let whole : Written q (put_mid at (length q - at) q c.densify_polyline.new.out) at (stroke_points a.cx ps a.st.budget) (Some (behind_at at c.in_ok-d.d)) =
+    tail_written q at c.requires.positions (Some c.in_ok-d.d) (rw (was_some _ c.in_ok-d.ensures.value) at c.densify_polyline.ensures) in
+    (omega (arith, whole.next, flats-length (stroke_points a.cx ps a.st.budget).points, stroke_some a.cx a.work.now a.from a.to a.st.budget c.requires.some), next_in whole)
 
 pub overflow_sub-closed : goal.overflow_sub-closed
 overflow_sub-closed c =
-    let whole : let q = c.args.positions.now in let at = c.args.st.positions in
-    Written q (put_mid at (length q - at) q c.densify_polyline-d.new.out) at (stroke_points c.args.cx (points_in c.args.work.now c.args.from c.args.to) c.args.st.budget) (behind_at at c.densify_polyline-d.result) = tail_written c.args.positions.now c.args.st.positions c.requires.positions {m = (stroke_points c.args.cx (points_in c.args.work.now c.args.from c.args.to) c.args.st.budget)} c.densify_polyline-d.ensures in
-    let closed : Written c.args.positions.now c.project_and_close-closed.new.positions c.args.st.positions (stroke_made c.args.cx c.args.geometry (points_in c.args.work.now c.args.from c.args.to) c.args.st.budget) c.project_and_close-closed.result = c.project_and_close-closed.ensures _ _ (whole) in
-    let size : c.project_and_close-closed.result.ok ≡ true → c.project_and_close-closed.result.at ≡ c.args.st.positions + 2 * length (stroke_made c.args.cx c.args.geometry (points_in c.args.work.now c.args.from c.args.to) c.args.st.budget).points = λ fits. omega (arith, (closed).next fits, flats-length (stroke_made c.args.cx c.args.geometry (points_in c.args.work.now c.args.from c.args.to) c.args.st.budget).points) in
-    omega (arith, size (not-false _ c.if-not-closed.false))
+    let a = c.args in
+    let q = a.positions.now in
+    let at = a.st.positions in
+    let ps = points_in a.work.now a.from a.to in
+    let whole : Written q (put_mid at (length q - at) q c.densify_polyline.new.out) at (stroke_points a.cx ps a.st.budget) (Some (behind_at at c.in_ok-d.d)) =
+    tail_written q at c.requires.positions (Some c.in_ok-d.d) (rw (was_some _ c.in_ok-d.ensures.value) at c.densify_polyline.ensures) in
+    omega (arith, (c.project_and_close-closed.ensures _ _ whole).next)
 
 pub overflow_cast-closed : goal.overflow_cast-closed
 overflow_cast-closed c =
-    let whole : let q = c.args.positions.now in let at = c.args.st.positions in
-    Written q (put_mid at (length q - at) q c.densify_polyline-d.new.out) at (stroke_points c.args.cx (points_in c.args.work.now c.args.from c.args.to) c.args.st.budget) (behind_at at c.densify_polyline-d.result) = tail_written c.args.positions.now c.args.st.positions c.requires.positions {m = (stroke_points c.args.cx (points_in c.args.work.now c.args.from c.args.to) c.args.st.budget)} c.densify_polyline-d.ensures in
-    let closed : Written c.args.positions.now c.project_and_close-closed.new.positions c.args.st.positions (stroke_made c.args.cx c.args.geometry (points_in c.args.work.now c.args.from c.args.to) c.args.st.budget) c.project_and_close-closed.result = c.project_and_close-closed.ensures _ _ (whole) in
-    let size : c.project_and_close-closed.result.ok ≡ true → c.project_and_close-closed.result.at ≡ c.args.st.positions + 2 * length (stroke_made c.args.cx c.args.geometry (points_in c.args.work.now c.args.from c.args.to) c.args.st.budget).points = λ fits. omega (arith, (closed).next fits, flats-length (stroke_made c.args.cx c.args.geometry (points_in c.args.work.now c.args.from c.args.to) c.args.st.budget).points) in
-    let few : length (stroke_made c.args.cx c.args.geometry (points_in c.args.work.now c.args.from c.args.to) c.args.st.budget).points ≤ most + longest = stroke_few c.args.cx _ _ _ _ c.args.geometry c.requires.few c.requires.left in
-    omega (arith, size (not-false _ c.if-not-closed.false))
-
-pub shape_of-positions : goal.shape_of-positions
-shape_of-positions c =
-    let whole : let q = c.args.positions.now in let at = c.args.st.positions in
-    Written q (put_mid at (length q - at) q c.densify_polyline-d.new.out) at (stroke_points c.args.cx (points_in c.args.work.now c.args.from c.args.to) c.args.st.budget) (behind_at at c.densify_polyline-d.result) = tail_written c.args.positions.now c.args.st.positions c.requires.positions {m = (stroke_points c.args.cx (points_in c.args.work.now c.args.from c.args.to) c.args.st.budget)} c.densify_polyline-d.ensures in
-    let closed : Written c.args.positions.now c.project_and_close-closed.new.positions c.args.st.positions (stroke_made c.args.cx c.args.geometry (points_in c.args.work.now c.args.from c.args.to) c.args.st.budget) c.project_and_close-closed.result = c.project_and_close-closed.ensures _ _ (whole) in
-    closed.kept
+    let a = c.args in
+    let q = a.positions.now in
+    let at = a.st.positions in
+    let ps = points_in a.work.now a.from a.to in
+    let g = geometry_of a.geometry in
+    let whole : Written q (put_mid at (length q - at) q c.densify_polyline.new.out) at (stroke_points a.cx ps a.st.budget) (Some (behind_at at c.in_ok-d.d)) =
+    tail_written q at c.requires.positions (Some c.in_ok-d.d) (rw (was_some _ c.in_ok-d.ensures.value) at c.densify_polyline.ensures) in
+    let few : length (stroke_made a.cx g ps a.st.budget).points ≤ most + longest = stroke_few a.cx _ _ _ _ g c.requires.few c.requires.left in
+    omega (arith, (c.project_and_close-closed.ensures _ _ whole).next, flats-length (stroke_made a.cx g ps a.st.budget).points)
 
 pub returns : goal.returns
 returns c w v h =
-    let whole : let q = c.args.positions.now in let at = c.args.st.positions in
-    Written q (put_mid at (length q - at) q c.densify_polyline-d.new.out) at (stroke_points c.args.cx (points_in c.args.work.now c.args.from c.args.to) c.args.st.budget) (behind_at at c.densify_polyline-d.result) = tail_written c.args.positions.now c.args.st.positions c.requires.positions {m = (stroke_points c.args.cx (points_in c.args.work.now c.args.from c.args.to) c.args.st.budget)} c.densify_polyline-d.ensures in
-    let closed : Written c.args.positions.now c.project_and_close-closed.new.positions c.args.st.positions (stroke_made c.args.cx c.args.geometry (points_in c.args.work.now c.args.from c.args.to) c.args.st.budget) c.project_and_close-closed.result = c.project_and_close-closed.ensures _ _ (whole) in
-    stroke_finished _ _ _ _ _ w c.if-st-ne0.false h closed (not-false _ c.if-not-closed.false) c.finish.ensures
+    let a = c.args in
+    let q = a.positions.now in
+    let at = a.st.positions in
+    let ps = points_in a.work.now a.from a.to in
+    let whole : Written q (put_mid at (length q - at) q c.densify_polyline.new.out) at (stroke_points a.cx ps a.st.budget) (Some (behind_at at c.in_ok-d.d)) =
+    tail_written q at c.requires.positions (Some c.in_ok-d.d) (rw (was_some _ c.in_ok-d.ensures.value) at c.densify_polyline.ensures) in
+    stroke_finished _ _ _ _ _ w h (c.project_and_close-closed.ensures _ _ whole) c.finish.ensures

@@ -1,28 +1,28 @@
 use native.Mathlib.Omega.{arith}
-use borrow.Author.Tests.{not-true, not-false}
-use Rattle.densify.specs.Laws.Writing.{next_in}
+use Rattle.std.proofs.lemmas.Result.{err_from_is_err_and}
 use Rattle.densify.specs.Laws.Closing.{closed_done}
 use Rattle.strokes.specs.Laws.Loading.{outline_short, closing-short, outline_full, outline_loaded}
+use Rattle.strokes.proofs.Exits.{was_some, was_none}
 use Rattle.strokes.proofs.workspace.load_outline.Goals as goal
 
-pub returns-then-not-d : goal.returns-then-not-d
-returns-then-not-d c = λ w w₁ closed ps b m own done few one small. outline_short own done m one (not-true _ c.if-not-d.true) c.no_room.ensures.0
+pub returns-in_err-outline : goal.returns-in_err-outline
+returns-in_err-outline c w w₁ closed ps b m own few one small =
+    let failed = err_from_is_err_and c.from_residual.result c.from_residual.ensures.1 in
+    let lacked = was_none _ c.in_err-outline.ensures.value in
+    rw (failed.1, failed.2, lacked.1) (outline_short own m (rw lacked.0 at one))
 
-pub close_ring-ring-requires : goal.close_ring-ring-requires
-close_ring-ring-requires c = c.requires (not-false _ c.if-not-d.false)
+pub returns-in_err-ring : goal.returns-in_err-ring
+returns-in_err-ring c w w₁ closed ps b m own few one small =
+    let failed = err_from_is_err_and c.from_residual-in_err-ring.result c.from_residual-in_err-ring.ensures.1 in
+    let lacked = was_none _ c.in_err-ring.ensures.value in
+    rw (failed.1, failed.2, lacked.1)
+    (closing-short own m (closed_done (rw (was_some _ c.in_ok-outline.ensures.value) at one) (rw lacked.0 at c.close_ring.ensures)))
 
-pub returns-then-not-ring : goal.returns-then-not-ring
-returns-then-not-ring c = λ w w₁ closed ps b m own done few one small.
-    closing-short own done m (closed_done one (not-false _ c.if-not-d.false) c.close_ring-ring.ensures) (not-true _ c.if-not-ring.true) c.no_room-then-not-ring.ensures.0
-
-pub overflow_sub-work : goal.overflow_sub-work
-overflow_sub-work c = next_in c.close_ring-ring.ensures (not-false _ c.if-not-ring.false)
-
-pub returns-then-work-fin-lt2 : goal.returns-then-work-fin-lt2
-returns-then-work-fin-lt2 c = λ w w₁ closed ps b m own done few one small.
-    outline_full own done m (closed_done one (not-false _ c.if-not-d.false) c.close_ring-ring.ensures) (not-false _ c.if-not-ring.false) (omega arith) c.no_room-then-work-fin-lt2.ensures.0
+pub returns-then-work-ring-lt2 : goal.returns-then-work-ring-lt2
+returns-then-work-ring-lt2 c w w₁ closed ps b m own few one small =
+    outline_full own m (closed_done (rw (was_some _ c.in_ok-outline.ensures.value) at one) (rw (was_some _ c.in_ok-ring.ensures.value) at c.close_ring.ensures)) (omega arith)
 
 pub returns : goal.returns
-returns c = λ w w₁ closed ps b m own done few one small.
-    let fits = not-false _ c.if-not-d.false in
-    outline_loaded own done m (closed_done one fits c.close_ring-ring.ensures) (not-false _ c.if-not-ring.false) few small (one.left fits) (omega arith)
+returns c w w₁ closed ps b m own few one small =
+    let there = rw (was_some _ c.in_ok-outline.ensures.value) at one in
+    outline_loaded own m (closed_done there (rw (was_some _ c.in_ok-ring.ensures.value) at c.close_ring.ensures)) few small there.left (omega arith)

@@ -1,63 +1,26 @@
-use mathlib.Core.Path.{refl}
-use mathlib.Core.Bool.{true}
 use native.Mathlib.Omega.{arith}
-use borrow.Author.Tests.{not-true, not-false}
-use Rattle.densify.specs.Inner.Written.{Written}
-use Rattle.densify.specs.Laws.Writing.{next_in}
-use Rattle.strokes.specs.Laws.Loading.{closer, closer-marked, closer-done, closer-none, own_short, ring-short, own_full, own_loaded}
+use Rattle.std.proofs.lemmas.Result.{err_from_is_err_and}
+use Rattle.strokes.specs.Laws.Loading.{own_short, ring-short, own_full, own_loaded}
+use Rattle.strokes.proofs.Exits.{was_some, was_none}
 use Rattle.strokes.proofs.workspace.load_own.Goals as goal
-use Rattle.strokes.proofs.workspace.load_own.Goals.{then-closed+else-not-ring, else-closed}
 
-pub returns-then-not-d : goal.returns-then-not-d
-returns-then-not-d c = λ w m one small. own_short _ one (not-true _ c.if-not-d.true) c.no_room.ensures.0
+pub returns-in_err-d : goal.returns-in_err-d
+returns-in_err-d c w m one small =
+    let failed = err_from_is_err_and c.from_residual.result c.from_residual.ensures.1 in
+    let lacked = was_none _ c.in_err-d.ensures.value in
+    rw (failed.1, failed.2, lacked.1) (own_short _ (rw lacked.0 at one))
 
-pub close_ring-ring-requires : goal.close_ring-ring-requires
-close_ring-ring-requires c = (omega arith, c.requires (not-false _ c.if-not-d.false))
+pub returns-in_err-ring : goal.returns-in_err-ring
+returns-in_err-ring c w m one small =
+    let failed = err_from_is_err_and c.from_residual-in_err-ring.result c.from_residual-in_err-ring.ensures.1 in
+    let lacked = was_none _ c.in_err-ring.ensures.value in
+    rw (failed.1, failed.2, lacked.1)
+    (ring-short _ (rw (was_some _ c.in_ok-d.ensures.value) at one) (rw lacked.0 at c.close_if.ensures))
 
-pub returns-then-not-ring : goal.returns-then-not-ring
-returns-then-not-ring c = λ w m one small. ring-short _ one (not-false _ c.if-not-d.false) (closer-marked c.if-closed.true c.close_ring-ring.ensures) (not-true _ c.if-not-ring.true) c.no_room-then-not-ring.ensures.0
-
-pub overflow_sub-work : goal.overflow_sub-work
-overflow_sub-work c =
-    let closing : let a = c.args in
-    Written a.work.now c.if-closed.work a.d.at (closer a.closed a.work.now a.d.at a.d.budget) (record { ok = true; at = c.if-closed.end; budget = a.d.budget }) = elim c.if-closed.branch [
-      | then-closed+else-not-ring t ↦ closer-done t.if-closed.true t.close_ring-ring.ensures (not-false _ t.if-not-ring.false) t.work-is t.end-is
-      | else-closed t ↦ closer-none t.if-closed.false (c.requires (not-false _ c.if-not-d.false)) t.work-is t.end-is
-    ] in
-    next_in closing refl
-
-pub shape_of-work-then-work-end-lt2 : goal.shape_of-work-then-work-end-lt2
-shape_of-work-then-work-end-lt2 c =
-    let closing : let a = c.args in
-    Written a.work.now c.if-closed.work a.d.at (closer a.closed a.work.now a.d.at a.d.budget) (record { ok = true; at = c.if-closed.end; budget = a.d.budget }) = elim c.if-closed.branch [
-      | then-closed+else-not-ring t ↦ closer-done t.if-closed.true t.close_ring-ring.ensures (not-false _ t.if-not-ring.false) t.work-is t.end-is
-      | else-closed t ↦ closer-none t.if-closed.false (c.requires (not-false _ c.if-not-d.false)) t.work-is t.end-is
-    ] in
-    closing.kept
-
-pub returns-then-work-end-lt2 : goal.returns-then-work-end-lt2
-returns-then-work-end-lt2 c =
-    let closing : let a = c.args in
-    Written a.work.now c.if-closed.work a.d.at (closer a.closed a.work.now a.d.at a.d.budget) (record { ok = true; at = c.if-closed.end; budget = a.d.budget }) = elim c.if-closed.branch [
-      | then-closed+else-not-ring t ↦ closer-done t.if-closed.true t.close_ring-ring.ensures (not-false _ t.if-not-ring.false) t.work-is t.end-is
-      | else-closed t ↦ closer-none t.if-closed.false (c.requires (not-false _ c.if-not-d.false)) t.work-is t.end-is
-    ] in
-    λ w m one small. own_full _ one (not-false _ c.if-not-d.false) closing refl (omega arith) c.no_room-then-work-end-lt2.ensures.0
-
-pub shape_of-work : goal.shape_of-work
-shape_of-work c =
-    let closing : let a = c.args in
-    Written a.work.now c.if-closed.work a.d.at (closer a.closed a.work.now a.d.at a.d.budget) (record { ok = true; at = c.if-closed.end; budget = a.d.budget }) = elim c.if-closed.branch [
-      | then-closed+else-not-ring t ↦ closer-done t.if-closed.true t.close_ring-ring.ensures (not-false _ t.if-not-ring.false) t.work-is t.end-is
-      | else-closed t ↦ closer-none t.if-closed.false (c.requires (not-false _ c.if-not-d.false)) t.work-is t.end-is
-    ] in
-    closing.kept
+pub returns-then-work-ring-lt2 : goal.returns-then-work-ring-lt2
+returns-then-work-ring-lt2 c w m one small =
+    own_full _ (rw (was_some _ c.in_ok-d.ensures.value) at one) (rw (was_some _ c.in_ok-ring.ensures.value) at c.close_if.ensures) (omega arith)
 
 pub returns : goal.returns
-returns c =
-    let closing : let a = c.args in
-    Written a.work.now c.if-closed.work a.d.at (closer a.closed a.work.now a.d.at a.d.budget) (record { ok = true; at = c.if-closed.end; budget = a.d.budget }) = elim c.if-closed.branch [
-      | then-closed+else-not-ring t ↦ closer-done t.if-closed.true t.close_ring-ring.ensures (not-false _ t.if-not-ring.false) t.work-is t.end-is
-      | else-closed t ↦ closer-none t.if-closed.false (c.requires (not-false _ c.if-not-d.false)) t.work-is t.end-is
-    ] in
-    λ w m one small. own_loaded _ one (not-false _ c.if-not-d.false) closing refl small (omega arith)
+returns c w m one small =
+    own_loaded _ (rw (was_some _ c.in_ok-d.ensures.value) at one) (rw (was_some _ c.in_ok-ring.ensures.value) at c.close_if.ensures) small (omega arith)

@@ -1,49 +1,38 @@
+use Rattle.std.specs.Prelude.{None, Ok}
 use borrow.Author.Rules.{rules}
-use borrow.Author.Tests.{not-true, not-false}
+use Rattle.std.proofs.lemmas.Result.{err_from_is_err_and}
 use Rattle.stream.specs.Payload.{payload}
 use Rattle.scene.specs.Scene.{points_at}
-use Rattle.values.specs.Maybe.{none}
 use Rattle.densify.specs.Densify.{without_draws}
-use Rattle.densify.specs.Laws.Writing.{next_in}
 use Rattle.strokes.specs.Inner.Space.{Loads, Small}
-use Rattle.strokes.specs.Laws.Loading.{end_in, outline_in, loads_more, points_small}
+use Rattle.strokes.specs.Laws.Loading.{end_in, loads_more, points_small}
 use Rattle.strokes.proofs.workspace.load_points.Goals as goal
 
-pub load_own-l-requires : goal.load_own-l-requires
-load_own-l-requires c = next_in c.copy_points-d.ensures
+pub returns-in_err-l : goal.returns-in_err-l
+returns-in_err-l c =
+    let a = c.args in
+    let small : Small (without_draws (points_at (payload a.s.now) a.points.at a.points.count) a.budget) = points_small _ _ _ _ (search rules) c.requires.2 in
+    let failed = err_from_is_err_and c.from_residual.result c.from_residual.ensures.1 in
+    rw (failed.1, failed.2) (loads_more (c.in_err-l.ensures _ _ (rw c.from.ensures at c.copy_points-d.ensures) small) _ _)
 
-pub returns-then-not-l : goal.returns-then-not-l
-returns-then-not-l c =
-    let small : let a = c.args in Small (without_draws (points_at (payload a.s.now) a.points.at a.points.count) a.budget) = points_small _ _ _ _ (search rules) c.requires.2 in
-    let own : let a = c.args in
-    Loads a.work.now c.load_own-l.new.work a.closed (points_at (payload a.s.now) a.points.at a.points.count) none a.budget c.load_own-l.result = c.load_own-l.ensures _ _ c.copy_points-d.ensures (small) in
-    loads_more own (not-true _ c.if-not-l.true) _ _
+pub copy_points-d-requires-in-Some : goal.copy_points-d-requires-in-Some
+copy_points-d-requires-in-Some c =
+    let a = c.args in
+    let small : Small (without_draws (points_at (payload a.s.now) a.points.at a.points.count) a.budget) = points_small _ _ _ _ (search rules) c.requires.2 in
+    (rw c.from-in-Some.ensures (c.requires.1 _ c.in-Some.is), end_in (c.in_ok-l.ensures _ _ (rw c.from.ensures at c.copy_points-d.ensures) small))
 
-pub returns-then-not-outline : goal.returns-then-not-outline
-returns-then-not-outline c =
-    let small : let a = c.args in Small (without_draws (points_at (payload a.s.now) a.points.at a.points.count) a.budget) = points_small _ _ _ _ (search rules) c.requires.2 in
-    let own : let a = c.args in
-    Loads a.work.now c.load_own-l.new.work a.closed (points_at (payload a.s.now) a.points.at a.points.count) none a.budget c.load_own-l.result = c.load_own-l.ensures _ _ c.copy_points-d.ensures (small) in
-    rw (not-true c.args.outline.some c.if-not-outline.true) own
+pub returns-in-Some : goal.returns-in-Some
+returns-in-Some c =
+    let a = c.args in
+    let l = payload a.s.now in
+    let small : Small (without_draws (points_at l a.points.at a.points.count) a.budget) = points_small _ _ _ _ (search rules) c.requires.2 in
+    let outline-small : Small (without_draws (points_at l c.in-Some.o.at c.in-Some.o.count) a.budget) = points_small _ _ _ _ (search rules) c.requires.2 in
+    let own : Loads a.work.now c.load_own.new.work a.closed (points_at l a.points.at a.points.count) None a.budget (Ok c.in_ok-l.l) =
+    c.in_ok-l.ensures _ _ (rw c.from.ensures at c.copy_points-d.ensures) small in
+    rw c.in-Some.is (c.load_outline.ensures _ _ _ _ _ _ own small.few (rw c.from-in-Some.ensures at c.copy_points-d-in-Some.ensures) outline-small)
 
-pub copy_points-o-requires : goal.copy_points-o-requires
-copy_points-o-requires c =
-    let small : let a = c.args in Small (without_draws (points_at (payload a.s.now) a.points.at a.points.count) a.budget) = points_small _ _ _ _ (search rules) c.requires.2 in
-    let own : let a = c.args in
-    Loads a.work.now c.load_own-l.new.work a.closed (points_at (payload a.s.now) a.points.at a.points.count) none a.budget c.load_own-l.result = c.load_own-l.ensures _ _ c.copy_points-d.ensures (small) in
-    (c.requires.1 (not-false _ c.if-not-outline.false), end_in own (not-false _ c.if-not-l.false))
-
-pub load_outline-requires : goal.load_outline-requires
-load_outline-requires c = outline_in c.copy_points-o.ensures
-
-pub returns : goal.returns
-returns c =
-    let small : let a = c.args in Small (without_draws (points_at (payload a.s.now) a.points.at a.points.count) a.budget) = points_small _ _ _ _ (search rules) c.requires.2 in
-    let outline-small : let a = c.args in Small (without_draws (points_at (payload a.s.now) a.outline.at a.outline.count) a.budget) = points_small _ _ _ _ (search rules) c.requires.2 in
-    let own : let a = c.args in
-    Loads a.work.now c.load_own-l.new.work a.closed (points_at (payload a.s.now) a.points.at a.points.count) none a.budget c.load_own-l.result = c.load_own-l.ensures _ _ c.copy_points-d.ensures (small) in
-    rw (not-false c.args.outline.some c.if-not-outline.false)
-    (c.load_outline.ensures _ _ _ _ _ _ own (not-false _ c.if-not-l.false) small.few c.copy_points-o.ensures outline-small)
-
-pub shape_of-work : goal.shape_of-work
-shape_of-work c = (returns c).kept
+pub returns-in-None : goal.returns-in-None
+returns-in-None c =
+    let a = c.args in
+    let small : Small (without_draws (points_at (payload a.s.now) a.points.at a.points.count) a.budget) = points_small _ _ _ _ (search rules) c.requires.2 in
+    rw c.in-None.is (c.in_ok-l.ensures _ _ (rw c.from.ensures at c.copy_points-d.ensures) small)

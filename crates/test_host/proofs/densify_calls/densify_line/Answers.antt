@@ -1,15 +1,15 @@
-use native.Mathlib.Omega.{arith}
-use borrow.Author.Tests.{not-true, not-false}
+use Rattle.std.proofs.Common.{sym, le_of_eq}
+use Rattle.std.proofs.lemmas.List.{length-map}
 use Rattle.projection.specs.Projection.{projection_of, project_point}
-use Rattle.densify.specs.Laws.Writing.{next_in}
-use Rattle.test_host.proofs.Showing.{line-short, line_shown}
+use Rattle.densify.specs.Laws.Writing.{still_short, mapped_written}
 use Rattle.test_host.proofs.densify_calls.densify_line.Goals as goal
-
-pub returns-then-not-d : goal.returns-then-not-d
-returns-then-not-d c = line-short (project_point (projection_of c.args.reg)) c.densify_polyline-d.ensures (not-true _ c.if-not-d.true) c.drawing_of.ensures
-
-pub project_points-requires : goal.project_points-requires
-project_points-requires c = (omega arith, next_in c.densify_polyline-d.ensures (not-false _ c.if-not-d.false))
+use Rattle.test_host.proofs.densify_calls.densify_line.Goals.{in-Some, in_default}
 
 pub returns : goal.returns
-returns c = line_shown c.args.reg c.projection_of.ensures c.densify_polyline-d.ensures (not-false _ c.if-not-d.false) c.project_points.ensures c.drawing_of-2.ensures
+returns c =
+    let made = c.densify_polyline-d.ensures in
+    rw c.into.ensures (elim c.match-d.branch [
+      | in-Some w ↦
+          rw (w.d-is, w.out-is) (mapped_written (project_point (projection_of c.args.reg)) (rw w.in-Some.is at made) (rw w.projection_of.ensures at w.project_points.ensures))
+      | in_default w ↦ rw (w.d-is, w.out-is, w.in_default.is) (still_short (rw w.in_default.is at made) _ (le_of_eq (sym (length-map _ _))))
+    ])

@@ -1,8 +1,0 @@
-use lib.Ieee.{of_bits}
-use Rattle.elementary.specs.Series.{exponential_table}
-use Rattle.elementary.proofs.exponential_series_both.Goals as goal
-
--- the table's rule, computed
-pub returns : goal.returns
-unfolding exponential_table of_bits
-returns c = c.series_both.ensures

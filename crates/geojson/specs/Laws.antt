@@ -1,2 +1,0 @@
--- The laws of these definitions that callers use.
-pub mod Words
