@@ -10,7 +10,6 @@ use Rattle.budget.specs.declared.Budget.{Budget}
 use Rattle.densify.specs.Densify.{path_points_of, ellipse_ring_of, box_ring_of}
 use Rattle.convert.specs.declared.shapes.Shape.{Shape}
 use Rattle.convert.specs.declared.shapes.Shape.TheVariants.{Box, Ellipse, Circle, Dot, Points, Paths, Missing, Nothing}
-use Rattle.geojson.specs.declared.Placement.TheVariants.{Map, Screen}
 use Rattle.strokes.specs.declared.state.Ctx.{Ctx}
 use Rattle.strokes.specs.declared.state.Props.{Props}
 use Rattle.strokes.specs.Strokes.{warned, Trace, no_events, one_event, and_then_trace, pick_trace, draws_trace, missing, point_of, polyline_or_polygon_of, ring_trace}
@@ -98,7 +97,7 @@ shape_of e it =
 
 -- its placement is by its class and the entry of its kind
 unfoldable pub props_of : ℕ → ℕ → DrawnItem → Props
-props_of e i it = record { item = i; placement = cond (on_screen it.screen e) Screen Map; part = 0; fill = it.fill }
+props_of e i it = record { item = i; placement = cond (on_screen it.screen e) 1 0; part = 0; fill = it.fill }
 
 abbrev pub at : Float → Float → Point
 at x y = record { x = x; y = y }

@@ -8,7 +8,7 @@ ghost use Rattle.scene.specs.Inner.Answers.{paths_by, items_at, item_by};
 ghost use Rattle.convert.specs.Convert.{points_trace, paths_of, paths_trace, with_part};
 ghost use Rattle.convert.specs.Convert.{item_of, items_of, convert_of};
 ghost use Rattle.convert.specs.Inner.Outlines.{outlines_from};
-ghost use Rattle.strokes.specs.Inner.Space.{output_by, Fits, Draws, DrawsQuietly};
+ghost use Rattle.strokes.specs.Inner.Space.{state_by, output_by, Fits, Draws, DrawsQuietly};
 ghost use Rattle.strokes.specs.Inner.Space.{CanDraw, box_trace, ellipse_trace};
 
 use crate::shapes::{Shape, props_of, shape_of};
@@ -105,15 +105,25 @@ fn draw_points(
         st.budget }
     ensures { Draws (points_trace cx p closed (points_from (payload s.now) next 0)
         (points_from (payload s.now) next 1) st.budget)
-        work.old positions.old features.old warnings.old st
+        work.old positions.old features.old warnings.old (Ok st)
         work.new positions.new features.new warnings.new result }
 {
-    let Some(points) = points_of(s, next, PointsRole::Drawn) else {
+    let Some(points) = points_of(s, next, PointsRole::Drawn as u8) else {
         return warn(warnings, st, WarningKind::MissingGeometry, p.item);
     };
-    let outline = points_of(s, next, PointsRole::Fill);
-    let l = load_points(s, closed, points, outline, st.budget, work)?;
-    polyline_or_polygon(cx, p, closed, l, work, positions, features, warnings, st)
+    let outline = points_of(s, next, PointsRole::Fill as u8);
+    let l = load_points(s, closed, points, outline, st.budget, work);
+    polyline_or_polygon(
+        cx,
+        p,
+        closed,
+        l,
+        work,
+        positions,
+        features,
+        warnings,
+        Ok(st),
+    )
 }
 
 // The next fill path from q on, none where none was left before.
@@ -121,7 +131,7 @@ fn next_outline(s: &[u8], q: Option<usize>) -> Option<Path>
     ensures q_value { outlines_from (payload s.now) q ≡ paths_by (payload s.now) 1 result }
     ensures path_within { IfSome result (λ o. IfSome q (λ p. PathWithin (room s.now) p o)) }
 {
-    q.and_then(|p| next_path(s, p, PointsRole::Fill))
+    q.and_then(|p| next_path(s, p, PointsRole::Fill as u8).ok())
 }
 
 // The part that a feature line tells of the i-th path: none where the item has one path alone.
@@ -150,7 +160,7 @@ fn draw_each(
         × Fits (output_by (length work.old) positions.old features.old warnings.old (Ok st)) st.budget }
     ensures { Draws (paths_of cx p many 0 (paths_from (payload s.now) next 0)
         (paths_from (payload s.now) next 1) st.budget)
-        work.old positions.old features.old warnings.old st
+        work.old positions.old features.old warnings.old (Ok st)
         work.new positions.new features.new warnings.new result }
 {
     let mut state = st;
@@ -158,9 +168,9 @@ fn draw_each(
     let mut o = Some(next);
     // The paths are followed by `next`, and counted for their parts.
     let mut i = 0usize;
-    while let Some(path) = next_path(s, q, PointsRole::Drawn) {
+    while let Ok(path) = next_path(s, q, PointsRole::Drawn as u8) {
         let outline = next_outline(s, o);
-        let l = load_path(s, path, outline, cx.flatten, state.budget, work)?;
+        let l = load_path(s, path, outline, cx.flatten, state.budget, work);
         let props = part_of(p, many, i);
         state = polyline_or_polygon(
             cx,
@@ -171,7 +181,7 @@ fn draw_each(
             positions,
             features,
             warnings,
-            state,
+            Ok(state),
         )?;
         q = path.next;
         o = outline.map(|r| r.next);
@@ -195,13 +205,13 @@ fn draw_paths(
         × Fits (output_by (length work.old) positions.old features.old warnings.old (Ok st)) st.budget }
     ensures { Draws (paths_trace cx p (paths_from (payload s.now) next 0)
         (paths_from (payload s.now) next 1) st.budget)
-        work.old positions.old features.old warnings.old st
+        work.old positions.old features.old warnings.old (Ok st)
         work.new positions.new features.new warnings.new result }
 {
-    let Some(first) = next_path(s, next, PointsRole::Drawn) else {
+    let Ok(first) = next_path(s, next, PointsRole::Drawn as u8) else {
         return warn(warnings, st, WarningKind::MissingGeometry, p.item);
     };
-    let many = next_path(s, first.next, PointsRole::Drawn).is_some();
+    let many = next_path(s, first.next, PointsRole::Drawn as u8).is_ok();
     draw_each(
         s, cx, p, many, next, work, positions, features, warnings, st,
     )
@@ -223,7 +233,7 @@ fn draw_item(
     requires { (room s.now < 4294967295)
         × Fits (output_by (length work.old) positions.old features.old warnings.old (Ok st)) st.budget }
     ensures { Draws (item_of entry cx i (item_by (payload s.now) it) st.budget)
-        work.old positions.old features.old warnings.old st
+        work.old positions.old features.old warnings.old (Ok st)
         work.new positions.new features.new warnings.new result }
 {
     let p = props_of(it, i, entry);
@@ -244,7 +254,7 @@ fn draw_item(
             st,
         ),
         Shape::Circle(x, y, r) => draw_ellipse(cx, p, x, y, r, r, work, positions, features, st),
-        Shape::Dot(x, y) => point_feature(cx, p, x, y, positions, features, st),
+        Shape::Dot(x, y) => point_feature(cx, p, x, y, positions, features, Ok(st)),
         Shape::Points => draw_points(
             s, cx, p, it.closed, it.next, work, positions, features, warnings, st,
         ),
@@ -270,14 +280,14 @@ fn draw_items(
         × LabelsFrom (payload s.now) from }
     ensures { Draws
         (items_of (entry_of kinds.now) cx 0 (items_at (payload s.now) 0) st.budget)
-        work.old positions.old features.old warnings.old st
+        work.old positions.old features.old warnings.old (Ok st)
         work.new positions.new features.new warnings.new result }
 {
     let mut state = st;
     let mut q = from;
     // The items are followed by `next`, and counted for their feature lines.
     let mut i = 0usize;
-    while let Some(it) = next_item(s, q) {
+    while let Ok(it) = next_item(s, q) {
         let entry = entry_of(kinds, it.kind.number());
         state = draw_item(
             s, entry, cx, it, i as u32, work, positions, features, warnings, state,
@@ -289,7 +299,7 @@ fn draw_items(
 }
 
 // Every item of the scene, all of which stand from a position on, by the kind table; then the warning that the
-// allowance was spent.
+// allowance was spent. A refusal is handed back.
 pub fn convert(
     s: &[u8],
     kinds: &[u8],
@@ -299,16 +309,18 @@ pub fn convert(
     positions: &mut [f64],
     features: &mut [u32],
     warnings: &mut [u32],
-    st: State,
+    st: Result<State, Refusal>,
 ) -> Result<State, Refusal>
     requires { (room s.now < 4294967295)
-        × Fits (output_by (length work.old) positions.old features.old warnings.old (Ok st)) st.budget
+        × Fits (output_by (length work.old) positions.old features.old warnings.old st)
+        (state_by st).budget
         × LabelsFrom (payload s.now) from }
     ensures { Draws
-        (convert_of (entry_of kinds.now) cx (items_at (payload s.now) 0) st.budget)
+        (convert_of (entry_of kinds.now) cx (items_at (payload s.now) 0) (state_by st).budget)
         work.old positions.old features.old warnings.old st
         work.new positions.new features.new warnings.new result }
 {
+    let st = st?;
     let r = draw_items(s, kinds, from, cx, work, positions, features, warnings, st)?;
     if !r.budget.hit {
         return Ok(r);

@@ -86,9 +86,9 @@ pub fn props_of(it: Item, i: u32, entry: u8) -> Props
     ensures { (l : List ℕ) → result ≡ props_of entry i (item_by l it) }
 {
     let placement = if is_on_screen(it.screen, entry) {
-        Placement::Screen
+        Placement::Screen as u32
     } else {
-        Placement::Map
+        Placement::Map as u32
     };
     Props {
         item: i,

@@ -1,3 +1,4 @@
+pub mod Exits
 pub mod Forms
 pub mod Outlines
 pub mod Splits

@@ -1,5 +1,6 @@
 // A cubic split until it is flat.
 ghost use Rattle.std.specs.Prelude.{◌≡◌, ◌-◌, ◌≤◌, length};
+ghost use Rattle.std.specs.Result.{result_ok};
 ghost use Rattle.densify.specs.Densify.{dist_of, flat_of, mid_of, first_half, second_half, split_of, flatten_cubic_of};
 ghost use Rattle.densify.specs.Inner.Written.{block_in, Written};
 ghost use Rattle.values.specs.Inner.Points.{point_in};
@@ -69,10 +70,10 @@ fn pieces(
     budget: Budget,
     work: &mut [f64],
     at: usize,
-) -> Option<PointCursor>
+) -> Result<PointCursor, PointCursor>
     requires { at ≤ length work.old }
     ensures { Written work.old work.new at
-        (split_of (16 - depth) tol (block_in b) budget) result }
+        (split_of (16 - depth) tol (block_in b) budget) (result_ok result) }
 {
     let flat = is_flat(b, tol);
     if depth >= DEPTH || flat || budget.left < 2 {
@@ -91,9 +92,9 @@ pub fn flatten_cubic(
     budget: Budget,
     work: &mut [f64],
     at: usize,
-) -> Option<PointCursor>
+) -> Result<PointCursor, PointCursor>
     requires { at ≤ length work.old }
-    ensures { Written work.old work.new at (flatten_cubic_of tol (block_in b) budget) result }
+    ensures { Written work.old work.new at (flatten_cubic_of tol (block_in b) budget) (result_ok result) }
 {
     pieces(b, max(tol, MIN_TOLERANCE), 0, budget, work, at)
 }

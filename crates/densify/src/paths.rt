@@ -1,5 +1,6 @@
 // The points of a path, in the order in which it is drawn.
 ghost use Rattle.std.specs.Prelude.{◌≡◌, ◌+◌, ◌*◌, ◌≤◌, length};
+ghost use Rattle.std.specs.Result.{result_ok};
 ghost use Rattle.stream.specs.Payload.{payload};
 ghost use Rattle.stream.specs.Inner.Payload.{room};
 ghost use Rattle.scene.specs.Scene.{point_at, points_at, cubics_at};
@@ -21,10 +22,10 @@ pub fn copy_points(
     budget: Budget,
     work: &mut [f64],
     at: usize,
-) -> Option<PointCursor>
+) -> Result<PointCursor, PointCursor>
     requires { (from + 16 * count ≤ room s.now) × (at ≤ length work.old) }
     ensures { Written work.old work.new at
-        (without_draws (points_at (payload s.now) from count) budget) result }
+        (without_draws (points_at (payload s.now) from count) budget) (result_ok result) }
 {
     put_points(
         count,
@@ -51,10 +52,10 @@ fn flatten_cubics(
     budget: Budget,
     work: &mut [f64],
     at: usize,
-) -> Option<PointCursor>
+) -> Result<PointCursor, PointCursor>
     requires { (from + 48 * count ≤ room s.now) × (at ≤ length work.old) }
     ensures { Written work.old work.new at
-        (cubics_of tol (point_in start) (cubics_at (payload s.now) from count) budget) result }
+        (cubics_of tol (point_in start) (cubics_at (payload s.now) from count) budget) (result_ok result) }
 {
     let mut p0 = start;
     let mut done = PointCursor { at, budget };
@@ -66,7 +67,7 @@ fn flatten_cubics(
         done = flatten_cubic(block, tol, done.budget, work, done.at)?;
         p0 = block[3];
     }
-    Some(done)
+    Ok(done)
 }
 
 fn form_points(
@@ -76,10 +77,10 @@ fn form_points(
     budget: Budget,
     work: &mut [f64],
     at: usize,
-) -> Option<PointCursor>
+) -> Result<PointCursor, PointCursor>
     requires { PathFits (room s.now) p × (at ≤ length work.old) }
     ensures { Written work.old work.new at
-        (form_points tol (form_by (payload s.now) p) budget) result }
+        (form_points tol (form_by (payload s.now) p) budget) (result_ok result) }
 {
     let count = p.count as usize;
     if !p.curve {
@@ -107,14 +108,14 @@ pub fn path_points(
     budget: Budget,
     work: &mut [f64],
     at: usize,
-) -> Option<PointCursor>
+) -> Result<PointCursor, PointCursor>
     requires { PathFits (room s.now) p × (at ≤ length work.old) }
     ensures { Written work.old work.new at
-        (path_points_of tol (drawn_by (payload s.now) p) budget) result }
+        (path_points_of tol (drawn_by (payload s.now) p) budget) (result_ok result) }
 {
     let d = form_points(s, p, tol, budget, work, at)?;
     if !p.closed {
-        return Some(d);
+        return Ok(d);
     }
     close_ring(d.budget, work, at, d.at)
 }

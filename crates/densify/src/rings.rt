@@ -1,5 +1,6 @@
 // Rings of ellipses and boxes.
 ghost use Rattle.std.specs.Prelude.{◌≡◌, suc, ◌<◌, ◌≤◌, length};
+ghost use Rattle.std.specs.Result.{result_ok};
 ghost use Rattle.densify.specs.Densify.{without_draws, round_to, ellipse_point, ellipse_ring_of, sharp_corners};
 ghost use Rattle.densify.specs.Densify.{corner_point, rounded_corners, quarter_of, box_ring_of};
 ghost use Rattle.densify.specs.Laws.Replay.{radius_of};
@@ -24,10 +25,10 @@ fn ellipse_points(
     budget: Budget,
     work: &mut [f64],
     at: usize,
-) -> Option<PointCursor>
+) -> Result<PointCursor, PointCursor>
     requires { (n < 4294967296) × (at ≤ length work.old) }
     ensures { Written work.old work.new at
-        (without_draws (round_to (ellipse_point (point_in c) rx ry n) n) budget) result }
+        (without_draws (round_to (ellipse_point (point_in c) rx ry n) n) budget) (result_ok result) }
 {
     put_points(
         n,
@@ -56,10 +57,10 @@ pub fn ellipse_ring(
     budget: Budget,
     work: &mut [f64],
     at: usize,
-) -> Option<PointCursor>
+) -> Result<PointCursor, PointCursor>
     requires { at ≤ length work.old }
     ensures { Written work.old work.new at
-        (ellipse_ring_of step scale tol (point_in c) rx ry budget) result }
+        (ellipse_ring_of step scale tol (point_in c) rx ry budget) (result_ok result) }
 {
     let t = budget.take(arc_vertices(step, scale, max(rx, ry), tol), 8);
     let d = ellipse_points(c, rx, ry, t.granted, t.budget, work, at)?;
@@ -74,10 +75,10 @@ fn sharp_corners(
     budget: Budget,
     work: &mut [f64],
     at: usize,
-) -> Option<PointCursor>
+) -> Result<PointCursor, PointCursor>
     requires { at ≤ length work.old }
     ensures { Written work.old work.new at
-        (without_draws (sharp_corners (point_in c) hw hh) budget) result }
+        (without_draws (sharp_corners (point_in c) hw hh) budget) (result_ok result) }
 {
     let west = c[0] - hw;
     let east = c[0] + hw;
@@ -99,10 +100,10 @@ fn corner(
     budget: Budget,
     work: &mut [f64],
     at: usize,
-) -> Option<PointCursor>
+) -> Result<PointCursor, PointCursor>
     requires { (per < 4294967295) × (at ≤ length work.old) }
     ensures { Written work.old work.new at
-        (without_draws (round_to (corner_point (point_in c) r start per) (suc per)) budget) result }
+        (without_draws (round_to (corner_point (point_in c) r start per) (suc per)) budget) (result_ok result) }
 {
     put_points(
         per + 1,
@@ -130,10 +131,10 @@ fn rounded_corners(
     budget: Budget,
     work: &mut [f64],
     at: usize,
-) -> Option<PointCursor>
+) -> Result<PointCursor, PointCursor>
     requires { (per < 4294967295) × (at ≤ length work.old) }
     ensures { Written work.old work.new at
-        (without_draws (rounded_corners (point_in c) hw hh r per) budget) result }
+        (without_draws (rounded_corners (point_in c) hw hh r per) budget) (result_ok result) }
 {
     let west = c[0] - hw + r;
     let east = c[0] + hw - r;
@@ -172,10 +173,10 @@ pub fn box_ring(
     budget: Budget,
     work: &mut [f64],
     at: usize,
-) -> Option<PointCursor>
+) -> Result<PointCursor, PointCursor>
     requires { at ≤ length work.old }
     ensures { Written work.old work.new at
-        (box_ring_of step scale tol (point_in c) w h rad budget) result }
+        (box_ring_of step scale tol (point_in c) w h rad budget) (result_ok result) }
 {
     let hw = w / 2.0;
     let hh = h / 2.0;

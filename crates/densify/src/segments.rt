@@ -1,5 +1,6 @@
 // A straight segment in parts, handed on point by point.
 ghost use Rattle.std.specs.Prelude.{◌≡◌, ◌+◌, ◌<◌, ◌≤◌, length};
+ghost use Rattle.std.specs.Result.{result_ok};
 ghost use Rattle.densify.specs.Densify.{without_draws, segment_want, along_of, samples_to, densify_polyline_of};
 ghost use Rattle.densify.specs.Inner.Written.{Written};
 ghost use Rattle.values.specs.Inner.Points.{point_in, points_in};
@@ -36,10 +37,10 @@ fn sample_segment(
     budget: Budget,
     out: &mut [f64],
     at: usize,
-) -> Option<PointCursor>
+) -> Result<PointCursor, PointCursor>
     requires { (n < 4294967295) × (at ≤ length out.old) }
     ensures { Written out.old out.new at
-        (without_draws (samples_to (λ k. along_of (point_in a) (point_in b) k n) n) budget) result }
+        (without_draws (samples_to (λ k. along_of (point_in a) (point_in b) k n) n) budget) (result_ok result) }
 {
     put_points(
         n,
@@ -64,13 +65,13 @@ pub fn densify_polyline(
     budget: Budget,
     out: &mut [f64],
     at: usize,
-) -> Option<PointCursor>
+) -> Result<PointCursor, PointCursor>
     requires { (from ≤ to) × (to ≤ length work.now) × (at ≤ length out.old) }
     ensures { Written out.old out.new at
-        (densify_polyline_of step scale (points_in work.now from to) budget) result }
+        (densify_polyline_of step scale (points_in work.now from to) budget) (result_ok result) }
 {
     if to - from < 2 {
-        return Some(PointCursor { at, budget });
+        return Ok(PointCursor { at, budget });
     }
     let mut a = [work[from], work[from + 1]];
     let mut done = put_point(a[0], a[1], budget, out, at)?;
@@ -81,7 +82,7 @@ pub fn densify_polyline(
         done = sample_segment(a, b, t.granted, t.budget, out, done.at)?;
         a = b;
     }
-    Some(done)
+    Ok(done)
 }
 
 // What such a polyline leaves of the budget where its positions are not written. A loop of its own: of a closure that

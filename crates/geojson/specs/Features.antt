@@ -1,7 +1,5 @@
 -- Feature lines in a lent slice, six numbers each.
 use Rattle.std.specs.Prelude.{ℕ, List, [], ◌∷◌}
-use Rattle.geojson.specs.declared.Placement.{Placement}
-use Rattle.geojson.specs.declared.Placement.TheVariants.{Map, Screen}
 
 -- geometry: 0 a point, 1 a line, 2 a polygon; role: 1 a separate fill, 0 any other; placement: 0 the map, 1 the screen; part: 0, or 1 and the path's index; count: its positions
 pub record Feature : Type 0 where
@@ -14,8 +12,3 @@ pub record Feature : Type 0 where
 
 abbrev pub words_of : Feature → List ℕ
 words_of f = f.item ∷ f.geometry ∷ f.role ∷ f.placement ∷ f.part ∷ f.count ∷ []
-
--- where a feature is placed
-abbrev pub placement_of : Placement → ℕ
-placement_of Map = 0
-placement_of Screen = 1

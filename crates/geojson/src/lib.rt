@@ -2,8 +2,7 @@
 #![tactic(auto)]
 
 ghost use Rattle.std.specs.Prelude.{◌≡◌, ◌+◌, ◌≤◌, length, leb};
-ghost use Rattle.geojson.specs.Inner.Features.{geometry_of, role_of, feature_by, FeatureWritten};
-ghost use Rattle.geojson.specs.Features.{placement_of};
+ghost use Rattle.geojson.specs.Inner.Features.{geometry_of, role_of, placement_of, feature_by, FeatureWritten};
 
 // What a feature's positions are.
 #[derive(Clone, Copy, Debug, PartialEq, Eq)]
@@ -61,9 +60,9 @@ pub const FEATURE_WORDS: usize = 6;
 #[derive(Clone, Copy)]
 pub struct Feature {
     pub item: u32,
-    pub geometry: Geometry,
-    pub role: Role,
-    pub placement: Placement,
+    pub geometry: u32,
+    pub role: u32,
+    pub placement: u32,
     pub part: u32,
     pub count: u32,
 }
@@ -77,14 +76,7 @@ pub fn write_feature(out: &mut [u32], at: usize, f: Feature) -> bool
     if out.len() - at < FEATURE_WORDS {
         return false;
     }
-    let words = [
-        f.item,
-        f.geometry.number(),
-        f.role.number(),
-        f.placement.number(),
-        f.part,
-        f.count,
-    ];
+    let words = [f.item, f.geometry, f.role, f.placement, f.part, f.count];
     out[at..at + FEATURE_WORDS].copy_from_slice(&words);
     true
 }

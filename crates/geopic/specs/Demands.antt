@@ -27,7 +27,6 @@ use Rattle.densify.specs.Draws.{draws_of, Granted, fell_short}
 use Rattle.densify.specs.Laws.Counts.{parts_within, arc_within}
 use Rattle.densify.specs.Laws.Sizes.{quarter_within}
 use Rattle.strokes.specs.declared.state.Ctx.{Ctx}
-use Rattle.geojson.specs.Features.{placement_of}
 use Rattle.strokes.specs.Strokes.{draws_in}
 use Rattle.strokes.specs.Features.{AllWellFormed, positions_in, features_in, warnings_in, features_at, warnings_at, any_of_kind}
 use Rattle.convert.specs.Convert.{shape_of, props_of, items_of}
@@ -205,7 +204,7 @@ pub change_vi_registration : (s kinds kinds' : List ℕ) (tier tier' : ℕ) (t t
 change_vi_registration s kinds kinds' tier tier' t t' h h' = rw (answer-is s kinds tier t h, answer-is s kinds' tier' t' h') (refl, refl)
 
 -- What is drawn has the shape of its kind by either other entry, and is on the screen if it is of a screen class or its kind's entry is 1, and only then.
-pub change_vi_placement : (it : DrawnItem) → (shape_of 0 it ≡ shape_of 1 it) × ((e i : ℕ) → placement_of (props_of e i it).placement ≡ cond (it.screen || eqb e 1) 1 0)
+pub change_vi_placement : (it : DrawnItem) → (shape_of 0 it ≡ shape_of 1 it) × ((e i : ℕ) → (props_of e i it).placement ≡ cond (it.screen || eqb e 1) 1 0)
 change_vi_placement it = (same_shape it, λ e i. placement_is e i it)
 
 -- The built-in table can be used, and says of each kind what the Rust's fixed rule does: block is not drawn, text and dot are on the screen, the rest is geographic.

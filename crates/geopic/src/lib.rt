@@ -104,7 +104,7 @@ fn write_output(
         positions,
         features,
         warnings,
-        st,
+        Ok(st),
     )
 }
 

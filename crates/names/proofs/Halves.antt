@@ -8,11 +8,13 @@ use native.Mathlib.Decide.{dec_lt}
 use native.Mathlib.Omega.{arith}
 use lib.ListN.{length, get_or, set, length-set}
 use lib.Seq.{get_or-set_same, get_or-set_other}
+use Rattle.std.specs.declared.cmp.Ordering.TheVariants.{Less, Equal, Greater}
 use Rattle.std.specs.List.{CopiedTo, SameBelow}
 use Rattle.records.specs.Layout.{before}
 use Rattle.records.specs.Records.{bytes_at}
 use Rattle.scene.specs.Laws.Rising.{before_trans}
-use Rattle.names.specs.Inner.Table.{name_at, name_of, key_of, NameFits, NewName, Table, Contains, Gap, Inserted}
+use Rattle.names.specs.Inner.Table.{name_at, name_of, key_of, order_of, NameFits, NewName, Table, Contains, Stands, Gap, Inserted}
+use Rattle.names.proofs.Orders.{told}
 
 -- ---- x belongs from lo to hi
 pub record Between (more : ℕ) (l t : List ℕ) (n : ℕ) (x : List ℕ) (lo hi : ℕ) : Type 0 where
@@ -50,6 +52,18 @@ module _ (more : ℕ) (l t : List ℕ) (n : ℕ) (x : List ℕ) where
               | no g ↦ let r : i ≡ mid = omega arith in rw r e
             ];
           }
+
+-- ---- a turn of the search: x is compared with what stands at mid, and is that or belongs to one side of it
+module _ {more : ℕ} {l t : List ℕ} {n : ℕ} {x : List ℕ} {mid : ℕ} where
+  pub turned_on : mid < n → Equal ≡ order_of (name_of more l (get_or t mid 0)) x → Stands more l t n x mid
+  turned_on h e = record { within = h; is = told _ _ e }
+
+  module _ {lo hi : ℕ} (b : Between more l t n x lo hi) (m : (lo ≤ mid) × (mid < hi)) (tab : Table more l t n) where
+    pub turned_up : Less ≡ order_of (name_of more l (get_or t mid 0)) x → Between more l t n x (mid + 1) hi
+    turned_up e = between_up more l t n x tab mid (omega (arith, m, b.within)) lo hi b m.1 (told _ _ e)
+
+    pub turned_down : Greater ≡ order_of (name_of more l (get_or t mid 0)) x → Between more l t n x lo mid
+    turned_down e = between_down more l t n x tab mid (omega (arith, m, b.within)) lo hi b m.0 (told _ _ e)
 
 -- ---- entries from `at` to n - 1 moved up by one
 pub record ShiftedUp (t t' : List ℕ) (at n : ℕ) : Type 0 where

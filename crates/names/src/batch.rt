@@ -11,7 +11,7 @@ ghost use Rattle.names.specs.Inner.Batch.{Batch, slots_of, slot_of, BestStored};
 ghost use Rattle.names.specs.Inner.Batch.{tag_by, label_at, considered, Matched, step_at, steps_from, LabelsMatched};
 
 use crate::table::{MARK, find_name};
-use records::{Wanted, find};
+use records::Wanted;
 use scene::{Best, Key, consider_item, consider_place};
 use stream::byte;
 use values::Point;
@@ -171,7 +171,7 @@ fn match_records(
     let mut q = p;
     let mut i = 0usize;
     loop {
-        match find(s, q, kind.wanted()) {
+        match kind.wanted().find(s, q) {
             Err(end) => {
                 return Walked { used, end };
             }

@@ -80,6 +80,7 @@ fn order(s: &[u8], p: usize, q: usize, n: usize, w: u64, more: u64) -> Ordering
 
 // The n bytes behind p among the first `count` entries, by halves; the entry `first` is looked at first. By hand:
 // `binary_search_by` does not take the entry to begin with, and goes on where it has found.
+#[tactic(auto, using(crate::proofs::Halves::turned_on))]
 fn find_near(
     s: &[u8],
     t: &[u32],

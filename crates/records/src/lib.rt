@@ -10,7 +10,7 @@ mod refusals;
 mod search;
 
 pub use names::common_prefix;
-pub use numbers::{Form, Kind, PointsRole, SheetOption};
+pub use numbers::{Form, Kind, PointsRole, SheetOption, Tag};
 pub use records::{Record, Step, values_width};
 pub use refusals::{check_stream, flatten, sheet_step};
 pub use search::{Hit, Wanted, find, option_at};

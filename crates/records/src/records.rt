@@ -132,6 +132,7 @@ fn name_then(part: &[u8], off: usize, more: usize) -> Option<u8>
 }
 
 // The count at p, if one stands there, and `each` bytes for each after it.
+#[inline(always)]
 fn count_at(part: &[u8], off: usize, p: usize, each: usize) -> Option<u16>
     requires { (off ≤ room part.now) × (p < 256) × (each < 256) }
     ensures { result ≡ then_some (counted (rest part.now off) p each) (u16_at (rest part.now off) p) }
@@ -349,6 +350,7 @@ fn read_points(part: &[u8], off: usize) -> Step
 }
 
 // A path of a form whose count stands at p, with `each` bytes for each after it.
+#[inline(always)]
 fn read_form(part: &[u8], off: usize, form: Form, p: usize, each: usize) -> Step
     requires { (off ≤ room part.now) × FormFits p each }
     ensures { result ≡ path_with (rest part.now off) (form_of form) p each }

@@ -39,7 +39,7 @@ fn bits_or(s: &[u8], option: SheetOption, absent: u64) -> u64
         ≡ float_or (records_at (payload s.now) 0 2 (sheet_option_of option))
         (float_of (of_bits binary64 absent)) }
 {
-    match option_at(s, option) {
+    match option_at(s, option.number()) {
         None => absent,
         Some(p) => u64_at(s, 0, p),
     }

@@ -5,7 +5,7 @@ ghost use Rattle.records.specs.Records.{record_of};
 ghost use Rattle.records.specs.Walk.{tag_of};
 ghost use Rattle.records.specs.Search.{key_of, ends_search, search_step_of};
 ghost use Rattle.records.specs.Inner.Hits.{records_at, RecordAt, hits_of, end_of, SkipsTo, OptionValue};
-ghost use Rattle.records.specs.Inner.Numbers.{tag_number, sheet_option_of};
+ghost use Rattle.records.specs.Inner.Numbers.{tag_number};
 ghost use Rattle.records.specs.Inner.Wanted.{wanted_tag, wanted_key};
 
 use crate::numbers::{PointsRole, SheetOption, Tag};
@@ -48,6 +48,18 @@ impl Wanted {
             Wanted::Points(role) | Wanted::Path(role) => role.number(),
             _ => 0,
         }
+    }
+
+    // The first such record from p on, by `find`.
+    pub fn find(self, s: &[u8], p: usize) -> Result<Hit, usize>
+        ensures key_value { records_at (payload s.now) p (wanted_tag self) (wanted_key self)
+            ≡ hits_of (payload s.now) (wanted_tag self) (wanted_key self) result }
+        ensures record_at { IfOk result
+            (λ h. RecordAt (payload s.now) (wanted_tag self) (wanted_key self) h.at h.next) }
+        ensures p_le_at { p ≤ end_of result }
+        ensures skips_to { SkipsTo (payload s.now) (wanted_tag self) p (end_of result) }
+    {
+        find(s, p, self.tag().number(), self.key())
     }
 }
 
@@ -116,13 +128,12 @@ fn ends_search(t: u8, x: u8) -> bool
     x < Tag::Points as u8
 }
 
-fn search_step(r: Record, wanted: Wanted) -> SearchStep
-    ensures { result ≡ search_step_of (wanted_tag wanted) (wanted_key wanted) r }
+fn search_step(r: Record, tag: u8, key: u8) -> SearchStep
+    ensures { result ≡ search_step_of tag key r }
 {
-    let tag = wanted.tag().number();
     let x = tag_of(r).number();
     if x == tag {
-        if key_of(r) == wanted.key() {
+        if key_of(r) == key {
             return SearchStep::Matches;
         }
     }
@@ -153,17 +164,15 @@ fn is_search_over(t: u8, x: u8) -> bool
     ends_search(t, x)
 }
 
-// The first such record from p on, as far as one can stand; where there is none, where the search ended. Up to where it
-// ends, no record has a greater tag.
-pub fn find(s: &[u8], p: usize, wanted: Wanted) -> Result<Hit, usize>
-    ensures key_value { records_at (payload s.now) p (wanted_tag wanted) (wanted_key wanted)
-        ≡ hits_of (payload s.now) (wanted_tag wanted) (wanted_key wanted) result }
-    ensures record_at { IfOk result
-        (λ h. RecordAt (payload s.now) (wanted_tag wanted) (wanted_key wanted) h.at h.next) }
+// The first record of a tag and key from p on, as far as one can stand; where there is none, where the search ended. Up
+// to where it ends, no record has a greater tag.
+pub fn find(s: &[u8], p: usize, tag: u8, key: u8) -> Result<Hit, usize>
+    ensures key_value { records_at (payload s.now) p tag key
+        ≡ hits_of (payload s.now) tag key result }
+    ensures record_at { IfOk result (λ h. RecordAt (payload s.now) tag key h.at h.next) }
     ensures p_le_at { p ≤ end_of result }
-    ensures skips_to { SkipsTo (payload s.now) (wanted_tag wanted) p (end_of result) }
+    ensures skips_to { SkipsTo (payload s.now) tag p (end_of result) }
 {
-    let tag = wanted.tag().number();
     let mut q = p;
     // Records follow one another by their sizes: no range has them.
     loop {
@@ -173,7 +182,7 @@ pub fn find(s: &[u8], p: usize, wanted: Wanted) -> Result<Hit, usize>
         let Step::Got(r, k) = record_at(s, q) else {
             return Err(q);
         };
-        match search_step(r, wanted) {
+        match search_step(r, tag, key) {
             SearchStep::Matches => {
                 return Ok(Hit { at: q, next: q + k });
             }
@@ -201,11 +210,11 @@ fn behind_rescale(s: &[u8]) -> usize
 }
 
 // Where an option's value stands in the payload, if there is such an option.
-pub fn option_at(s: &[u8], option: SheetOption) -> Option<usize>
-    ensures absent { IfNone result (records_at (payload s.now) 0 2 (sheet_option_of option) ≡ []) }
-    ensures present { IfSome result (λ p. OptionValue (payload s.now) (sheet_option_of option) p) }
+pub fn option_at(s: &[u8], option: u8) -> Option<usize>
+    ensures absent { IfNone result (records_at (payload s.now) 0 2 option ≡ []) }
+    ensures present { IfSome result (λ p. OptionValue (payload s.now) option p) }
 {
-    let Ok(h) = find(s, behind_rescale(s), Wanted::Option(option)) else {
+    let Ok(h) = find(s, behind_rescale(s), Tag::Option as u8, option) else {
         return None;
     };
     Some(h.at + 2)

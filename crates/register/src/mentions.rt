@@ -35,7 +35,7 @@ fn next_feature_name(s: &[u8], c: Cursor) -> Result<Mention, Cursor>
     requires { c.i ≤ c.q }
     ensures { (starts : List ℕ) → Asked s.now false c result starts }
 {
-    let Some(f) = next_feature(s, c.q) else {
+    let Ok(f) = next_feature(s, c.q) else {
         return Err(c);
     };
     Ok(Mention {

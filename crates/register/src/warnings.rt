@@ -63,7 +63,7 @@ fn warn_features(
             positions[controls] = (f.at - 1) as u32;
             controls += 1;
         } else {
-            used = push_warning(out, used, WarningKind::Unresolved, i as u32)?;
+            used = push_warning(out, Ok(used), WarningKind::Unresolved.number(), i as u32)?;
         }
         i += 1;
     }
@@ -126,7 +126,12 @@ fn warn_lons(
         if is_kept(kept, k, j) {
             k += 1;
         } else {
-            used = push_warning(out, used, kind_of(s, positions, m), m.index as u32)?;
+            used = push_warning(
+                out,
+                Ok(used),
+                kind_of(s, positions, m).number(),
+                m.index as u32,
+            )?;
         }
         j += 1;
     }
@@ -162,7 +167,7 @@ fn warn_if(due: bool, kind: WarningKind, out: &mut [u32], used: usize) -> Result
     ensures { Warned (only due (record { kind = kind_of kind; index = 0 })) out.old used out.new result }
 {
     if due {
-        push_warning(out, used, kind, 0)
+        push_warning(out, Ok(used), kind.number(), 0)
     } else {
         Ok(used)
     }

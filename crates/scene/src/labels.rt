@@ -12,7 +12,7 @@ ghost use Rattle.scene.specs.Inner.Answers.{points_from, paths_from, places_at, 
 use crate::fields::{point_at, point_from};
 use crate::names::{label_at_equals, name_at_equals};
 use crate::readers::{Item, next_item, next_path, next_place, points_of};
-use records::{PointsRole, Wanted, find};
+use records::{PointsRole, Wanted};
 use values::Point;
 
 // Where in the source a label is defined: a greater key comes later. Of two equal keys the first stays.
@@ -59,7 +59,9 @@ fn mean(s: &[u8], at: usize, count: u16) -> Point
 fn first_start(s: &[u8], p: usize) -> Option<Point>
     ensures { result ≡ first_start (paths_from (payload s.now) p 0) }
 {
-    let c = next_path(s, p, PointsRole::Drawn)?;
+    let Ok(c) = next_path(s, p, PointsRole::Drawn as u8) else {
+        return None;
+    };
     if !c.curve && c.count == 0 {
         return None;
     }
@@ -72,7 +74,7 @@ fn mean_or_start(s: &[u8], p: usize) -> Option<Point>
     ensures { result ≡ mean_or_start (points_from (payload s.now) p 0)
         (paths_from (payload s.now) p 0) }
 {
-    match points_of(s, p, PointsRole::Drawn) {
+    match points_of(s, p, PointsRole::Drawn as u8) {
         Some(ps) if ps.count > 0 => Some(mean(s, ps.at, ps.count)),
         _ => first_start(s, p),
     }
@@ -104,7 +106,7 @@ fn consider_point(b: Option<Best>, key: Key, at: Point) -> Option<Best>
 pub fn consider_place(s: &[u8], b: Option<Best>, q: usize, i: usize) -> Option<Best>
     ensures { best_by result ≡ consider_place (best_by b) i (places_at (payload s.now) q) }
 {
-    let Some(c) = next_place(s, q) else {
+    let Ok(c) = next_place(s, q) else {
         return b;
     };
     let key = Key {
@@ -128,7 +130,7 @@ fn best_place(s: &[u8], p: usize, at: usize, n: usize) -> BestPlace
     // Counted by hand, and not by a range: how many places there are is known only behind the last.
     let mut i = 0usize;
     loop {
-        match find(s, q, Wanted::Place) {
+        match Wanted::Place.find(s, q) {
             Ok(h) => {
                 if name_at_equals(s, h.at + 1, at, n) {
                     b = consider_place(s, b, h.at, i);
@@ -149,7 +151,7 @@ fn best_place(s: &[u8], p: usize, at: usize, n: usize) -> BestPlace
 pub fn consider_item(s: &[u8], b: Option<Best>, q: usize, i: usize) -> Option<Best>
     ensures { best_by result ≡ consider_item (best_by b) i (items_at (payload s.now) q) }
 {
-    let Some(it) = next_item(s, q) else {
+    let Ok(it) = next_item(s, q) else {
         return b;
     };
     let Some(at) = reference_point(s, it) else {
@@ -175,7 +177,7 @@ fn best_item(s: &[u8], p: usize, at: usize, n: usize, best: Option<Best>) -> Opt
     let mut q = p;
     // Counted by hand, as the places.
     let mut i = 0usize;
-    while let Ok(h) = find(s, q, Wanted::Item) {
+    while let Ok(h) = Wanted::Item.find(s, q) {
         if label_at_equals(s, h.at + 3, at, n) {
             b = consider_item(s, b, h.at, i);
         }

@@ -19,7 +19,7 @@ fn float_option(s: &[u8], option: SheetOption) -> Option<f64>
     ensures { result ≡ first (λ b. float_value_at b 2)
         (records_at (payload s.now) 0 2 (sheet_option_of option)) }
 {
-    let p = option_at(s, option)?;
+    let p = option_at(s, option.number())?;
     Some(float_at(s, p))
 }
 
@@ -58,7 +58,7 @@ pub fn step(s: &[u8]) -> f64
 pub fn frame(s: &[u8]) -> Option<Frame>
     ensures { frame_by result ≡ (scene_of (payload s.now)).frame }
 {
-    let p = option_at(s, SheetOption::Frame)?;
+    let p = option_at(s, SheetOption::Frame as u8)?;
     if byte(s, 0, p) == 0 {
         return Some(Frame::Enu);
     }
@@ -68,7 +68,7 @@ pub fn frame(s: &[u8]) -> Option<Frame>
 pub fn anchor(s: &[u8]) -> Option<Point>
     ensures { result ≡ (scene_of (payload s.now)).anchor }
 {
-    let p = option_at(s, SheetOption::Anchor)?;
+    let p = option_at(s, SheetOption::Anchor as u8)?;
     Some(point_from(s, p))
 }
 

@@ -3,11 +3,10 @@
 
 ghost use Rattle.std.specs.Prelude.{◌≡◌, [], ◌+◌, ◌*◌, ◌≤◌, drop};
 ghost use Rattle.std.specs.Option.{IfSome};
-ghost use Rattle.std.specs.Result.{IfOk, IfErr};
+ghost use Rattle.std.specs.Result.{IfOk, IfErr, result_ok};
 ghost use Rattle.stream.specs.Payload.{payload};
 ghost use Rattle.stream.specs.Inner.Payload.{room};
 ghost use Rattle.records.specs.Inner.Hits.{records_at, SkipsTo};
-ghost use Rattle.records.specs.Inner.Numbers.{role_of};
 ghost use Rattle.records.specs.Inner.Wanted.{wanted_tag};
 ghost use Rattle.scene.specs.Scene.{item_at};
 ghost use Rattle.scene.specs.Inner.Answers.{Within, LengthPrefixed, PathWithin, features_at, features_by};
@@ -16,7 +15,7 @@ ghost use Rattle.scene.specs.Inner.Answers.{ItemRecordAt, items_at, item_by, ite
 ghost use Rattle.scene.specs.Inner.Answers.{paths_from, paths_by, next_of, NameAt, behind_name};
 
 use crate::fields::{float_at, float_if, has_bit, point_from, point_if};
-use records::{Form, Kind, PointsRole, Wanted, find, values_width};
+use records::{Form, Kind, Tag, Wanted, find, values_width};
 use stream::{byte, u16_at, u32_at};
 use values::Point;
 
@@ -51,7 +50,8 @@ struct RecordName {
     next: usize,
 }
 
-// In each answer `next` is where to ask for the one after it. A name stands at `at` and takes `len` bytes.
+// In each answer `next` is where to ask for the one after it. A name stands at `at` and takes `len` bytes. Without an
+// answer, `Err` has where the search ended: records of greater tags, up to items, stand from there on.
 #[derive(Clone, Copy)]
 pub struct Feature {
     pub at: usize,
@@ -137,7 +137,7 @@ fn next_named(s: &[u8], p: usize, wanted: Wanted) -> Result<RecordName, usize>
         (behind_name (wanted_tag wanted)) f) }
     ensures skips_to { SkipsTo (payload s.now) (wanted_tag wanted) p (next_of (λ f. f.next) result) }
 {
-    let h = find(s, p, wanted)?;
+    let h = wanted.find(s, p)?;
     Ok(RecordName {
         at: h.at + 2,
         len: usize::from(byte(s, 0, h.at + 1)),
@@ -162,16 +162,15 @@ pub fn next_name(s: &[u8], p: usize) -> Result<FeatureName, usize>
 }
 
 // The first host feature from p on.
-pub fn next_feature(s: &[u8], p: usize) -> Option<Feature>
-    ensures p_value { features_at (payload s.now) p ≡ features_by (payload s.now) result }
-    ensures within { IfSome result (λ f. Within (room s.now) p f.at f.len f.next) }
-    ensures length_prefixed { IfSome result (λ f. LengthPrefixed (payload s.now) f.at f.len) }
+pub fn next_feature(s: &[u8], p: usize) -> Result<Feature, usize>
+    ensures p_value { features_at (payload s.now) p ≡ features_by (payload s.now) (result_ok result) }
+    ensures within { IfOk result (λ f. Within (room s.now) p f.at f.len f.next) }
+    ensures length_prefixed { IfOk result (λ f. LengthPrefixed (payload s.now) f.at f.len) }
+    ensures skips_to { SkipsTo (payload s.now) 3 p (next_of (λ f. f.next) result) }
 {
-    let Ok(f) = next_name(s, p) else {
-        return None;
-    };
+    let f = next_name(s, p)?;
     let end = f.at + f.len;
-    Some(Feature {
+    Ok(Feature {
         at: f.at,
         len: f.len,
         lon: float_at(s, end),
@@ -180,8 +179,7 @@ pub fn next_feature(s: &[u8], p: usize) -> Option<Feature>
     })
 }
 
-// The first variable from p on. Where there is none, records of greater tags stand from the position that is answered
-// on.
+// The first variable from p on.
 pub fn next_variable(s: &[u8], p: usize) -> Result<Variable, usize>
     ensures p_value { variables_at (payload s.now) p ≡ variables_by (payload s.now) result }
     ensures within { IfOk result (λ v. Within (room s.now) p v.at v.len v.next) }
@@ -198,16 +196,15 @@ pub fn next_variable(s: &[u8], p: usize) -> Result<Variable, usize>
 }
 
 // The first place from p on.
-pub fn next_place(s: &[u8], p: usize) -> Option<Place>
-    ensures p_value { places_at (payload s.now) p ≡ places_by (payload s.now) result }
-    ensures within { IfSome result (λ c. Within (room s.now) p c.at c.len c.next) }
+pub fn next_place(s: &[u8], p: usize) -> Result<Place, usize>
+    ensures p_value { places_at (payload s.now) p ≡ places_by (payload s.now) (result_ok result) }
+    ensures within { IfOk result (λ c. Within (room s.now) p c.at c.len c.next) }
+    ensures skips_to { SkipsTo (payload s.now) 5 p (next_of (λ c. c.next) result) }
 {
-    let Ok(f) = next_named(s, p, Wanted::Place) else {
-        return None;
-    };
+    let f = next_named(s, p, Wanted::Place)?;
     let end = f.at + f.len;
     let Point { x, y } = point_from(s, end);
-    Some(Place {
+    Ok(Place {
         at: f.at,
         len: f.len,
         x,
@@ -249,25 +246,24 @@ fn item_at(s: &[u8], q: usize, n: usize, m: u8, next: usize) -> Item
 }
 
 // The first item from p on.
-pub fn next_item(s: &[u8], p: usize) -> Option<Item>
-    ensures p_value { items_at (payload s.now) p ≡ items_by (payload s.now) result }
-    ensures within { IfSome result (λ it. Within (room s.now) p it.label it.len it.next) }
+pub fn next_item(s: &[u8], p: usize) -> Result<Item, usize>
+    ensures p_value { items_at (payload s.now) p ≡ items_by (payload s.now) (result_ok result) }
+    ensures within { IfOk result (λ it. Within (room s.now) p it.label it.len it.next) }
+    ensures p_le_end { IfErr result (λ end. p ≤ end) }
 {
-    let Ok(h) = find(s, p, Wanted::Item) else {
-        return None;
-    };
+    let h = Wanted::Item.find(s, p)?;
     let at = h.at;
     let n = usize::from(byte(s, 0, at + 3));
     let m = byte(s, 0, at + 12 + n);
-    Some(item_at(s, at, n, m, h.next))
+    Ok(item_at(s, at, n, m, h.next))
 }
 
 // The points of a role among what follows an item, from p on.
-pub fn points_of(s: &[u8], p: usize, role: PointsRole) -> Option<Points>
-    ensures role_value { points_from (payload s.now) p (role_of role) ≡ points_by (payload s.now) result }
+pub fn points_of(s: &[u8], p: usize, role: u8) -> Option<Points>
+    ensures role_value { points_from (payload s.now) p role ≡ points_by (payload s.now) result }
     ensures count_bound { IfSome result (λ c. c.at + 16 * c.count ≤ room s.now) }
 {
-    let Ok(h) = find(s, p, Wanted::Points(role)) else {
+    let Ok(h) = find(s, p, Tag::Points as u8, role) else {
         return None;
     };
     Some(Points {
@@ -277,18 +273,16 @@ pub fn points_of(s: &[u8], p: usize, role: PointsRole) -> Option<Points>
 }
 
 // The first path of a role among what follows an item, from p on.
-pub fn next_path(s: &[u8], p: usize, role: PointsRole) -> Option<Path>
-    ensures role_value { paths_from (payload s.now) p (role_of role)
-        ≡ paths_by (payload s.now) (role_of role) result }
-    ensures path_within { IfSome result (λ c. PathWithin (room s.now) p c) }
+pub fn next_path(s: &[u8], p: usize, role: u8) -> Result<Path, usize>
+    ensures role_value { paths_from (payload s.now) p role ≡ paths_by (payload s.now) role (result_ok result) }
+    ensures path_within { IfOk result (λ c. PathWithin (room s.now) p c) }
+    ensures p_le_end { IfErr result (λ end. p ≤ end) }
 {
-    let Ok(h) = find(s, p, Wanted::Path(role)) else {
-        return None;
-    };
+    let h = find(s, p, Tag::Path as u8, role)?;
     let at = h.at;
     let closed = byte(s, 0, at + 2) == 1;
     if byte(s, 0, at + 3) == Form::Cubics as u8 {
-        return Some(Path {
+        return Ok(Path {
             closed,
             curve: true,
             start: at + 4,
@@ -297,7 +291,7 @@ pub fn next_path(s: &[u8], p: usize, role: PointsRole) -> Option<Path>
             next: h.next,
         });
     }
-    Some(Path {
+    Ok(Path {
         closed,
         curve: false,
         start: at + 6,

@@ -19,12 +19,12 @@ pub fn u16_le(s: &[u8], p: usize) -> u16
     u16::from_le_bytes([s[p], s[p + 1]])
 }
 
-#[tactic(auto, unfolding(crate::specs::Numbers::u32_at, crate::specs::Numbers::u16_at))]
+#[tactic(auto, unfolding(crate::specs::Numbers::u32_at))]
 pub fn u32_le(s: &[u8], p: usize) -> u32
     requires { p + 4 ≤ length s.now }
     ensures { result ≡ u32_at s.now p }
 {
-    u32::from_le_bytes([s[p], s[p + 1], s[p + 2], s[p + 3]])
+    u32::from(u16_le(s, p)) + 65536 * u32::from(u16_le(s, p + 2))
 }
 
 #[tactic(auto, unfolding(crate::specs::Numbers::u64_at, crate::specs::Numbers::u32_at, crate::specs::Numbers::u16_at))]

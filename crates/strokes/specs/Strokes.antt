@@ -5,7 +5,7 @@ use Rattle.values.specs.Warnings.{Warning}
 use Rattle.budget.specs.declared.Budget.{Budget}
 use Rattle.densify.specs.Densify.{GrantedDraw, Made, close_ring_of, densify_polyline_of}
 use Rattle.projection.specs.Projection.{project_point}
-use Rattle.geojson.specs.Features.{Feature, placement_of}
+use Rattle.geojson.specs.Features.{Feature}
 use Rattle.strokes.specs.declared.state.Ctx.{Ctx}
 use Rattle.strokes.specs.declared.state.Props.{Props}
 
@@ -58,7 +58,7 @@ positions_of geometry ps = cond (eqb geometry 2) (first_repeated ps) ps
 
 unfoldable pub feature_of : Props → ℕ → ℕ → List Point → Event
 feature_of p geometry role ps =
-    feature (record { item = p.item; geometry = geometry; role = role; placement = placement_of p.placement; part = p.part; count = length ps }) ps
+    feature (record { item = p.item; geometry = geometry; role = role; placement = p.placement; part = p.part; count = length ps }) ps
 
 -- the canvas points, densified and carried to the Earth: a line (1) or a ring (2)
 unfoldable pub stroke_of : Ctx → Props → ℕ → ℕ → List Point → Budget → Trace

@@ -1,6 +1,7 @@
 // Lines, paths and rings: the source's polyline_or_polygon.
-ghost use Rattle.std.specs.Prelude.{◌≡◌, ◌≤◌, length, take, Ok};
-ghost use Rattle.strokes.specs.Inner.Space.{output_by, most, Fits, KeepsFit, Bounds};
+ghost use Rattle.std.specs.Prelude.{◌≡◌, ◌≤◌, length, take, IfOk};
+ghost use Rattle.std.specs.Result.{result_ok};
+ghost use Rattle.strokes.specs.Inner.Space.{state_by, output_by, most, Fits, KeepsFit, Bounds};
 ghost use Rattle.strokes.specs.Inner.Space.{CanFill, CanDrawRing, Fills, DrawsLoaded, DrawsRing};
 
 use crate::positions::{draw_without_writing, stroke};
@@ -50,7 +51,7 @@ fn fill(
         );
     }
     // One point more has room behind what was loaded.
-    let ring = close_ring(st.budget, work, 0, l.points).unwrap();
+    let ring = close_ring(st.budget, work, 0, l.points).ok().unwrap();
     if ring.at < 8 {
         return Ok(st);
     }
@@ -68,24 +69,26 @@ fn fill(
     )
 }
 
-// An open or closed stroke: a polygon, or a line with its fill before it.
+// An open or closed stroke: a polygon, or a line with its fill before it. A refusal is handed back.
 pub fn polyline_or_polygon(
     cx: Ctx,
     p: Props,
     closed: bool,
-    l: Workspace,
+    l: Result<Workspace, Refusal>,
     work: &mut [f64],
     positions: &mut [f64],
     features: &mut [u32],
     warnings: &mut [u32],
-    st: State,
+    st: Result<State, Refusal>,
 ) -> Result<State, Refusal>
-    requires { Bounds l (length work.old) × (l.budget.left ≤ most)
-        × Fits (output_by (length work.old) positions.old features.old warnings.old (Ok st)) st.budget }
+    requires { IfOk l (λ k. Bounds k (length work.old) × (k.budget.left ≤ most))
+        × Fits (output_by (length work.old) positions.old features.old warnings.old st) (state_by st).budget }
     ensures { DrawsLoaded cx p closed l
         work.old positions.old features.old warnings.old st
         work.new positions.new features.new warnings.new result }
 {
+    let st = st?;
+    let l = l?;
     let drawn = State {
         budget: l.budget,
         ..st
@@ -129,18 +132,20 @@ pub fn polyline_or_polygon(
 pub fn draw_ring(
     cx: Ctx,
     p: Props,
-    d: Option<PointCursor>,
+    d: Result<PointCursor, PointCursor>,
     work: &[f64],
     positions: &mut [f64],
     features: &mut [u32],
     st: State,
 ) -> Result<State, Refusal>
-    requires { CanDrawRing d (length work.now) positions.old features.old st }
-    ensures { DrawsRing cx p d
+    requires { CanDrawRing (result_ok d) (length work.now) positions.old features.old st }
+    ensures { DrawsRing cx p (result_ok d)
         work.now positions.old features.old st
         positions.new features.new result }
 {
-    let ring = d.ok_or(Refusal::WorkRoom)?;
+    let Ok(ring) = d else {
+        return Err(Refusal::WorkRoom);
+    };
     if work.len() - ring.at < 2 {
         return Err(Refusal::WorkRoom);
     }

@@ -1,10 +1,10 @@
 // Features: their positions, then their line.
-ghost use Rattle.std.specs.Prelude.{◌≡◌, ◌+◌, ◌≤◌, length};
+ghost use Rattle.std.specs.Prelude.{◌≡◌, ◌+◌, ◌≤◌, length, Ok};
 ghost use Rattle.values.specs.Inner.Points.{point_with, points_in};
 ghost use Rattle.geojson.specs.Inner.Features.{geometry_of, role_of};
 ghost use Rattle.strokes.specs.Strokes.{stroke_of, draw_without_writing, point_of};
 ghost use Rattle.strokes.specs.Inner.Space.{behind_at, project_and_close, Rewrites, first_repeated_in, Finished};
-ghost use Rattle.strokes.specs.Inner.Space.{Strokes, Warns, CanStroke};
+ghost use Rattle.strokes.specs.Inner.Space.{state_by, Strokes, Warns, CanStroke};
 
 use crate::state::{Ctx, Props, State, warn};
 use budget::Budget;
@@ -61,8 +61,8 @@ fn finish(
 {
     let line = Feature {
         item: p.item,
-        geometry,
-        role,
+        geometry: geometry.number(),
+        role: role.number(),
         placement: p.placement,
         part: p.part,
         count,
@@ -96,10 +96,10 @@ pub fn stroke(
     requires { CanStroke (length work.now) from to positions.old features.old st }
     ensures { Strokes (stroke_of cx p (geometry_of geometry) (role_of role)
         (points_in work.now from to) st.budget)
-        positions.old features.old st positions.new features.new result }
+        positions.old features.old (Ok st) positions.new features.new result }
 {
     let at = st.positions;
-    let d = densify_polyline(
+    let Ok(d) = densify_polyline(
         cx.step,
         cx.projection.registration.scale,
         work,
@@ -108,8 +108,9 @@ pub fn stroke(
         st.budget,
         &mut positions[at..],
         0,
-    )
-    .ok_or(Refusal::PositionRoom)?;
+    ) else {
+        return Err(Refusal::PositionRoom);
+    };
     let closed = project_and_close(cx.projection, geometry, positions, at, d);
     finish(
         p,
@@ -123,7 +124,7 @@ pub fn stroke(
     )
 }
 
-// A point.
+// A point. A refusal is handed back.
 pub fn point_feature(
     cx: Ctx,
     p: Props,
@@ -131,16 +132,18 @@ pub fn point_feature(
     y: f64,
     positions: &mut [f64],
     features: &mut [u32],
-    st: State,
+    st: Result<State, Refusal>,
 ) -> Result<State, Refusal>
-    requires { (st.positions ≤ length positions.old) × (st.features ≤ length features.old) }
-    ensures { Strokes (point_of cx p (point_with x y) st.budget)
+    requires { ((state_by st).positions ≤ length positions.old)
+        × ((state_by st).features ≤ length features.old) }
+    ensures { Strokes (point_of cx p (point_with x y) (state_by st).budget)
         positions.old features.old st positions.new features.new result }
 {
+    let st = st?;
     let g = geo(cx.projection, x, y);
-    let d = put_point(g.lon, g.lat, st.budget, positions, st.positions).ok_or(
-        Refusal::PositionRoom,
-    )?;
+    let Ok(d) = put_point(g.lon, g.lat, st.budget, positions, st.positions) else {
+        return Err(Refusal::PositionRoom);
+    };
     finish(
         p,
         Geometry::Point,

@@ -5,7 +5,6 @@ ghost use Rattle.strokes.specs.Strokes.{one_event, warned};
 ghost use Rattle.strokes.specs.Inner.Space.{Warns};
 
 use budget::Budget;
-use geojson::Placement;
 use projection::Projection;
 use values::{Refusal, WarningKind, push_warning};
 
@@ -21,7 +20,7 @@ pub struct Ctx {
 #[derive(Clone, Copy)]
 pub struct Props {
     pub item: u32,
-    pub placement: Placement,
+    pub placement: u32,
     pub part: u32,
     pub fill: bool,
 }
@@ -46,7 +45,7 @@ pub fn warn(
     ensures { Warns (one_event (warned (record { kind = kind_of kind; index = index })) st.budget)
         warnings.old st warnings.new result }
 {
-    let used = push_warning(warnings, st.warnings, kind, index)?;
+    let used = push_warning(warnings, Ok(st.warnings), kind.number(), index)?;
     Ok(State {
         warnings: used,
         ..st

@@ -1,6 +1,7 @@
 // The points of a line or a path and of its fill outline, laid out in the work slice.
 ghost use Rattle.std.specs.Prelude.{◌+◌, ◌*◌, ◌≤◌, length};
 ghost use Rattle.std.specs.Option.{ForSome};
+ghost use Rattle.std.specs.Result.{ForOk, result_ok};
 ghost use Rattle.stream.specs.Payload.{payload};
 ghost use Rattle.stream.specs.Inner.Payload.{room};
 ghost use Rattle.scene.specs.Scene.{points_at};
@@ -24,47 +25,59 @@ pub struct Workspace {
 }
 
 // Points that end at own.at, closed where they are marked so.
-fn close_if(closed: bool, own: PointCursor, work: &mut [f64]) -> Option<PointCursor>
+fn close_if(closed: bool, own: PointCursor, work: &mut [f64]) -> Result<PointCursor, PointCursor>
     requires { own.at ≤ length work.old }
     ensures { Written work.old work.new own.at
-        (closer closed work.old own.at own.budget) result }
+        (closer closed work.old own.at own.budget) (result_ok result) }
 {
     if closed {
         close_ring(own.budget, work, 0, own.at)
     } else {
-        Some(own)
+        Ok(own)
     }
 }
 
 // Points that end at d.at, where they had room, closed where they are marked so.
-fn load_own(closed: bool, d: Option<PointCursor>, work: &mut [f64]) -> Result<Workspace, Refusal>
-    requires { ForSome d (λ e. e.at ≤ length work.old) }
-    ensures { LoadsOwn closed d work.old work.new result }
+fn load_own(
+    closed: bool,
+    d: Result<PointCursor, PointCursor>,
+    work: &mut [f64],
+) -> Result<Workspace, Refusal>
+    requires { ForOk d (λ e. e.at ≤ length work.old) }
+    ensures { LoadsOwn closed (result_ok d) work.old work.new result }
 {
-    let d = d.ok_or(Refusal::WorkRoom)?;
-    let ring = close_if(closed, d, work).ok_or(Refusal::WorkRoom)?;
+    let Ok(own) = d else {
+        return Err(Refusal::WorkRoom);
+    };
+    let Ok(ring) = close_if(closed, own, work) else {
+        return Err(Refusal::WorkRoom);
+    };
     if work.len() - ring.at < 2 {
         return Err(Refusal::WorkRoom);
     }
     Ok(Workspace {
-        points: d.at,
+        points: own.at,
         ring: ring.at,
         outline: None,
-        budget: d.budget,
+        budget: own.budget,
     })
 }
 
 // An outline that stands from l.ring to d.at, where it had room, closed.
 fn load_outline(
     l: Workspace,
-    d: Option<PointCursor>,
+    d: Result<PointCursor, PointCursor>,
     work: &mut [f64],
 ) -> Result<Workspace, Refusal>
-    requires { ForSome d (λ e. (l.ring ≤ e.at) × (e.at ≤ length work.old)) }
-    ensures { LoadsOutline l d work.old work.new result }
+    requires { ForOk d (λ e. (l.ring ≤ e.at) × (e.at ≤ length work.old)) }
+    ensures { LoadsOutline l (result_ok d) work.old work.new result }
 {
-    let outline = d.ok_or(Refusal::WorkRoom)?;
-    let ring = close_ring(outline.budget, work, l.ring, outline.at).ok_or(Refusal::WorkRoom)?;
+    let Ok(outline) = d else {
+        return Err(Refusal::WorkRoom);
+    };
+    let Ok(ring) = close_ring(outline.budget, work, l.ring, outline.at) else {
+        return Err(Refusal::WorkRoom);
+    };
     if work.len() - ring.at < 2 {
         return Err(Refusal::WorkRoom);
     }

@@ -1,7 +1,8 @@
 // What the module's parts answer, as C lays it out: `some` says whether there is an answer. Where it is false the other
-// fields are zeros, but for `next` of a variable. A struct each, and no generic one of `some` and a value: in C the
-// fields stand side by side, and a struct behind `some` would lie otherwise.
+// fields are zeros, but for `next`, which is where the search ended. A struct each, and no generic one of `some` and a
+// value: in C the fields stand side by side, and a struct behind `some` would lie otherwise.
 ghost use Rattle.std.specs.Prelude.{◌≡◌, List, ℕ};
+ghost use Rattle.std.specs.Result.{result_ok};
 ghost use Rattle.scene.specs.Inner.Answers.{features_by, frame_by, items_by, paths_by, places_by, points_by, variables_by};
 ghost use Rattle.test_host.specs.Inner.Answers.{float_in, point_in, frame_in, features_in, variables_in, places_in};
 ghost use Rattle.test_host.specs.Inner.Answers.{items_in, points_in, paths_in};
@@ -93,12 +94,12 @@ pub struct Feature {
     pub next: usize,
 }
 
-impl From<Option<scene::Feature>> for Feature {
-    ghost from_gives = { λ o r. (l : List ℕ) → features_in l r ≡ features_by l o };
+impl From<Result<scene::Feature, usize>> for Feature {
+    ghost from_gives = { λ o r. (l : List ℕ) → features_in l r ≡ features_by l (result_ok o) };
 
-    fn from(o: Option<scene::Feature>) -> Feature {
+    fn from(o: Result<scene::Feature, usize>) -> Feature {
         match o {
-            Some(f) => Feature {
+            Ok(f) => Feature {
                 some: true,
                 at: f.at,
                 len: f.len,
@@ -106,13 +107,13 @@ impl From<Option<scene::Feature>> for Feature {
                 lat: f.lat,
                 next: f.next,
             },
-            None => Feature {
+            Err(end) => Feature {
                 some: false,
                 at: 0,
                 len: 0,
                 lon: 0.0,
                 lat: 0.0,
-                next: 0,
+                next: end,
             },
         }
     }
@@ -165,12 +166,12 @@ pub struct Place {
     pub next: usize,
 }
 
-impl From<Option<scene::Place>> for Place {
-    ghost from_gives = { λ o r. (l : List ℕ) → places_in l r ≡ places_by l o };
+impl From<Result<scene::Place, usize>> for Place {
+    ghost from_gives = { λ o r. (l : List ℕ) → places_in l r ≡ places_by l (result_ok o) };
 
-    fn from(o: Option<scene::Place>) -> Place {
+    fn from(o: Result<scene::Place, usize>) -> Place {
         match o {
-            Some(p) => Place {
+            Ok(p) => Place {
                 some: true,
                 at: p.at,
                 len: p.len,
@@ -181,7 +182,7 @@ impl From<Option<scene::Place>> for Place {
                 col: p.col,
                 next: p.next,
             },
-            None => Place {
+            Err(end) => Place {
                 some: false,
                 at: 0,
                 len: 0,
@@ -190,7 +191,7 @@ impl From<Option<scene::Place>> for Place {
                 nested: false,
                 line: 0,
                 col: 0,
-                next: 0,
+                next: end,
             },
         }
     }
@@ -219,12 +220,12 @@ pub struct Item {
 }
 
 #[tactic(auto, unfolding(scene::specs::Inner::Answers::item_by))]
-impl From<Option<scene::Item>> for Item {
-    ghost from_gives = { λ o r. (l : List ℕ) → items_in l r ≡ items_by l o };
+impl From<Result<scene::Item, usize>> for Item {
+    ghost from_gives = { λ o r. (l : List ℕ) → items_in l r ≡ items_by l (result_ok o) };
 
-    fn from(o: Option<scene::Item>) -> Item {
+    fn from(o: Result<scene::Item, usize>) -> Item {
         match o {
-            Some(it) => Item {
+            Ok(it) => Item {
                 some: true,
                 kind: it.kind.number(),
                 hidden: it.hidden,
@@ -243,7 +244,7 @@ impl From<Option<scene::Item>> for Item {
                 rad: it.rad.into(),
                 next: it.next,
             },
-            None => Item {
+            Err(end) => Item {
                 some: false,
                 kind: 0,
                 hidden: false,
@@ -260,7 +261,7 @@ impl From<Option<scene::Item>> for Item {
                 h: None.into(),
                 r: None.into(),
                 rad: None.into(),
-                next: 0,
+                next: end,
             },
         }
     }
@@ -305,12 +306,12 @@ pub struct Path {
     pub next: usize,
 }
 
-impl From<Option<scene::Path>> for Path {
-    ghost from_gives = { λ o r. (l : List ℕ) (role : ℕ) → paths_in l role r ≡ paths_by l role o };
+impl From<Result<scene::Path, usize>> for Path {
+    ghost from_gives = { λ o r. (l : List ℕ) (role : ℕ) → paths_in l role r ≡ paths_by l role (result_ok o) };
 
-    fn from(o: Option<scene::Path>) -> Path {
+    fn from(o: Result<scene::Path, usize>) -> Path {
         match o {
-            Some(p) => Path {
+            Ok(p) => Path {
                 some: true,
                 closed: p.closed,
                 curve: p.curve,
@@ -319,14 +320,14 @@ impl From<Option<scene::Path>> for Path {
                 count: p.count,
                 next: p.next,
             },
-            None => Path {
+            Err(end) => Path {
                 some: false,
                 closed: false,
                 curve: false,
                 start: 0,
                 at: 0,
                 count: 0,
-                next: 0,
+                next: end,
             },
         }
     }

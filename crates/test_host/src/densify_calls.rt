@@ -8,7 +8,7 @@ ghost use Rattle.densify.specs.Densify.{arc_vertices_of, segment_want, path_poin
 ghost use Rattle.densify.specs.Inner.Written.{drawn_by, on_points};
 ghost use Rattle.values.specs.Inner.Points.{points_in};
 ghost use Rattle.test_host.specs.Inner.Answers.{path_of};
-ghost use Rattle.test_host.specs.Inner.Drawings.{done_by, Shown, path_fits, undrawn};
+ghost use Rattle.test_host.specs.Inner.Drawings.{drawing_by, Shown, path_fits, undrawn};
 
 use crate::answers::Path;
 use budget::Budget;
@@ -36,22 +36,22 @@ pub struct Grant {
     pub hit: bool,
 }
 
-impl From<Option<PointCursor>> for Drawing {
-    ghost from_gives = { λ o r. done_by r ≡ o };
+impl From<Result<PointCursor, PointCursor>> for Drawing {
+    ghost from_gives = { λ o r. r ≡ drawing_by o };
 
-    fn from(o: Option<PointCursor>) -> Drawing {
+    fn from(o: Result<PointCursor, PointCursor>) -> Drawing {
         match o {
-            Some(d) => Drawing {
+            Ok(d) => Drawing {
                 ok: true,
                 at: d.at,
                 left: d.budget.left,
                 hit: d.budget.hit,
             },
-            None => Drawing {
+            Err(d) => Drawing {
                 ok: false,
-                at: 0,
-                left: 0,
-                hit: false,
+                at: d.at,
+                left: d.budget.left,
+                hit: d.budget.hit,
             },
         }
     }
@@ -172,7 +172,7 @@ pub extern "C" fn densify_line(
 {
     let b = Budget { left, hit: false };
     let d = densify_polyline(step, reg.scale, work, 0, work.len(), b, out, 0);
-    if let Some(cursor) = d {
+    if let Ok(cursor) = d {
         project_points(projection_of(reg), out, 0, cursor.at);
     }
     d.into()

@@ -11,7 +11,6 @@ ghost use Rattle.test_host.specs.Inner.Guarded.{spot_in, label_in};
 use crate::answers::{
     Feature, FrameOption, Item, OptionalFloat, OptionalPoint, Path, Place, Points, Variable,
 };
-use records::PointsRole;
 
 #[unsafe(no_mangle)]
 pub extern "C" fn scene_refusal(s: &[u8]) -> u32
@@ -111,20 +110,14 @@ pub extern "C" fn scene_item(s: &[u8], p: usize) -> Item
 pub extern "C" fn scene_points(s: &[u8], p: usize, role: u8) -> Points
     ensures { points_from (payload s.now) p role ≡ points_in (payload s.now) result }
 {
-    match PointsRole::try_from(role) {
-        Ok(r) => scene::points_of(s, p, r).into(),
-        Err(_) => None.into(),
-    }
+    scene::points_of(s, p, role).into()
 }
 
 #[unsafe(no_mangle)]
 pub extern "C" fn scene_path(s: &[u8], p: usize, role: u8) -> Path
     ensures { paths_from (payload s.now) p role ≡ paths_in (payload s.now) role result }
 {
-    match PointsRole::try_from(role) {
-        Ok(r) => scene::next_path(s, p, r).into(),
-        Err(_) => None.into(),
-    }
+    scene::next_path(s, p, role).into()
 }
 
 // The i-th point of those from `at` on, if the payload goes that far.

@@ -1,5 +1,5 @@
 // Warnings in a lent slice, two numbers each.
-ghost use Rattle.std.specs.Prelude.{◌≡◌, true, ◌≤◌, length};
+ghost use Rattle.std.specs.Prelude.{◌≡◌, ◌≤◌, length};
 ghost use Rattle.values.specs.Inner.Refusals.{kind_of};
 ghost use Rattle.values.specs.Inner.Warnings.{cursor_by, pushed};
 ghost use Rattle.values.specs.declared.refusal.Refusal.TheVariants.{WarningRoom};
@@ -46,22 +46,23 @@ impl From<NoRoom> for Refusal {
     }
 }
 
-// One more warning, where it has room. How many numbers are used then.
+// One more warning, where it has room and all before it had. How many numbers are used then.
 pub fn push_warning(
     out: &mut [u32],
-    used: usize,
-    kind: WarningKind,
+    used: Result<usize, NoRoom>,
+    kind: u32,
     index: u32,
 ) -> Result<usize, NoRoom>
-    requires { used ≤ length out.old }
+    requires { (cursor_by used).used ≤ length out.old }
     ensures { record { out = out.new; cursor = cursor_by result }
-        ≡ pushed (record { kind = kind_of kind; index = index })
-        (record { out = out.old; cursor = record { ok = true; used = used } }) }
+        ≡ pushed (record { kind = kind; index = index })
+        (record { out = out.old; cursor = cursor_by used }) }
 {
+    let used = used?;
     if out.len() - used < 2 {
         return Err(NoRoom { used });
     }
-    out[used] = kind.number();
+    out[used] = kind;
     out[used + 1] = index;
     Ok(used + 2)
 }

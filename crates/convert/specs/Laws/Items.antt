@@ -1,16 +1,16 @@
 -- Laws of what an item draws: its ring, its points or its paths. Assumes nothing.
-use Rattle.std.specs.Prelude.{ℕ, suc, ◌≤◌, ◌≡◌, refl, Bool, List, [], ◌∷◌, length, ltb, Float, Option, None, Some, is_some, Result, Ok}
+use Rattle.std.specs.Prelude.{ℕ, suc, ◌≤◌, ◌≡◌, refl, Bool, true, false, cond, List, [], ◌∷◌, length, ltb, Float, Option, None, Some, is_some, Result, Ok}
 use Rattle.std.proofs.Common.{arith, zero-add, lt-ltb}
 use Rattle.budget.specs.declared.Budget.{Budget}
 use Rattle.std.specs.Option.{ForSome}
 use Rattle.values.specs.declared.refusal.Refusal.{Refusal}
-use Rattle.scene.specs.Scene.{DrawnPath, DrawnItem}
+use Rattle.scene.specs.Scene.{polyline, DrawnPath, DrawnItem}
 use Rattle.scene.specs.declared.readers.Path.{Path}
 use Rattle.scene.specs.Inner.Answers.{paths_from, paths_by}
 use Rattle.values.specs.declared.Point.{Point}
 use Rattle.densify.specs.declared.append.PointCursor.{PointCursor}
 use Rattle.densify.specs.Densify.{Made, ellipse_ring_of, box_ring_of}
-use Rattle.densify.specs.Inner.Written.{Written}
+use Rattle.densify.specs.Inner.Written.{Written, drawn_by}
 use Rattle.values.specs.Points.{flats}
 use Rattle.densify.specs.Laws.Writing.{next_in, written_points}
 use Rattle.values.specs.Laws.Points.{flats-length}
@@ -98,9 +98,13 @@ module _ (cx : Ctx) (p : Props) (closed : Bool) {ps : Option (List Point)} (outl
 
 -- ---- paths
 -- there is a second path where an answer says so
-pub many_is : (l : List ℕ) (q : ℕ) (r : Option Path) → paths_from l q 0 ≡ paths_by l 0 r → ltb 0 (length (paths_from l q 0)) ≡ is_some r
-many_is l q (Some p) e = rw e (lt-ltb 0 (suc (length (paths_from l p.next 0))) (omega arith))
-many_is l q None e = rw e refl
+pub many_is : {qs : List DrawnPath} (q : DrawnPath) (rest : List DrawnPath) (more : Bool) → qs ≡ cond more (q ∷ rest) [] → ltb 0 (length qs) ≡ more
+many_is q rest true e = rw e (lt-ltb 0 (suc (length rest)) (omega arith))
+many_is q rest false e = rw e refl
+
+pub many_by : (l : List ℕ) (q : ℕ) (r : Option Path) → paths_from l q 0 ≡ paths_by l 0 r → ltb 0 (length (paths_from l q 0)) ≡ is_some r
+many_by l q (Some p) e = many_is (drawn_by l p) (paths_from l p.next 0) true e
+many_by l q None e = many_is (record { closed = false; form = polyline [] }) [] false e
 
 module _ (cx : Ctx) (p : Props) {qs : List DrawnPath} (outlines : List DrawnPath) (b : Budget) {c : Budget} {t u : Output} where
   pub paths_missing : qs ≡ [] → Applied (missing p.item b) t u c → Applied (paths_trace cx p qs outlines b) t u c

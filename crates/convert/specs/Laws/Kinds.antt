@@ -1,11 +1,9 @@
 -- What the entry of a kind decides: whether an item is drawn, and where it belongs; not its shape.
-use Rattle.std.specs.Prelude.{ℕ, suc, ◌≡◌, refl, Bool, true, false, cond, ◌||◌, List, ◌∷◌, eqb}
+use Rattle.std.specs.Prelude.{ℕ, suc, ◌≡◌, refl, true, cond, ◌||◌, List, ◌∷◌, eqb}
 use Rattle.std.proofs.Math.Bool.{or-true}
 use Rattle.kind_table.specs.KindTable.{not_drawn, on_screen}
 use Rattle.scene.specs.Scene.{DrawnItem}
 use Rattle.budget.specs.declared.Budget.{Budget}
-use Rattle.geojson.specs.declared.Placement.TheVariants.{Map, Screen}
-use Rattle.geojson.specs.Features.{placement_of}
 use Rattle.strokes.specs.declared.state.Ctx.{Ctx}
 use Rattle.convert.specs.Convert.{shape_of, props_of, drawn_of, item_of, items_of}
 
@@ -27,10 +25,6 @@ pub same_shape : (it : DrawnItem) → shape_of 0 it ≡ shape_of 1 it
 unfolding shape_of not_drawn
 same_shape it = refl
 
-pub placement_is : (e i : ℕ) (it : DrawnItem) → placement_of (props_of e i it).placement ≡ cond (it.screen || eqb e 1) 1 0
+pub placement_is : (e i : ℕ) (it : DrawnItem) → (props_of e i it).placement ≡ cond (it.screen || eqb e 1) 1 0
 unfolding props_of on_screen
-placement_is e i it = go (it.screen || eqb e 1)
-  where
-    go : (b : Bool) → placement_of (cond b Screen Map) ≡ cond b 1 0
-    go true = refl
-    go false = refl
+placement_is e i it = refl

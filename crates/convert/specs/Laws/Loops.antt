@@ -1,5 +1,5 @@
 -- The loops over a scene's paths and items: what is done, one turn, and how they end. Assumes nothing.
-use Rattle.std.specs.Prelude.{ℕ, ◌+◌, ◌≤◌, ◌<◌, ◌≡◌, Bool, true, false, not, cond, List, length, Float, Option, None, Some, option_map, Result, Ok, Err}
+use Rattle.std.specs.Prelude.{ℕ, ◌+◌, ◌≤◌, ◌<◌, ◌≡◌, Bool, true, false, not, cond, List, length, Float, Option, None, Some, option_map, Result, Ok, Err, IfOk}
 use Rattle.std.proofs.Math.Numerals.{add-one}
 use Rattle.std.proofs.Common.{arith, subst, ◌∙◌}
 use Rattle.std.proofs.Math.Path.{refl}
@@ -24,27 +24,23 @@ use Rattle.strokes.specs.Space.{Output}
 use Rattle.convert.specs.Inner.Outlines.{outlines_from}
 use Rattle.strokes.specs.Inner.Space.{state_by, output_by, most, Fits, Applied, Bounds, Loads, LoadsPath, outline_by}
 use Rattle.strokes.specs.Laws.Applying.{applied_no_events, applied_then, applied_stop, applied_drawn, Onward, onward_next}
-use Rattle.strokes.specs.Laws.Loading.{loaded_bounds}
-use Rattle.strokes.specs.Laws.Polygons.{shape_lacks}
+use Rattle.strokes.specs.Laws.Loading.{loads_ready}
 
 -- ---- one path
 pub path_fits_lem : {n q : ℕ} {r : Path} → PathWithin n q r → PathFits n r
 path_fits_lem h = record { start = h.start; cubics = h.cubics; points = h.points }
 
 module _ (w w' : List Float) (tol : Float) (path : DrawnPath) (b : Budget) where
-  path_bounds : {l : Workspace} (outline : Option DrawnPath) → LoadsPath w w' tol path outline b (Ok l) → Bounds l (length w') × (l.budget.left ≤ most)
-  path_bounds None h = (loaded_bounds h, h.left)
-  path_bounds (Some o) h = (loaded_bounds h, h.left)
-
   path-kept : (r : Result Workspace Refusal) (outline : Option DrawnPath) → LoadsPath w w' tol path outline b r → length w' ≡ length w
   path-kept r None h = h.kept
   path-kept r (Some o) h = h.kept
 
   -- what drawing it asks for
-  pub path-ready : {l : Workspace} (outline : Option DrawnPath) → LoadsPath w w' tol path outline b (Ok l) → {positions : List Float} {features warnings : List ℕ} {st : State}
+  pub path-ready : (r : Result Workspace Refusal) (outline : Option DrawnPath) → LoadsPath w w' tol path outline b r → {positions : List Float} {features warnings : List ℕ} {st : State}
       → Fits (output_by (length w) positions features warnings (Ok st)) st.budget
-      → Bounds l (length w') × (l.budget.left ≤ most) × Fits (output_by (length w') positions features warnings (Ok st)) st.budget
-  path-ready {l} outline h fits = let bounds = path_bounds outline h in (bounds.0, bounds.1, rw (path-kept (Ok l) outline h) fits)
+      → IfOk r (λ l. Bounds l (length w') × (l.budget.left ≤ most)) × Fits (output_by (length w') positions features warnings (Ok st)) st.budget
+  path-ready r None h fits = (loads_ready r h, rw h.kept fits)
+  path-ready r (Some o) h fits = (loads_ready r h, rw h.kept fits)
 
 -- laid out or without room for it, then drawn
 path-drawn : (cx : Ctx) (p : Props) (path : DrawnPath) (outline : Option DrawnPath) (b : Budget) (w w' : List Float) (r : Result Workspace Refusal) {t u : Output} {c : Budget}
@@ -62,22 +58,12 @@ path-drawn cx p path (Some o) b w w' r h draw =
     (applied_drawn n (λ r. polyline_or_polygon_of cx p path.closed m.points (Some n.points) r) (draw w m.points (Some n.points) n.after h))
 
 module _ (cx : Ctx) (path : DrawnPath) (outline : Option DrawnPath) (w w' : List Float) {positions : List Float} {features warnings : List ℕ} (st : State) where
-  pub path_applied : {p props : Props} (l : Workspace) {u : Output} {c : Budget} → LoadsPath w w' cx.flatten path outline st.budget (Ok l) → props ≡ p
-      → ((v : List Float) (ps : List Point) (o : Option (List Point)) (d : Budget) → Loads v w' path.closed ps o d (Ok l)
+  pub path_applied : {p props : Props} (r : Result Workspace Refusal) {u : Output} {c : Budget} → LoadsPath w w' cx.flatten path outline st.budget r → props ≡ p
+      → ((v : List Float) (ps : List Point) (o : Option (List Point)) (d : Budget) → Loads v w' path.closed ps o d r
       → Applied (polyline_or_polygon_of cx props path.closed ps o d) (output_by (length w') positions features warnings (Ok st)) u c)
       → Applied (path_of cx p path outline st.budget) (output_by (length w) positions features warnings (Ok st)) u c
-  path_applied l h e draw =
-      rw (← e, ← path-kept w w' cx.flatten path st.budget (Ok l) outline h) (path-drawn cx _ path outline st.budget w w' (Ok l) h draw)
-
-  -- no room
-  pub path_lacks : (p : Props) (e : Refusal) → LoadsPath w w' cx.flatten path outline st.budget (Err e) → Fits (output_by (length w) positions features warnings (Ok st)) st.budget
-      → Applied (path_of cx p path outline st.budget) (output_by (length w) positions features warnings (Ok st))
-      (output_by (length w') positions features warnings (Err e)) (state_by (Err e)).budget
-  path_lacks p e h fits =
-      rw (← path-kept w w' cx.flatten path st.budget (Err e) outline h)
-      (path-drawn cx p path outline st.budget w w' (Err e) h
-      (λ v ps o d lays. shape_lacks cx p lays {t = output_by (length w') positions features warnings (Ok st)} refl refl {a = st.budget}
-      (rw (path-kept w w' cx.flatten path st.budget (Err e) outline h) fits)))
+  path_applied r h e draw =
+      rw (← e, ← path-kept w w' cx.flatten path st.budget r outline h) (path-drawn cx _ path outline st.budget w w' r h draw)
 
 -- ---- a loop: i are done, which lie before q; what plays the rest from sheet t on plays the whole from t₀ on
 pub record Loop (whole : Trace) (t₀ t : Output) (rest : Trace) (b : Budget) (q i : ℕ) : Type 0 where

@@ -1,6 +1,5 @@
-use Rattle.fit.specs.Fit.{fit_of}
+use Rattle.fit.specs.Laws.Projected.{projected_fit}
 use Rattle.fit.proofs.fit_points.Goals as goal
 
 pub returns : goal.returns
-unfolding fit_of
-returns c = rw (← c.project_controls.ensures.front) c.fit_projected.ensures
+returns c = projected_fit _ _ _ c.project_controls.ensures.front c.fit_projected.ensures

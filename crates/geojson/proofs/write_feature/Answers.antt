@@ -8,6 +8,6 @@ unfolding put
 returns-clause-feature_written c =
     let a = c.args in
     record {
-      fits = λ t. rw (c.copy_from_slice.ensures.after, c.number.ensures, c.number-2.ensures, c.number-3.ensures, Post-is a.at (a.at + 6) a.out.now (omega arith)) refl;
+      fits = λ t. rw (c.copy_from_slice.ensures.after, Post-is a.at (a.at + 6) a.out.now (omega arith)) refl;
       short = λ t. absurd (omega (arith, leb-false (a.at + 6) (length a.out.now) t));
     }

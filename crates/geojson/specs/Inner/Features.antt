@@ -4,8 +4,10 @@ use Rattle.geojson.specs.declared.Geometry.{Geometry}
 use Rattle.geojson.specs.declared.Geometry.TheVariants.{Point, Line, Polygon}
 use Rattle.geojson.specs.declared.Role.{Role}
 use Rattle.geojson.specs.declared.Role.TheVariants.{Drawn, Fill}
+use Rattle.geojson.specs.declared.Placement.{Placement}
+use Rattle.geojson.specs.declared.Placement.TheVariants.{Map, Screen}
 use Rattle.geojson.specs.declared.Feature as code
-use Rattle.geojson.specs.Features.{Feature, words_of, placement_of}
+use Rattle.geojson.specs.Features.{Feature, words_of}
 use Rattle.values.specs.Slices.{put}
 
 abbrev pub geometry_of : Geometry → ℕ
@@ -17,13 +19,17 @@ abbrev pub role_of : Role → ℕ
 role_of Drawn = 0
 role_of Fill = 1
 
+abbrev pub placement_of : Placement → ℕ
+placement_of Map = 0
+placement_of Screen = 1
+
 abbrev pub feature_by : code.Feature → Feature
 feature_by f =
     record {
       item = f.item;
-      geometry = geometry_of f.geometry;
-      role = role_of f.role;
-      placement = placement_of f.placement;
+      geometry = f.geometry;
+      role = f.role;
+      placement = f.placement;
       part = f.part;
       count = f.count;
     }

@@ -16,7 +16,7 @@ use Rattle.densify.specs.Densify.{Made, without_draws, close_ring_of, path_point
 use Rattle.densify.specs.Inner.Written.{closing_in, Written, on_points, drawn_by}
 use Rattle.values.specs.Inner.Points.{points_in}
 use Rattle.values.specs.Points.{flats}
-use Rattle.geojson.specs.Features.{Feature, words_of, placement_of}
+use Rattle.geojson.specs.Features.{Feature, words_of}
 use Rattle.values.specs.Slices.{put}
 use Rattle.strokes.specs.declared.workspace.Workspace.{Workspace}
 use Rattle.strokes.specs.declared.state.Ctx.{Ctx}
@@ -68,23 +68,24 @@ pub record Applied (trace : Trace) (t u : Output) (b : Budget) : Type 0 where
   pub warnings : length u.warnings ≡ length t.warnings
   pub fits : Fits u b
 
--- the same from slices and a state to slices and an answer
-abbrev pub Draws : Trace → List Float → List Float → List ℕ → List ℕ → State
+-- the same from slices and an answer to slices and an answer
+abbrev pub Draws : Trace → List Float → List Float → List ℕ → List ℕ → Result State Refusal
     → List Float → List Float → List ℕ → List ℕ → Result State Refusal → Type 0
 Draws t w p f v st w' p' f' v' r =
-    Applied t (output_by (length w) p f v (Ok st)) (output_by (length w') p' f' v' r) (state_by r).budget
+    Applied t (output_by (length w) p f v st) (output_by (length w') p' f' v' r) (state_by r).budget
 
 -- the same where no warning is written, whatever the slice of warnings is
 abbrev pub DrawsQuietly : Trace → List Float → List Float → List ℕ → State
     → List Float → List Float → List ℕ → Result State Refusal → Type 0
 DrawsQuietly t w p f st w' p' f' r =
-    (v : List ℕ) → Fits (output_by (length w) p f v (Ok st)) st.budget → Draws t w p f v st w' p' f' v r
+    (v : List ℕ) → Fits (output_by (length w) p f v (Ok st)) st.budget → Draws t w p f v (Ok st) w' p' f' v r
 
 -- and whatever the work slice is: positions and feature lines alone
-abbrev pub Strokes : Trace → List Float → List ℕ → State → List Float → List ℕ → Result State Refusal → Type 0
+abbrev pub Strokes : Trace → List Float → List ℕ → Result State Refusal
+    → List Float → List ℕ → Result State Refusal → Type 0
 Strokes t p f st p' f' r =
-    (w : ℕ) (v : List ℕ) → Fits (output_by w p f v (Ok st)) st.budget
-    → Applied t (output_by w p f v (Ok st)) (output_by w p' f' v r) (state_by r).budget
+    (w : ℕ) (v : List ℕ) → Fits (output_by w p f v st) (state_by st).budget
+    → Applied t (output_by w p f v st) (output_by w p' f' v r) (state_by r).budget
 
 -- warnings alone, whatever the other slices are
 abbrev pub Warns : Trace → List ℕ → State → List ℕ → Result State Refusal → Type 0
@@ -123,7 +124,7 @@ line_by p geometry role count =
       item = p.item;
       geometry = geometry;
       role = role;
-      placement = placement_of p.placement;
+      placement = p.placement;
       part = p.part;
       count = count;
     }
@@ -258,10 +259,11 @@ Fills cx p l w q f st w' q' f' r =
     (closed : Bool) (ps : List Point) (o : Option (List Point)) → Loaded w closed ps o l
     → DrawsQuietly (fill_of cx p (closed_outline o) (close_ring_of ps) st.budget) w q f st w' q' f' r
 
-abbrev pub DrawsLoaded : Ctx → Props → Bool → Workspace → List Float → List Float → List ℕ → List ℕ → State
+abbrev pub DrawsLoaded : Ctx → Props → Bool → Result Workspace Refusal
+    → List Float → List Float → List ℕ → List ℕ → Result State Refusal
     → List Float → List Float → List ℕ → List ℕ → Result State Refusal → Type 0
 DrawsLoaded cx p closed l w q f v st w' q' f' v' r =
-    (w₀ : List Float) (ps : List Point) (o : Option (List Point)) (b : Budget) → Loads w₀ w closed ps o b (Ok l)
+    (w₀ : List Float) (ps : List Point) (o : Option (List Point)) (b : Budget) → Loads w₀ w closed ps o b l
     → Draws (polyline_or_polygon_of cx p closed ps o b) w q f v st w' q' f' v' r
 
 -- whatever ring was loaded is drawn

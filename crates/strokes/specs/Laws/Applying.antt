@@ -139,6 +139,11 @@ applied_err e is h =
     }
 
 -- and nothing is applied behind it
+pub applied_refused : (a : Trace) (e : Refusal) {w : ℕ} {p : List Float} {f v : List ℕ}
+    → Applied a (output_by w p f v (Err e)) (output_by w p f v (Err e)) (state_by (Err e)).budget
+applied_refused a e =
+    applied_stuck a _ _ (refused_some e) (record { positions = omega arith; features = omega arith; warnings = omega arith; left = omega arith })
+
 pub applied_stop : {a : Trace} {t : Output} {w : ℕ} {p : List Float} {f v : List ℕ} (e : Refusal) (g : Budget → Trace)
     → Applied a t (output_by w p f v (Err e)) (state_by (Err e)).budget
     → Applied (and_then_trace a g) t (output_by w p f v (Err e)) (state_by (Err e)).budget

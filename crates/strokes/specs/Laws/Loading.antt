@@ -1,7 +1,7 @@
 -- Laws of points laid out in the work slice. Assumes nothing.
 use Prim.Native.Nat.{ℕ, zero, suc, ◌+◌, ◌-◌, ◌*◌, ◌/◌, ◌≤◌, ◌<◌}
 use Rattle.std.proofs.Common.{arith, sym, ap, ◌∙◌, get_or-take}
-use Rattle.std.specs.Prelude.{◌≡◌, Bool, true, false, cond, List, [], take, get_or, Float, Option, None, Some, unwrap_or, Ok, Err}
+use Rattle.std.specs.Prelude.{◌≡◌, Bool, true, false, cond, List, [], take, get_or, Float, Option, None, Some, unwrap_or, Result, Ok, Err, IfOk}
 use Rattle.std.proofs.Math.Path.{refl}
 use Rattle.std.proofs.Math.ListN.{length}
 use Rattle.std.specs.Float.{nan}
@@ -81,6 +81,12 @@ loaded_bounds {w = w} {w' = w'} {closed = closed} {ps = ps} {o = o} {l = l} lays
       outline = omega (arith, flats-length (ring_of closed ps), lays.kept);
       few = there.few;
     }
+
+-- as drawing it asks for
+pub loads_ready : {w w' : List Float} {closed : Bool} {ps : List Point} {o : Option (List Point)} {b : Budget} (r : Result Workspace Refusal) → Loads w w' closed ps o b r
+    → IfOk r (λ l. Bounds l (length w') × (l.budget.left ≤ most))
+loads_ready (Ok l) lays = (loaded_bounds lays, lays.left)
+loads_ready (Err e) lays = tt
 
 -- and there is where an outline goes
 pub end_in : {w w' : List Float} {closed : Bool} {ps : List Point} {o : Option (List Point)} {b : Budget} {l : Workspace} → Loads w w' closed ps o b (Ok l) → l.ring ≤ length w'

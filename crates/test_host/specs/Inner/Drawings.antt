@@ -1,5 +1,5 @@
 -- What the comparison asks of the producers.
-use Rattle.std.specs.Prelude.{ℕ, ◌+◌, ◌*◌, Bool, false, ◌&&◌, cond, List, leb, Option, Float}
+use Rattle.std.specs.Prelude.{ℕ, ◌+◌, ◌*◌, Bool, true, false, ◌&&◌, cond, List, leb, Option, Result, Ok, Err, Float}
 use Rattle.values.specs.Options.{given}
 use Rattle.densify.specs.declared.append.PointCursor.{PointCursor}
 use Rattle.densify.specs.Densify.{Made}
@@ -9,6 +9,11 @@ use Rattle.test_host.specs.declared.densify_calls.Drawing.{Drawing}
 
 abbrev pub done_by : Drawing → Option PointCursor
 done_by r = given r.ok (record { at = r.at; budget = record { left = r.left; hit = r.hit } })
+
+-- how a producer's answer is told: without room too, where the next point would go and what is left
+abbrev pub drawing_by : Result PointCursor PointCursor → Drawing
+drawing_by (Ok d) = record { ok = true; at = d.at; left = d.budget.left; hit = d.budget.hit }
+drawing_by (Err d) = record { ok = false; at = d.at; left = d.budget.left; hit = d.budget.hit }
 
 -- the points of a producer, from the slice's start on; where they have no room, `at`, `left` and `hit` are free
 abbrev pub Shown : List Float → List Float → Made → Drawing → Type 0

@@ -6,38 +6,29 @@ use Rattle.scene.specs.declared.readers.Path.{Path}
 use Rattle.stream.specs.Payload.{payload}
 use Rattle.densify.specs.Inner.Written.{drawn_by}
 use Rattle.strokes.specs.Inner.Space.{outline_by}
-use Rattle.convert.specs.Laws.Loops.{path-ready, path_applied, path_lacks, all_paths, one-path, path-stops}
+use Rattle.convert.specs.Laws.Loops.{path-ready, path_applied, all_paths, one-path, path-stops}
 use Rattle.convert.proofs.items.draw_each.Goals as goal
-
-pub returns-in_err-l : goal.returns-in_err-l
-returns-in_err-l c =
-    let s = c.args in
-    let before = c.loop-path in
-    let failed = err_from_is_err_and c.from_residual.result c.from_residual.ensures.1 in
-    rw (failed.1, failed.2)
-    (path-stops _ _ _ _ _ before.invariant c.in-Some.path c.in-Some.ensures.role_value c.next_outline-outline.result c.next_outline-outline.ensures.q_value _
-    (path_lacks s.cx (drawn_by (payload s.s.now) c.in-Some.path) (outline_by (payload s.s.now) c.next_outline-outline.result) before.work _ before.state _ _ c.in_err-l.ensures before.invariant.fits))
 
 pub polyline_or_polygon-requires : goal.polyline_or_polygon-requires
 polyline_or_polygon-requires c =
     let s = c.args in
     let l = payload s.s.now in
     let before = c.loop-path in
-    path-ready before.work _ s.cx.flatten (drawn_by l c.in-Some.path) before.state.budget (outline_by l c.next_outline-outline.result) c.in_ok-l.ensures before.invariant.fits
+    path-ready before.work _ s.cx.flatten (drawn_by l c.in-Ok.path) before.state.budget _ (outline_by l c.next_outline-outline.result) c.load_path-l.ensures before.invariant.fits
 
 pub returns-in_err-state : goal.returns-in_err-state
 returns-in_err-state c =
-    let failed = err_from_is_err_and c.from_residual-in_err-state.result c.from_residual-in_err-state.ensures.1 in
+    let failed = err_from_is_err_and c.from_residual.result c.from_residual.ensures.1 in
     rw (failed.1, failed.2)
-    (path-stops _ _ _ _ _ c.loop-path.invariant c.in-Some.path c.in-Some.ensures.role_value c.next_outline-outline.result c.next_outline-outline.ensures.q_value _
-    (path_applied _ _ _ _ _ _ _ c.in_ok-l.ensures c.part_of-props.ensures c.in_err-state.ensures))
+    (path-stops _ _ _ _ _ c.loop-path.invariant c.in-Ok.path c.in-Ok.ensures.role_value c.next_outline-outline.result c.next_outline-outline.ensures.q_value _
+    (path_applied _ _ _ _ _ _ _ c.load_path-l.ensures c.part_of-props.ensures c.in_err-state.ensures))
 
 pub loop-path-preserved : goal.loop-path-preserved
 loop-path-preserved c =
     let after : c.map-o.result ≡ option_map (λ (r : Path). r.next) c.next_outline-outline.result = search rules in
     rw after
-    (one-path _ _ _ _ _ c.loop-path.invariant c.in-Some.path c.in-Some.ensures.role_value c.next_outline-outline.result c.next_outline-outline.ensures.q_value
-    c.in-Some.ensures.path_within.more (path_applied _ _ _ _ _ _ _ c.in_ok-l.ensures c.part_of-props.ensures c.in_ok-state.ensures))
+    (one-path _ _ _ _ _ c.loop-path.invariant c.in-Ok.path c.in-Ok.ensures.role_value c.next_outline-outline.result c.next_outline-outline.ensures.q_value
+    c.in-Ok.ensures.path_within.more (path_applied _ _ _ _ _ _ _ c.load_path-l.ensures c.part_of-props.ensures c.in_ok-state.ensures))
 
 pub returns : goal.returns
 returns c = all_paths _ _ _ _ _ c.loop-path.invariant c.in_default.ensures.role_value

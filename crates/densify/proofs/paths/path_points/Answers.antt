@@ -2,11 +2,12 @@ use borrow.Author.Tests.{not-true, not-false}
 use Rattle.densify.specs.Densify.{path_points_of}
 use Rattle.densify.specs.Laws.Closing.{closed_done}
 use Rattle.densify.proofs.Forms.{path-short}
+use Rattle.densify.proofs.Exits.{none_written}
 use Rattle.densify.proofs.paths.path_points.Goals as goal
 
 pub returns-in_err-d : goal.returns-in_err-d
 unfolding path_points_of
-returns-in_err-d c = rw c.from_residual.ensures (path-short c.args.p.closed c.in_err-d.ensures)
+returns-in_err-d c = rw (none_written c.from_residual.result c.from_residual.ensures.0) (path-short c.args.p.closed c.in_err-d.ensures)
 
 pub returns-then-not-p : goal.returns-then-not-p
 unfolding path_points_of

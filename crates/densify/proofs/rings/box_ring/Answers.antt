@@ -1,11 +1,12 @@
 use Rattle.std.proofs.Common.{arith}
 use Rattle.densify.specs.Laws.Closing.{closed_done, closed_short}
 use Rattle.densify.proofs.Outlines.{granted-most, quarter-most, box_sharp, box-rounded}
+use Rattle.densify.proofs.Exits.{none_written}
 use Rattle.densify.proofs.rings.box_ring.Goals as goal
 
 pub returns-in_err-d : goal.returns-in_err-d
 returns-in_err-d c =
-    rw (c.from_residual.ensures, box_sharp _ _ _ _ _ _ _ _ c.radius_of-r.ensures c.if-r.true) (closed_short (rw c.take-t.ensures at c.in_err-d.ensures))
+    rw (none_written c.from_residual.result c.from_residual.ensures.0, box_sharp _ _ _ _ _ _ _ _ c.radius_of-r.ensures c.if-r.true) (closed_short (rw c.take-t.ensures at c.in_err-d.ensures))
 
 pub returns-then-r : goal.returns-then-r
 returns-then-r c =
@@ -24,7 +25,7 @@ rounded_corners-requires c =
 pub returns-in_err-d-2 : goal.returns-in_err-d-2
 returns-in_err-d-2 c =
     let drawn = rw c.quarter_of.ensures at c.take-t-2.ensures in
-    rw (c.from_residual-in_err-d-2.ensures, box-rounded _ _ _ _ _ _ _ _ c.radius_of-r.ensures c.if-r.false) (closed_short (rw drawn at c.in_err-d-2.ensures))
+    rw (none_written c.from_residual-in_err-d-2.result c.from_residual-in_err-d-2.ensures.0, box-rounded _ _ _ _ _ _ _ _ c.radius_of-r.ensures c.if-r.false) (closed_short (rw drawn at c.in_err-d-2.ensures))
 
 pub returns : goal.returns
 returns c =

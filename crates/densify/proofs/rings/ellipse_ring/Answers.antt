@@ -4,6 +4,7 @@ use Rattle.densify.specs.Densify.{ellipse_ring_of}
 use Rattle.densify.specs.Laws.Counts.{arc_within}
 use Rattle.densify.specs.Laws.Closing.{closed_done, closed_short}
 use Rattle.densify.proofs.Outlines.{granted-most}
+use Rattle.densify.proofs.Exits.{none_written}
 use Rattle.densify.proofs.rings.ellipse_ring.Goals as goal
 
 pub ellipse_points-requires : goal.ellipse_points-requires
@@ -16,7 +17,7 @@ pub returns-in_err-d : goal.returns-in_err-d
 unfolding ellipse_ring_of
 returns-in_err-d c =
     let drawn = rw (c.arc_vertices.ensures, c.max.ensures) at c.take-t.ensures in
-    rw c.from_residual.ensures (closed_short (rw drawn at c.in_err-d.ensures))
+    rw (none_written c.from_residual.result c.from_residual.ensures.0) (closed_short (rw drawn at c.in_err-d.ensures))
 
 pub returns : goal.returns
 unfolding ellipse_ring_of

@@ -21,9 +21,10 @@ present l k d o e = rw (o.all, e, o.behind) (sym (float-drop o.at l 2))
 pub u64_at-requires : goal.u64_at-requires
 u64_at-requires c =
     let o = c.in-Some.ensures.present in
-    let within : c.in-Some.p + 8 ≤ room c.args.s.now = omega (arith, payload-length c.args.s.now, float_within c.requires o.stands, o.behind) in
+    let least : 3 ≤ c.number.result = omega (arith, c.number.ensures) in
+    let within : c.in-Some.p + 8 ≤ room c.args.s.now = omega (arith, payload-length c.args.s.now, float_within least o.stands, o.behind) in
     (omega arith, omega (arith, within, rest-length c.args.s.now 0))
 
 pub returns-in-Some : goal.returns-in-Some
 unfolding rest
-returns-in-Some c = present _ _ _ c.in-Some.ensures.present c.u64_at.ensures
+returns-in-Some c = rw (← c.number.ensures) (present _ _ _ c.in-Some.ensures.present c.u64_at.ensures)

@@ -35,17 +35,17 @@ module _ (s : List ℕ) (q : ℕ) {r : Record} {size : ℕ} {x : Step} (answered
     later skip before t k a b = before t k a b ∙ passed_over (payload s) q t k got (omega (arith, not-greater tag key r (sym e ∙ is_turn ∙ skip) (omega arith))) b
 
 pub returns-then-is_search_over-clause-key_value : goal.returns-then-is_search_over-clause-key_value
-returns-then-is_search_over-clause-key_value c = c.loop-wanted.invariant.1 ∙ search_over _ c.loop-wanted.q _ _ c.tag_at.ensures (rw (c.number-tag.ensures ∙ c.tag.ensures) at (sym c.is_search_over.ensures ∙ c.if-is_search_over.true))
+returns-then-is_search_over-clause-key_value c = c.loop-p.invariant.1 ∙ search_over _ c.loop-p.q _ _ c.tag_at.ensures (sym c.is_search_over.ensures ∙ c.if-is_search_over.true)
 
 pub returns-in_default : goal.returns-in_default
 returns-in_default c =
-    record { key_value = c.loop-wanted.invariant.1 ∙ search_none _ c.loop-wanted.q _ _ (sym c.record_at.ensures) c.in_default.not-Got; record_at = tt; p_le_at = c.loop-wanted.invariant.0; skips_to = c.loop-wanted.invariant.2 }
+    record { key_value = c.loop-p.invariant.1 ∙ search_none _ c.loop-p.q _ _ (sym c.record_at.ensures) c.in_default.not-Got; record_at = tt; p_le_at = c.loop-p.invariant.0; skips_to = c.loop-p.invariant.2 }
 
 pub overflow_add-result : goal.overflow_add-result
-overflow_add-result c = omega (arith, within c.args.s.now c.loop-wanted.q c.record_at.ensures c.in-Got.is)
+overflow_add-result c = omega (arith, within c.args.s.now c.loop-p.q c.record_at.ensures c.in-Got.is)
 
 pub returns-in-Matches-clause-key_value : goal.returns-in-Matches-clause-key_value
-returns-in-Matches-clause-key_value c = onward _ c.loop-wanted.q c.record_at.ensures c.in-Got.is _ _ _ c.search_step.ensures c.in-Matches.is c.loop-wanted.invariant.1
+returns-in-Matches-clause-key_value c = onward _ c.loop-p.q c.record_at.ensures c.in-Got.is _ _ _ c.search_step.ensures c.in-Matches.is c.loop-p.invariant.1
 
 pub returns-in-Matches-clause-record_at : goal.returns-in-Matches-clause-record_at
 returns-in-Matches-clause-record_at c =
@@ -53,17 +53,17 @@ returns-in-Matches-clause-record_at c =
     record { is = c.in-Got.r; size = c.in-Got.k; got = got _ _ c.record_at.ensures c.in-Got.is; ends = refl; tag = asked.0; key = asked.1 }
 
 pub returns-in-Over-clause-key_value : goal.returns-in-Over-clause-key_value
-returns-in-Over-clause-key_value c = onward _ c.loop-wanted.q c.record_at.ensures c.in-Got.is _ _ _ c.search_step.ensures c.in-Over.is c.loop-wanted.invariant.1
+returns-in-Over-clause-key_value c = onward _ c.loop-p.q c.record_at.ensures c.in-Got.is _ _ _ c.search_step.ensures c.in-Over.is c.loop-p.invariant.1
 
 pub overflow_add-q : goal.overflow_add-q
-overflow_add-q c = omega (arith, within c.args.s.now c.loop-wanted.q c.record_at.ensures c.in-Got.is)
+overflow_add-q c = omega (arith, within c.args.s.now c.loop-p.q c.record_at.ensures c.in-Got.is)
 
-pub loop-wanted-smaller : goal.loop-wanted-smaller
-loop-wanted-smaller c = omega (arith, within c.args.s.now c.loop-wanted.q c.record_at.ensures c.in-Got.is)
+pub loop-p-smaller : goal.loop-p-smaller
+loop-p-smaller c = omega (arith, within c.args.s.now c.loop-p.q c.record_at.ensures c.in-Got.is)
 
-pub loop-wanted-preserved : goal.loop-wanted-preserved
-loop-wanted-preserved c = (
+pub loop-p-preserved : goal.loop-p-preserved
+loop-p-preserved c = (
   omega arith,
-  onward _ c.loop-wanted.q c.record_at.ensures c.in-Got.is _ _ _ c.search_step.ensures c.in-Skip.is c.loop-wanted.invariant.1,
-  later _ c.loop-wanted.q c.record_at.ensures c.in-Got.is _ _ _ c.search_step.ensures c.in-Skip.is refl c.loop-wanted.invariant.2,
+  onward _ c.loop-p.q c.record_at.ensures c.in-Got.is _ _ _ c.search_step.ensures c.in-Skip.is c.loop-p.invariant.1,
+  later _ c.loop-p.q c.record_at.ensures c.in-Got.is _ _ _ c.search_step.ensures c.in-Skip.is refl c.loop-p.invariant.2,
 )

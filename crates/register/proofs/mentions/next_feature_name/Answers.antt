@@ -5,4 +5,4 @@ pub returns-in_default : goal.returns-in_default
 returns-in_default c = no_feature _ _ c.requires c.in_default.ensures.p_value
 
 pub returns : goal.returns
-returns c = one-feature _ _ c.requires c.in-Some.f c.in-Some.ensures.p_value c.in-Some.ensures.within c.in-Some.ensures.length_prefixed
+returns c = one-feature _ _ c.requires c.in-Ok.f c.in-Ok.ensures.p_value c.in-Ok.ensures.within c.in-Ok.ensures.length_prefixed

@@ -14,7 +14,7 @@ bounds-positions-controls c = omega (arith, one_fits c.loop-f.invariant c.in-Ok.
 pub returns-in_err-used-clause-warned : goal.returns-in_err-used-clause-warned
 returns-in_err-used-clause-warned c =
     let p = err_from_is_err_and c.from_residual.result c.from_residual.ensures.1 in
-    rw (p.1, p.2) (none_more c.loop-f.invariant c.in-Ok.f c.in-Ok.ensures.p_value c.in-Ok.ensures.within c.is_kept.ensures c.if-is_kept.false _ _ c.in_err-used.ensures refl)
+    rw (p.1, p.2) (none_more c.loop-f.invariant c.in-Ok.f c.in-Ok.ensures.p_value c.in-Ok.ensures.within c.is_kept.ensures c.if-is_kept.false _ _ (rw c.number.ensures at c.in_err-used.ensures) refl)
 
 pub loop-f-preserved : goal.loop-f-preserved
 loop-f-preserved c =
@@ -22,7 +22,7 @@ loop-f-preserved c =
     let e = c.in-Ok.ensures in
     elim c.if-is_kept.branch [
       | then-is_kept w ↦ rw (w.positions-is, w.out-is, w.used-is, w.controls-is) (one_control d c.in-Ok.f e.p_value e.within c.is_kept.ensures c.requires.1.few e.length_prefixed w.if-is_kept.true)
-      | else-is_kept+in_ok-used w ↦ rw (w.positions-is, w.out-is, w.used-is, w.controls-is) (one-warned d c.in-Ok.f e.p_value e.within c.is_kept.ensures w.if-is_kept.false _ _ w.in_ok-used.ensures refl)
+      | else-is_kept+in_ok-used w ↦ rw (w.positions-is, w.out-is, w.used-is, w.controls-is) (one-warned d c.in-Ok.f e.p_value e.within c.is_kept.ensures w.if-is_kept.false _ _ (rw w.number.ensures at w.in_ok-used.ensures) refl)
     ]
 
 pub returns-clause-warned : goal.returns-clause-warned

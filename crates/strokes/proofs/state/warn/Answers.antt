@@ -13,8 +13,8 @@ pub returns-in_err-used : goal.returns-in_err-used
 returns-in_err-used c w q f h = let s = c.args in
     let told : Warning = record { kind = kind_of s.kind; index = s.index } in
     let p = err_from_is_err_and c.from_residual.result c.from_residual.ensures.1 in
-    rw (p.1, p.2) (applied_err WarningRoom refl (pushed_lacks told (output_by w q f s.warnings.now (Ok s.st)) s.st.budget refl h c.in_err-used.ensures refl))
+    rw (p.1, p.2) (applied_err WarningRoom refl (pushed_lacks told (output_by w q f s.warnings.now (Ok s.st)) s.st.budget refl h (rw c.number.ensures at c.in_err-used.ensures) refl))
 
 pub returns : goal.returns
 returns c w p f h = let s = c.args in
-    pushed_fits (record { kind = kind_of s.kind; index = s.index }) (output_by w p f s.warnings.now (Ok s.st)) s.st.budget refl h c.in_ok-used.ensures refl
+    pushed_fits (record { kind = kind_of s.kind; index = s.index }) (output_by w p f s.warnings.now (Ok s.st)) s.st.budget refl h (rw c.number.ensures at c.in_ok-used.ensures) refl

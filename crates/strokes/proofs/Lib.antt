@@ -1,2 +1,0 @@
--- Lemmas that several answers cite.
-pub mod Exits
