@@ -5,3 +5,4 @@ pub mod Positions
 pub mod Loading
 pub mod Polygons
 pub mod Reading
+pub mod Exits

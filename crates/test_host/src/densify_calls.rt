@@ -1,5 +1,6 @@
 // The producers of points as C symbols, for the comparison.
 ghost use Rattle.std.specs.Prelude.{◌≡◌, true, false, map, length, ◌+◌, ◌*◌, ◌≤◌, ◌<◌, leb};
+ghost use Rattle.std.specs.Result.{result_ok};
 ghost use Rattle.stream.specs.Payload.{payload};
 ghost use Rattle.stream.specs.Inner.Payload.{room};
 ghost use Rattle.projection.specs.Projection.{projection_of, project_point};
@@ -8,7 +9,7 @@ ghost use Rattle.densify.specs.Densify.{arc_vertices_of, segment_want, path_poin
 ghost use Rattle.densify.specs.Inner.Written.{drawn_by, on_points};
 ghost use Rattle.values.specs.Inner.Points.{points_in};
 ghost use Rattle.test_host.specs.Inner.Answers.{path_of};
-ghost use Rattle.test_host.specs.Inner.Drawings.{drawing_by, Shown, path_fits, undrawn};
+ghost use Rattle.test_host.specs.Inner.Drawings.{done_by, drawing_by, Shown, path_fits, undrawn};
 
 use crate::answers::Path;
 use budget::Budget;
@@ -37,7 +38,7 @@ pub struct Grant {
 }
 
 impl From<Result<PointCursor, PointCursor>> for Drawing {
-    ghost from_gives = { λ o r. r ≡ drawing_by o };
+    ghost from_gives = { λ o r. (r ≡ drawing_by o) × (done_by r ≡ result_ok o) };
 
     fn from(o: Result<PointCursor, PointCursor>) -> Drawing {
         match o {

@@ -24,13 +24,18 @@ use Rattle.strokes.specs.Space.{Output}
 use Rattle.convert.specs.Inner.Outlines.{outlines_from}
 use Rattle.strokes.specs.Inner.Space.{state_by, output_by, most, Fits, Applied, Bounds, Loads, LoadsPath, outline_by}
 use Rattle.strokes.specs.Laws.Applying.{applied_no_events, applied_then, applied_stop, applied_drawn, Onward, onward_next}
-use Rattle.strokes.specs.Laws.Loading.{loads_ready}
+use Rattle.strokes.specs.Laws.Loading.{loaded_bounds}
+use Rattle.strokes.specs.Laws.Polygons.{shape_lacks}
 
 -- ---- one path
 pub path_fits_lem : {n q : ℕ} {r : Path} → PathWithin n q r → PathFits n r
 path_fits_lem h = record { start = h.start; cubics = h.cubics; points = h.points }
 
 module _ (w w' : List Float) (tol : Float) (path : DrawnPath) (b : Budget) where
+  path_bounds : {l : Workspace} (outline : Option DrawnPath) → LoadsPath w w' tol path outline b (Ok l) → Bounds l (length w') × (l.budget.left ≤ most)
+  path_bounds None h = (loaded_bounds h, h.left)
+  path_bounds (Some o) h = (loaded_bounds h, h.left)
+
   path-kept : (r : Result Workspace Refusal) (outline : Option DrawnPath) → LoadsPath w w' tol path outline b r → length w' ≡ length w
   path-kept r None h = h.kept
   path-kept r (Some o) h = h.kept
@@ -39,8 +44,8 @@ module _ (w w' : List Float) (tol : Float) (path : DrawnPath) (b : Budget) where
   pub path-ready : (r : Result Workspace Refusal) (outline : Option DrawnPath) → LoadsPath w w' tol path outline b r → {positions : List Float} {features warnings : List ℕ} {st : State}
       → Fits (output_by (length w) positions features warnings (Ok st)) st.budget
       → IfOk r (λ l. Bounds l (length w') × (l.budget.left ≤ most)) × Fits (output_by (length w') positions features warnings (Ok st)) st.budget
-  path-ready r None h fits = (loads_ready r h, rw h.kept fits)
-  path-ready r (Some o) h fits = (loads_ready r h, rw h.kept fits)
+  path-ready (Ok l) outline h fits = (path_bounds outline h, rw (path-kept (Ok l) outline h) fits)
+  path-ready (Err e) outline h fits = (tt, rw (path-kept (Err e) outline h) fits)
 
 -- laid out or without room for it, then drawn
 path-drawn : (cx : Ctx) (p : Props) (path : DrawnPath) (outline : Option DrawnPath) (b : Budget) (w w' : List Float) (r : Result Workspace Refusal) {t u : Output} {c : Budget}
@@ -64,6 +69,14 @@ module _ (cx : Ctx) (path : DrawnPath) (outline : Option DrawnPath) (w w' : List
       → Applied (path_of cx p path outline st.budget) (output_by (length w) positions features warnings (Ok st)) u c
   path_applied r h e draw =
       rw (← e, ← path-kept w w' cx.flatten path st.budget r outline h) (path-drawn cx _ path outline st.budget w w' r h draw)
+
+  -- no room
+  pub path_lacks : (p : Props) (e : Refusal) → LoadsPath w w' cx.flatten path outline st.budget (Err e) → Fits (output_by (length w) positions features warnings (Ok st)) st.budget
+      → Applied (path_of cx p path outline st.budget) (output_by (length w) positions features warnings (Ok st))
+      (output_by (length w') positions features warnings (Err e)) (state_by (Err e)).budget
+  path_lacks p e h fits =
+      path_applied (Err e) h refl
+      (λ v ps o d lays. shape_lacks cx p lays refl refl {a = st.budget} (rw (path-kept w w' cx.flatten path st.budget (Err e) outline h) fits))
 
 -- ---- a loop: i are done, which lie before q; what plays the rest from sheet t on plays the whole from t₀ on
 pub record Loop (whole : Trace) (t₀ t : Output) (rest : Trace) (b : Budget) (q i : ℕ) : Type 0 where
