@@ -37,6 +37,7 @@ pub struct Grant {
     pub hit: bool,
 }
 
+// Each field, and which cursor the fields stand for.
 impl From<Result<PointCursor, PointCursor>> for Drawing {
     ghost from_gives = { λ o r. (r ≡ drawing_by o) × (done_by r ≡ result_ok o) };
 

@@ -24,7 +24,7 @@ use Rattle.strokes.specs.Space.{Output}
 use Rattle.convert.specs.Inner.Outlines.{outlines_from}
 use Rattle.strokes.specs.Inner.Space.{state_by, output_by, most, Fits, Applied, Bounds, Loads, LoadsPath, outline_by}
 use Rattle.strokes.specs.Laws.Applying.{applied_no_events, applied_then, applied_stop, applied_drawn, Onward, onward_next}
-use Rattle.strokes.specs.Laws.Loading.{loaded_bounds}
+use Rattle.strokes.specs.Laws.Loading.{loads_ready}
 use Rattle.strokes.specs.Laws.Polygons.{shape_lacks}
 
 -- ---- one path
@@ -32,9 +32,10 @@ pub path_fits_lem : {n q : ℕ} {r : Path} → PathWithin n q r → PathFits n r
 path_fits_lem h = record { start = h.start; cubics = h.cubics; points = h.points }
 
 module _ (w w' : List Float) (tol : Float) (path : DrawnPath) (b : Budget) where
+  -- where its points end, once it is laid out
   path_bounds : {l : Workspace} (outline : Option DrawnPath) → LoadsPath w w' tol path outline b (Ok l) → Bounds l (length w') × (l.budget.left ≤ most)
-  path_bounds None h = (loaded_bounds h, h.left)
-  path_bounds (Some o) h = (loaded_bounds h, h.left)
+  path_bounds None h = loads_ready (Ok _) h
+  path_bounds (Some o) h = loads_ready (Ok _) h
 
   path-kept : (r : Result Workspace Refusal) (outline : Option DrawnPath) → LoadsPath w w' tol path outline b r → length w' ≡ length w
   path-kept r None h = h.kept
@@ -70,7 +71,7 @@ module _ (cx : Ctx) (path : DrawnPath) (outline : Option DrawnPath) (w w' : List
   path_applied r h e draw =
       rw (← e, ← path-kept w w' cx.flatten path st.budget r outline h) (path-drawn cx _ path outline st.budget w w' r h draw)
 
-  -- no room
+  -- without room for its points nothing is written, and the refusal stands
   pub path_lacks : (p : Props) (e : Refusal) → LoadsPath w w' cx.flatten path outline st.budget (Err e) → Fits (output_by (length w) positions features warnings (Ok st)) st.budget
       → Applied (path_of cx p path outline st.budget) (output_by (length w) positions features warnings (Ok st))
       (output_by (length w') positions features warnings (Err e)) (state_by (Err e)).budget

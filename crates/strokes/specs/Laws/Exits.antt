@@ -1,4 +1,4 @@
--- What an answer of `o.ok_or(e)` says of `o`. Assumes nothing.
+-- What an answer of `o.ok_or(e)` says of `o`, for other crates: nothing here asks by it. Assumes nothing.
 use Rattle.std.specs.Prelude.{◌≡◌, refl, Option, Some, None, Ok, Err}
 use Rattle.std.specs.Option.{ok_or}
 
